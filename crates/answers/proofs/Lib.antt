@@ -1,0 +1,2 @@
+-- Laws of answers and lent outputs.
+pub mod AnswerLaws

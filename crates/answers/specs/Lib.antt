@@ -1,0 +1,4 @@
+-- Refusals with their numbers, and the answers of the entry points.
+pub mod Refusal
+pub mod Answer
+pub mod Written

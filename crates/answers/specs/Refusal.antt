@@ -1,0 +1,28 @@
+-- Document 01, "Turned back": the number of each refusal.
+-- Assumes nothing.
+use Prim.Native.Nat.{ℕ}
+use Rattle.answers.specs.declared.Refusal.{Refusal}
+use Rattle.answers.specs.declared.Refusal.the-variants.{CutShort, Overfull, NotEntered, BadMark, NoSuchItem, Miscounted}
+use Rattle.answers.specs.declared.Refusal.the-variants.{Rank, Overreach, Twin, LeftOver, RuleLength, Deep, NotARule}
+use Rattle.answers.specs.declared.Refusal.the-variants.{Unkind, Choices, NoRulesFormula, ShortSheet, Disordered}
+
+-- "No.", with the table's word and condition beside each.
+abbrev pub numberOf : Refusal → ℕ
+numberOf CutShort = 1  -- cut short: bytes end where a count or row is due, or inside a row
+numberOf Overfull = 2  -- overfull: count above its limit
+numberOf NotEntered = 3  -- not entered: mark 0
+numberOf BadMark = 4  -- bad mark: mark above 1
+numberOf NoSuchItem = 5  -- no such item: bit or user number at or above its count
+numberOf Miscounted = 6  -- miscounted: permissions not operations × objects
+numberOf Rank = 7  -- rank: role rows not reflexive, transitive, antisymmetric
+numberOf Overreach = 8  -- overreach: session role its user is not assigned
+numberOf Twin = 9  -- twin: equal words in one collection
+numberOf LeftOver = 10  -- left over: bytes after section 9
+numberOf RuleLength = 11  -- rule length: 0 or above 256 bytes
+numberOf Deep = 12  -- deep: the bracket surplus passes 32
+numberOf NotARule = 13  -- not a rule: outside the grammar
+numberOf Unkind = 14  -- kind: kinds do not fit
+numberOf Choices = 15  -- choices: more than 8 variables
+numberOf NoRulesFormula = 16  -- no rule's formula: no accepted rule has this formula
+numberOf ShortSheet = 17  -- short sheet: lent output shorter than L
+numberOf Disordered = 18  -- order: not an order of the rule's variables

@@ -1,0 +1,58 @@
+// Refusals and answers: what every entry point says, and the number that document 01 gives it.
+// Nothing here knows tables or rules.
+ghost use mathlib.Core.Path.{_≡_};
+ghost use Rattle.answers.specs.Refusal.{numberOf};
+
+// Document 01, "Turned back": the refusals in the order of their numbers.
+pub enum Refusal {
+    CutShort,
+    Overfull,
+    NotEntered,
+    BadMark,
+    NoSuchItem,
+    Miscounted,
+    Rank,
+    Overreach,
+    Twin,
+    LeftOver,
+    RuleLength,
+    Deep,
+    NotARule,
+    Unkind,
+    Choices,
+    NoRulesFormula,
+    ShortSheet,
+    Disordered,
+}
+
+// What a call that writes to a lent output says: a refusal, or the number of bytes written.
+pub enum Written {
+    Refused(Refusal),
+    Wrote(usize),
+}
+
+// Document 01's number of a refusal.
+pub fn number(refusal: Refusal) -> u32
+    ensures { λ r. ⌜ r ≡ numberOf refusal ⌝ }
+{
+    match refusal {
+        Refusal::CutShort => 1,
+        Refusal::Overfull => 2,
+        Refusal::NotEntered => 3,
+        Refusal::BadMark => 4,
+        Refusal::NoSuchItem => 5,
+        Refusal::Miscounted => 6,
+        Refusal::Rank => 7,
+        Refusal::Overreach => 8,
+        Refusal::Twin => 9,
+        Refusal::LeftOver => 10,
+        Refusal::RuleLength => 11,
+        Refusal::Deep => 12,
+        Refusal::NotARule => 13,
+        Refusal::Unkind => 14,
+        Refusal::Choices => 15,
+        Refusal::NoRulesFormula => 16,
+        Refusal::ShortSheet => 17,
+        Refusal::Disordered => 18,
+    }
+}
