@@ -1,0 +1,17 @@
+-- `words::contains` meets its contract: the test is the definition's.
+-- Assumes nothing.
+use mathlib.Core.Path.{refl}
+use borrow.Author.Needs.{needs}
+use Rattle.words.specs.Words.{has}
+use Rattle.words.proofs.contains.Statement.{statement}
+use Rattle.words.proofs.contains.Tie as tie
+
+shr-result : tie.Need-shr-result
+shr-result c = search needs
+
+returns : tie.Need-returns
+unfolding has
+returns c = refl
+
+pub contains-spec : {M : Type 1} → statement M
+contains-spec = tie.close (tie.spec shr-result returns)

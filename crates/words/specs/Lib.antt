@@ -1,0 +1,2 @@
+-- Sets as words.
+pub mod Words
