@@ -1,0 +1,258 @@
+-- What reading leaves: accepted tables keep document 01's limits, and no word has a bit at or above its count.
+-- Assumes nothing.
+use mathlib.Core.Path.{_≡_, refl, sym, ap, _∙_}
+use mathlib.Core.Bool.{Bool, true, false, not}
+use mathlib.Core.List.{List, [], _∷_, map}
+use Prim.Native.Nat.{ℕ, zero, suc, _*_, _^_, _≤_, _<_}
+use native.Mathlib.Omega.{arith}
+use lib.Dec.{eqb, ltb, leb}
+use lib.ListN.{length, getD, length-map}
+use lib.Pow.{pow-pos}
+use borrow.Author.Tests.{ltb-false, leb-false, eqb-true, not-false}
+use Rattle.answers.specs.declared.Refusal.{Refusal}
+use Rattle.answers.specs.declared.Refusal.the-variants.{NoSuchItem}
+use Rattle.tables.specs.Tables.{Tables}
+use Rattle.tables.specs.Flat.{Fits}
+use Rattle.tables.specs.Reading.{Bytes, Taken, Reader, stop, took, next, refuse, front, byte, count, wordFrom, wordWithin}
+use Rattle.tables.specs.Reading.{wordRow, markedRow, sessionRow, Session, rows, section, permissions, Rights, rights, Collections, collections}
+use Rattle.tables.specs.Reading.{sections, nothingLeft, whole, taken, readingOf, tablesOf, assembled}
+use Rattle.tables.specs.Reads.{Below, Bounded}
+
+-- Where something was taken, all that was read on the way was.
+module _ {A B : Type 0} {C : Type 0} where
+  pub next-case : (m : Taken A) (f : A → Bytes → Taken B) {b : B} {t : Bytes} → next m f ≡ took b t
+      → ((a : A) (u : Bytes) → m ≡ took a u → f a u ≡ took b t → C) → C
+  unfolding next
+  next-case (stop e) f q k = let z : _≡_ {A = ℕ} 0 1 = cc in absurd (omega arith)
+  next-case (took a u) f q k = k a u refl q
+
+module _ {B : Type 0} {C : Type 0} where
+  pub refuse-case : (c : Bool) (e : Refusal) (s : Bytes) (f : Bytes → Taken B) {b : B} {t : Bytes} → next (refuse c e s) (λ _. f) ≡ took b t
+      → (c ≡ false → f s ≡ took b t → C) → C
+  unfolding next refuse
+  refuse-case true e s f q k = let z : _≡_ {A = ℕ} 0 1 = cc in absurd (omega arith)
+  refuse-case false e s f q k = k refl q
+
+pub count-few : (limit : ℕ) (s : Bytes) {n : ℕ} {t : Bytes} → count limit s ≡ took n t → n ≤ limit
+unfolding count
+count-few limit s {n} {t} q =
+    next-case (byte s) _ q
+    λ a u e h. refuse-case (ltb limit a) _ u (took a) h
+    λ c k. let d : a ≡ n = cc in rw d at (ltb-false limit a c)
+
+within-below : (n : ℕ) (b s : Bytes) {w : ℕ} {t : Bytes} → wordWithin n b s ≡ took w t → w < 2 ^ n
+unfolding wordWithin
+within-below n b s {w} {t} q =
+    refuse-case (leb (2 ^ n) (wordFrom b)) NoSuchItem s (took (wordFrom b)) q
+    λ c k. let d : wordFrom b ≡ w = cc in rw d at (leb-false (2 ^ n) (wordFrom b) c)
+
+word-below : (n : ℕ) (s : Bytes) {w : ℕ} {t : Bytes} → wordRow n s ≡ took w t → w < 2 ^ n
+unfolding wordRow
+word-below n s q = next-case (front 8 s) _ q λ b u e h. within-below n b u h
+
+marked-below : (n : ℕ) (s : Bytes) {w : ℕ} {t : Bytes} → markedRow n s ≡ took w t → w < 2 ^ n
+unfolding markedRow
+marked-below n s q =
+    next-case (front 9 s) _ q
+    λ b u e h. refuse-case _ _ u _ h
+    λ c k. refuse-case _ _ u _ k
+    λ d l. within-below n _ u l
+
+-- A session of a known user.
+pub record Known (users roles : ℕ) (a : Session) : Type 0 where
+  pub user : a .user < users
+  pub active : a .active < 2 ^ roles
+
+session-known : (users roles : ℕ) (s : Bytes) {a : Session} {t : Bytes} → sessionRow users roles s ≡ took a t → Known users roles a
+unfolding sessionRow
+session-known users roles s {a} {t} q =
+    next-case (front 9 s) _ q
+    λ b u e h. refuse-case (leb users (getD b 0 0)) _ u _ h
+    λ c k. next-case (wordWithin roles _ u) _ k
+    λ w v f l.
+    let d : record { user = getD b 0 0; active = w } ≡ a = cc in
+    rw (← d) (record { user = leb-false users (getD b 0 0) c; active = within-below roles _ u f })
+
+-- n rows, each as its reader leaves it.
+abbrev Every : {A : Type 0} → (A → Type 0) → List A → Type 0
+Every P [] = Unit {0}
+Every P (x ∷ xs) = P x × Every P xs
+
+pub record Rows {A : Type 0} (P : A → Type 0) (n : ℕ) (xs : List A) : Type 0 where
+  pub size : length xs ≡ n
+  pub every : Every P xs
+
+module _ {A : Type 0} (P : A → Type 0) (row : Reader A) (h : (s : Bytes) (a : A) (t : Bytes) → row s ≡ took a t → P a) where
+  rows-are : (n : ℕ) (s : Bytes) {xs : List A} {t : Bytes} → rows row n s ≡ took xs t → Rows P n xs
+  unfolding rows
+  rows-are zero s {xs} {t} q = let e : [] ≡ xs = cc in rw (← e) (record { size = refl; every = tt })
+  rows-are (suc n) s {xs} {t} q =
+      next-case (row s) _ q
+      λ a u e k. next-case (rows row n u) _ k
+      λ ys v f l.
+      let d : a ∷ ys ≡ xs = cc in
+      let r = rows-are n u f in
+      rw (← d) (record { size = ap suc (r .size); every = (h s a u e, r .every) })
+
+-- At most 64 rows, each held against the count where it depends on it.
+pub record Few {A : Type 0} (P : ℕ → A → Type 0) (xs : List A) : Type 0 where
+  pub few : length xs ≤ 64
+  pub every : Every (P (length xs)) xs
+
+section-are : {A : Type 0} (P : ℕ → A → Type 0) (row : ℕ → Reader A) → ((n : ℕ) (s : Bytes) (a : A) (t : Bytes) → row n s ≡ took a t → P n a)
+    → (s : Bytes) {xs : List A} {t : Bytes} → section row s ≡ took xs t → Few P xs
+unfolding section
+section-are P row h s {xs} q =
+    next-case (count 64 s) _ q
+    λ n u e k.
+    let r = rows-are (P n) (row n) (h n) n u k in
+    let z : n ≡ length xs = sym (r .size) in
+    record { few = omega (arith, r .size, count-few 64 s e); every = rw z at (r .every) }
+
+every-below : (n : ℕ) (xs : List ℕ) → Every (λ w. w < 2 ^ n) xs → Below n xs
+unfolding Below
+every-below n [] e i = pow-pos n
+every-below n (x ∷ xs) e zero = e .0
+every-below n (x ∷ xs) e (suc i) = every-below n xs (e .1) i
+
+active-below : (users roles : ℕ) (ss : List Session) → Every (Known users roles) ss → Below roles (map (λ s. s .active) ss)
+unfolding Below
+active-below users roles [] e i = pow-pos roles
+active-below users roles (x ∷ ss) e zero = e .0 .active
+active-below users roles (x ∷ ss) e (suc i) = active-below users roles ss (e .1) i
+
+users-below : (users roles : ℕ) (ss : List Session) → Every (Known users roles) ss
+    → (i : ℕ) → i < length (map (λ s. s .user) ss) → getD (map (λ s. s .user) ss) i 0 < users
+users-below users roles [] e i l = absurd (omega arith)
+users-below users roles (x ∷ ss) e zero l = e .0 .user
+users-below users roles (x ∷ ss) e (suc i) l = users-below users roles ss (e .1) i (omega arith)
+
+-- Sections 4 to 6, and 7 to 9.
+pub record RightsFit (roles : ℕ) (q : Rights) : Type 0 where
+  pub operations : q .operationCount ≤ 8
+  pub objects : q .objectCount ≤ 8
+  pub permissions : length (q .permissionRows) ≡ q .operationCount * q .objectCount
+  pub below : Below roles (q .permissionRows)
+
+rights-fit : (roles : ℕ) (s : Bytes) {q : Rights} {t : Bytes} → rights roles s ≡ took q t → RightsFit roles q
+unfolding rights permissions
+rights-fit roles s {q} {t} e =
+    next-case (count 8 s) _ e
+    λ a u ea k. next-case (count 8 u) _ k
+    λ b v eb l. next-case (permissions (a * b) roles v) _ l
+    λ ps w ep m. next-case (byte v) _ ep
+    λ n x en o. refuse-case (not (eqb n (a * b))) _ x _ o
+    λ c g.
+    let r = rows-are (λ y. y < 2 ^ roles) (markedRow roles) (λ z y y′ h. marked-below roles z h) n x g in
+    let d : record { operationCount = a; objectCount = b; permissionRows = ps } ≡ q = cc in
+    rw (← d)
+    (record {
+      operations = count-few 8 s ea;
+      objects = count-few 8 u eb;
+      permissions = r .size ∙ eqb-true n (a * b) (not-false (eqb n (a * b)) c);
+      below = every-below roles ps (r .every);
+    })
+
+pub record CollectionsFit (roles users permissions : ℕ) (c : Collections) : Type 0 where
+  pub crs : length (c .cr) ≤ 64
+  pub cus : length (c .cu) ≤ 64
+  pub cps : length (c .cp) ≤ 64
+  pub crBelow : Below roles (c .cr)
+  pub cuBelow : Below users (c .cu)
+  pub cpBelow : Below permissions (c .cp)
+
+words-are : (n : ℕ) (s : Bytes) {xs : List ℕ} {t : Bytes} → section (λ _. wordRow n) s ≡ took xs t → Few (λ _ w. w < 2 ^ n) xs
+words-are n s q = section-are (λ _ w. w < 2 ^ n) (λ _. wordRow n) (λ m z y y′ h. word-below n z h) s q
+
+collections-fit : (r u p : ℕ) (s : Bytes) {c : Collections} {t : Bytes} → collections r u p s ≡ took c t → CollectionsFit r u p c
+unfolding collections
+collections-fit r u p s {c} {t} e =
+    next-case (section (λ _. wordRow r) s) _ e
+    λ x v ex k. next-case (section (λ _. wordRow u) v) _ k
+    λ y w ey l. next-case (section (λ _. wordRow p) w) _ l
+    λ z a ez m.
+    let fx = words-are r s ex in
+    let fy = words-are u v ey in
+    let fz = words-are p w ez in
+    let d : record { cr = x; cu = y; cp = z } ≡ c = cc in
+    rw (← d)
+    (record {
+      crs = fx .few;
+      cus = fy .few;
+      cps = fz .few;
+      crBelow = every-below r x (fx .every);
+      cuBelow = every-below u y (fy .every);
+      cpBelow = every-below p z (fz .every);
+    })
+
+pub record Sound (T : Tables) : Type 0 where
+  pub fits : Fits T
+  pub bounded : Bounded T
+
+pub sections-sound : (s : Bytes) {T : Tables} {t : Bytes} → sections s ≡ took T t → Sound T
+unfolding sections
+sections-sound s {T} {t} e =
+    next-case (section (λ n. wordRow n) s) _ e
+    λ rs s₁ e₁ k₁. next-case (section (λ _. markedRow (length rs)) s₁) _ k₁
+    λ us s₂ e₂ k₂. next-case (section (λ _. sessionRow (length us) (length rs)) s₂) _ k₂
+    λ ss s₃ e₃ k₃. next-case (rights (length rs) s₃) _ k₃
+    λ q s₄ e₄ k₄. next-case (collections (length rs) (length us) (length (q .permissionRows)) s₄) _ k₄
+    λ c s₅ e₅ k₅.
+    let r = section-are (λ n w. w < 2 ^ n) (λ n. wordRow n) (λ n z y y′ h. word-below n z h) s e₁ in
+    let u = section-are (λ _ w. w < 2 ^ length rs) (λ _. markedRow (length rs)) (λ n z y y′ h. marked-below (length rs) z h) s₁ e₂ in
+    let o = section-are (λ _. Known (length us) (length rs)) (λ _. sessionRow (length us) (length rs)) (λ n z y y′ h. session-known (length us) (length rs) z h) s₂ e₃ in
+    let g = rights-fit (length rs) s₃ e₄ in
+    let f = collections-fit (length rs) (length us) (length (q .permissionRows)) s₄ e₅ in
+    let lu = length-map ss (λ s. s .user) in
+    let la = length-map ss (λ s. s .active) in
+    let d : assembled rs us ss q c ≡ T = cc in
+    rw (← d)
+    (record {
+      fits = record {
+        roles = r .few;
+        users = u .few;
+        sessionsUsers = omega (arith, o .few);
+        sessionsRoles = omega (arith, o .few);
+        operations = g .operations;
+        objects = g .objects;
+        permissions = g .permissions;
+        crs = f .crs;
+        cus = f .cus;
+        cps = f .cps;
+      };
+      bounded = record {
+        roles = every-below (length rs) rs (r .every);
+        users = every-below (length rs) us (u .every);
+        sessions = active-below (length us) (length rs) ss (o .every);
+        permissions = g .below;
+        crs = f .crBelow;
+        cus = f .cuBelow;
+        cps = f .cpBelow;
+        paired = lu ∙ sym la;
+        numbers = users-below (length us) (length rs) ss (o .every);
+      };
+    })
+
+-- Accepted tables are what the sections gave, with nothing left behind them.
+pub record Read (b : Bytes) (T : Tables) : Type 0 where
+  pub rest : Bytes
+  pub reads : sections b ≡ took T rest
+  pub none : length rest ≤ 0
+
+pub accepted-read : (b : Bytes) {T : Tables} → tablesOf b ≡ taken T → Read b T
+unfolding tablesOf whole nothingLeft
+accepted-read b {T} q = go (whole b) refl q
+  where
+    go : (r : Taken Tables) → whole b ≡ r → readingOf r ≡ taken T → Read b T
+    go (stop e) p k = let z : _≡_ {A = ℕ} 0 1 = cc in absurd (omega arith)
+    go (took U u) p k =
+        next-case (sections b) _ p
+        λ S v e h. refuse-case (ltb 0 (length v)) _ v _ h
+        λ c₀ h₀. refuse-case _ _ v _ h₀
+        λ c₁ h₁. refuse-case _ _ v _ h₁
+        λ c₂ h₂. refuse-case _ _ v _ h₂
+        λ c₃ h₃. let d : S ≡ T = cc in record { rest = v; reads = rw d at e; none = ltb-false 0 (length v) c₀ }
+
+-- Accepted tables keep the limits.
+pub accepted-sound : (b : Bytes) {T : Tables} → tablesOf b ≡ taken T → Sound T
+accepted-sound b q = sections-sound b (accepted-read b q .reads)

@@ -1,0 +1,75 @@
+-- Laws of the flat tables: word i of section k stands at 64 × k + i, and is 0 past the section's list.
+-- Assumes nothing.
+use mathlib.Core.Path.{_≡_, refl, ap, _∙_}
+use mathlib.Core.List.{List, [], _∷_, _++_, map}
+use Prim.Native.Nat.{ℕ, zero, suc, _+_, _*_, _<_}
+use native.Mathlib.Omega.{arith}
+use lib.ListN.{length, getD, drop, length-append, List·getD-append}
+use lib.Seq.{getD-append-add, getD-drop}
+use Rattle.tables.specs.Tables.{Tables}
+use Rattle.tables.specs.Flat.{padded, tabulate, counts, sections, laid, flat}
+
+pub length-padded : (n : ℕ) (xs : List ℕ) → length (padded n xs) ≡ n
+unfolding padded
+length-padded zero xs = refl
+length-padded (suc n) [] = ap suc (length-padded n [])
+length-padded (suc n) (x ∷ xs) = ap suc (length-padded n xs)
+
+pub padded-at : (n : ℕ) (xs : List ℕ) (i : ℕ) → i < n → getD (padded n xs) i 0 ≡ getD xs i 0
+unfolding padded
+padded-at zero xs i l = absurd (omega arith)
+padded-at (suc n) [] zero l = refl
+padded-at (suc n) [] (suc i) l = padded-at n [] i (omega arith)
+padded-at (suc n) (x ∷ xs) zero l = refl
+padded-at (suc n) (x ∷ xs) (suc i) l = padded-at n xs i (omega arith)
+
+pub length-tabulate : (n : ℕ) (f : ℕ → ℕ) → length (tabulate n f) ≡ n
+unfolding tabulate
+length-tabulate zero f = refl
+length-tabulate (suc n) f = ap suc (length-tabulate n (λ i. f (suc i)))
+
+pub tabulate-at : (n : ℕ) (f : ℕ → ℕ) (i : ℕ) → i < n → getD (tabulate n f) i 0 ≡ f i
+unfolding tabulate
+tabulate-at zero f i l = absurd (omega arith)
+tabulate-at (suc n) f zero l = refl
+tabulate-at (suc n) f (suc i) l = tabulate-at n (λ j. f (suc j)) i (omega arith)
+
+pub map-at : (f : ℕ → ℕ) (xs : List ℕ) (i : ℕ) → i < length xs → getD (map f xs) i 0 ≡ f (getD xs i 0)
+map-at f [] i l = absurd (omega arith)
+map-at f (x ∷ xs) zero l = refl
+map-at f (x ∷ xs) (suc i) l = map-at f xs i (omega arith)
+
+pub length-laid : (ss : List (List ℕ)) → length (laid ss) ≡ 64 * length ss
+unfolding laid
+length-laid [] = refl
+length-laid (s ∷ ss) = omega (arith, length-append (padded 64 s) (laid ss), length-padded 64 s, length-laid ss)
+
+-- The one law of sections; past the last one both sides are 0.
+pub laid-at : (ss : List (List ℕ)) (k i : ℕ) → i < 64 → getD (laid ss) (64 * k + i) 0 ≡ getD (getD ss k []) i 0
+unfolding laid
+laid-at [] k i l = refl
+laid-at (s ∷ ss) zero i l =
+    let e : 64 * 0 + i ≡ i = omega arith in
+    ap (λ (n : ℕ). getD (padded 64 s ++ laid ss) n 0) e ∙ List·getD-append (padded 64 s) (laid ss) 0 i (omega (arith, length-padded 64 s)) ∙ padded-at 64 s i l
+laid-at (s ∷ ss) (suc k) i l =
+    let e : 64 * suc k + i ≡ length (padded 64 s) + (64 * k + i) = omega (arith, length-padded 64 s) in
+    ap (λ (n : ℕ). getD (padded 64 s ++ laid ss) n 0) e ∙ getD-append-add (padded 64 s) (laid ss) (64 * k + i) 0 ∙ laid-at ss k i l
+
+pub length-flat : (T : Tables) → length (flat T) ≡ 704
+unfolding flat sections
+length-flat T = length-laid (sections T)
+
+pub flat-at : (T : Tables) (k i : ℕ) → i < 64 → getD (flat T) (64 * k + i) 0 ≡ getD (getD (sections T) k []) i 0
+unfolding flat
+flat-at T = laid-at (sections T)
+
+-- The same of the rest of the words from a section on.
+pub section-at : (T : Tables) (k i : ℕ) → i < 64 → getD (drop (64 * k) (flat T)) i 0 ≡ getD (getD (sections T) k []) i 0
+section-at T k i l = getD-drop (64 * k) (flat T) i 0 ∙ flat-at T k i l
+
+-- The counts stand first.
+pub count-at : (T : Tables) (n : ℕ) → n < 64 → getD (flat T) n 0 ≡ getD (counts T) n 0
+unfolding sections
+count-at T n l =
+    let e : n ≡ 64 * 0 + n = omega arith in
+    ap (λ (i : ℕ). getD (flat T) i 0) e ∙ flat-at T 0 n l

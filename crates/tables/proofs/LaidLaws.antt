@@ -1,0 +1,156 @@
+-- Laws of the flat words: a list written into an empty section, and a section taken out again.
+-- Assumes nothing.
+use mathlib.Core.Path.{_≡_, refl, ap, _∙_}
+use mathlib.Core.List.{List, [], _∷_, _++_, map, append-assoc, append-nil}
+use Prim.Native.Nat.{ℕ, zero, suc, _+_, _*_, _/_, _%_, _≤_, _<_}
+use native.Mathlib.Omega.{arith}
+use lib.ListN.{length, getD, set, length-set, length-append, length-map, replicate}
+use lib.Seq.{set-append-left, set-getD, set-set, getD-set-same}
+use Rattle.words.specs.Words.{itemOf}
+use Rattle.tables.specs.Tables.{Tables}
+use Rattle.tables.specs.Flat.{padded, tabulate, counts, objectRows, operationRows, sections, laid, flat, Fits}
+use Rattle.tables.specs.Reading.{Session, Rights, Collections}
+use Rattle.tables.specs.Reads.{put, withSection, withSessions, withNames, withRights, withCollections, Filled}
+use Rattle.tables.proofs.FlatLaws.{length-padded, length-tabulate}
+use Rattle.tables.proofs.SectionsLaws.{product-few}
+
+-- One word more in a section.
+padded-add : (n : ℕ) (xs : List ℕ) (v : ℕ) → length xs < n → set (padded n xs) (length xs) v ≡ padded n (xs ++ (v ∷ []))
+unfolding padded
+padded-add zero xs v l = absurd (omega arith)
+padded-add (suc n) [] v l = refl
+padded-add (suc n) (x ∷ xs) v l = ap (λ (r : List ℕ). x ∷ r) (padded-add n xs v (omega arith))
+
+set-right : (xs ys : List ℕ) (i v : ℕ) → set (xs ++ ys) (length xs + i) v ≡ xs ++ set ys i v
+set-right [] ys i v = let e : 0 + i ≡ i = omega arith in rw e
+set-right (x ∷ xs) ys i v =
+    let e : suc (length xs) + i ≡ suc (length xs + i) = omega arith in
+    rw e (ap (λ (r : List ℕ). x ∷ r) (set-right xs ys i v))
+
+laid-add : (ss : List (List ℕ)) (k v : ℕ) → k < length ss → length (getD ss k []) < 64
+    → set (laid ss) (64 * k + length (getD ss k [])) v ≡ laid (set ss k (getD ss k [] ++ (v ∷ [])))
+unfolding laid
+laid-add [] k v h l = absurd (omega arith)
+laid-add (s ∷ ss) zero v h l =
+    let e : 64 * 0 + length s ≡ length s = omega arith in
+    rw e (set-append-left (padded 64 s) (laid ss) (length s) v (omega (arith, length-padded 64 s)) ∙ ap (λ (r : List ℕ). r ++ laid ss) (padded-add 64 s v l))
+laid-add (s ∷ ss) (suc k) v h l =
+    let e : 64 * suc k + length (getD ss k []) ≡ length (padded 64 s) + (64 * k + length (getD ss k [])) = omega (arith, length-padded 64 s) in
+    rw e
+    (set-right (padded 64 s) (laid ss) (64 * k + length (getD ss k [])) v
+    ∙ ap (λ (r : List ℕ). padded 64 s ++ r) (laid-add ss k v (omega arith) l))
+
+-- A list more in a section.
+pub laid-put : (xs : List ℕ) (ss : List (List ℕ)) (k : ℕ) → k < length ss → length (getD ss k []) + length xs ≤ 64
+    → put (laid ss) (64 * k + length (getD ss k [])) xs ≡ laid (set ss k (getD ss k [] ++ xs))
+unfolding put
+laid-put [] ss k h l = rw (append-nil, set-getD ss k [])
+laid-put (x ∷ xs) ss k h l =
+    let d = getD ss k [] in
+    let tt′ = set ss k (d ++ (x ∷ [])) in
+    let g : getD tt′ k [] ≡ d ++ (x ∷ []) = getD-set-same ss k (d ++ (x ∷ [])) [] h in
+    let m : length (getD tt′ k []) ≡ suc (length d) = rw g (length-append d (x ∷ []) ∙ omega arith) in
+    let e : suc (64 * k + length d) ≡ 64 * k + length (getD tt′ k []) = omega arith in
+    let ih = laid-put xs tt′ k (rw length-set h) (omega arith) in
+    rw (laid-add ss k x h (omega arith), e) (ih ∙ ap laid (rw (g, set-set, append-assoc)))
+
+-- A count more in section 0; the rows of an empty section; both.
+module _ (cs : List ℕ) (ss : List (List ℕ)) where
+  count-laid : (v : ℕ) → length cs < 64 → set (laid (cs ∷ ss)) (length cs) v ≡ laid ((cs ++ (v ∷ [])) ∷ ss)
+  count-laid v l =
+      let e : 64 * 0 + length cs ≡ length cs = omega arith in
+      rw e at (laid-add (cs ∷ ss) 0 v (omega arith) l)
+
+  rows-laid : (k : ℕ) (xs : List ℕ) → k < length ss → getD ss k [] ≡ [] → length xs ≤ 64
+      → put (laid (cs ∷ ss)) (64 * suc k) xs ≡ laid (cs ∷ set ss k xs)
+  rows-laid k xs h q l =
+      let z : length (getD ss k []) ≡ 0 = ap length q in
+      let e : 64 * suc k + length (getD ss k []) ≡ 64 * suc k = omega arith in
+      let p = laid-put xs (cs ∷ ss) (suc k) (omega arith) (omega arith) in
+      rw (e, q) at p
+
+section-laid : (cs : List ℕ) (ss : List (List ℕ)) (k : ℕ) (xs : List ℕ) → length cs < 64 → k < length ss → getD ss k [] ≡ [] → length xs ≤ 64
+    → withSection (laid (cs ∷ ss)) (length cs) (64 * suc k) xs ≡ laid ((cs ++ (length xs ∷ [])) ∷ set ss k xs)
+unfolding withSection
+section-laid cs ss k xs l h q m = rw (count-laid cs ss (length xs) l) (rows-laid (cs ++ (length xs ∷ [])) ss k xs h q m)
+
+abbrev ten : (a b c d e f g h i j : List ℕ) → List (List ℕ)
+ten a b c d e f g h i j = a ∷ b ∷ c ∷ d ∷ e ∷ f ∷ g ∷ h ∷ i ∷ j ∷ []
+
+module _ (x y : ℕ) (r u : List ℕ) where
+  sessions-laid : (ss : List Session) → length ss ≤ 64
+      → withSessions (laid ((x ∷ y ∷ []) ∷ ten r u [] [] [] [] [] [] [] [])) ss
+      ≡ laid ((x ∷ y ∷ length ss ∷ []) ∷ ten r u (map itemOf (map (λ s. s .user) ss)) (map (λ s. s .active) ss) [] [] [] [] [] [])
+  unfolding withSessions
+  sessions-laid ss l =
+      let o = map itemOf (map (λ s. s .user) ss) in
+      let v = map (λ s. s .active) ss in
+      let lo : length o ≡ length ss = length-map (map (λ s. s .user) ss) itemOf ∙ length-map ss (λ s. s .user) in
+      let lv : length v ≡ length ss = length-map ss (λ s. s .active) in
+      rw (count-laid (x ∷ y ∷ []) (ten r u [] [] [] [] [] [] [] []) (length ss) (omega arith))
+      (rw (rows-laid (x ∷ y ∷ length ss ∷ []) (ten r u [] [] [] [] [] [] [] []) 2 o (omega arith) refl (omega arith))
+      (rows-laid (x ∷ y ∷ length ss ∷ []) (ten r u o [] [] [] [] [] [] []) 3 v (omega arith) refl (omega arith)))
+
+  module _ (z : ℕ) (o v : List ℕ) where
+    rights-laid : (q : Rights) → length (q .permissionRows) ≤ 64
+        → withRights (laid ((x ∷ y ∷ z ∷ []) ∷ ten r u o v [] [] [] [] [] [])) q
+        ≡ laid ((x ∷ y ∷ z ∷ q .operationCount ∷ q .objectCount ∷ length (q .permissionRows) ∷ [])
+        ∷ ten r u o v (q .permissionRows) [] [] []
+        (tabulate (length (q .permissionRows)) (λ p. itemOf (p % q .objectCount)))
+        (tabulate (length (q .permissionRows)) (λ p. itemOf (p / q .objectCount))))
+    unfolding withRights withNames
+    rights-laid q l =
+        let a = q .operationCount in
+        let b = q .objectCount in
+        let ps = q .permissionRows in
+        let i = tabulate (length ps) (λ p. itemOf (p % b)) in
+        let j = tabulate (length ps) (λ p. itemOf (p / b)) in
+        let li : length i ≡ length ps = length-tabulate (length ps) (λ p. itemOf (p % b)) in
+        let lj : length j ≡ length ps = length-tabulate (length ps) (λ p. itemOf (p / b)) in
+        let none = ten r u o v [] [] [] [] [] [] in
+        let six = x ∷ y ∷ z ∷ a ∷ b ∷ length ps ∷ [] in
+        rw (count-laid (x ∷ y ∷ z ∷ []) none a (omega arith))
+        (rw (count-laid (x ∷ y ∷ z ∷ a ∷ []) none b (omega arith))
+        (rw (section-laid (x ∷ y ∷ z ∷ a ∷ b ∷ []) none 4 ps (omega arith) (omega arith) refl l)
+        (rw (rows-laid six (ten r u o v ps [] [] [] [] []) 8 i (omega arith) refl (omega arith))
+        (rows-laid six (ten r u o v ps [] [] [] i []) 9 j (omega arith) refl (omega arith)))))
+
+    module _ (a b n : ℕ) (ps i j : List ℕ) where
+      collections-laid : (c : Collections) → length (c .cr) ≤ 64 → length (c .cu) ≤ 64 → length (c .cp) ≤ 64
+          → withCollections (laid ((x ∷ y ∷ z ∷ a ∷ b ∷ n ∷ []) ∷ ten r u o v ps [] [] [] i j)) c
+          ≡ laid ((x ∷ y ∷ z ∷ a ∷ b ∷ n ∷ length (c .cr) ∷ length (c .cu) ∷ length (c .cp) ∷ []) ∷ ten r u o v ps (c .cr) (c .cu) (c .cp) i j)
+      unfolding withCollections
+      collections-laid c l₁ l₂ l₃ =
+          let six = x ∷ y ∷ z ∷ a ∷ b ∷ n ∷ [] in
+          let k₁ = length (c .cr) in
+          let k₂ = length (c .cu) in
+          rw (section-laid six (ten r u o v ps [] [] [] i j) 5 (c .cr) (omega arith) (omega arith) refl l₁)
+          (rw (section-laid (six ++ (k₁ ∷ [])) (ten r u o v ps (c .cr) [] [] i j) 6 (c .cu) (omega arith) (omega arith) refl l₂)
+          (section-laid (six ++ (k₁ ∷ k₂ ∷ [])) (ten r u o v ps (c .cr) (c .cu) [] i j) 7 (c .cp) (omega arith) (omega arith) refl l₃))
+
+-- All sections stored in empty words are the flat tables.
+empty : replicate 704 0 ≡ laid ([] ∷ ten [] [] [] [] [] [] [] [] [] [])
+unfolding laid padded
+empty = refl
+
+pub filled-flat : {T : Tables} {new : List ℕ} {v : ℕ} → Fits T → Filled (replicate 704 0) new T v → new ≡ flat T
+unfolding flat sections counts objectRows operationRows
+filled-flat {T} fits g =
+    let rs = T .roleRows in
+    let us = T .userRows in
+    let ss = g .sessions in
+    let n : length (T .sessionUsers) ≡ length ss = ap length (g .users) ∙ length-map ss (λ s. s .user) in
+    let few : length ss ≤ 64 = omega (arith, fits .sessionsUsers) in
+    let held : length (T .permissionRows) ≤ 64 = rw (fits .permissions) (product-few (fits .operations) (fits .objects)) in
+    let x = length rs in
+    let y = length us in
+    let o = map itemOf (map (λ s. s .user) ss) in
+    let v = map (λ s. s .active) ss in
+    let q : Rights = record { operationCount = T .operationCount; objectCount = T .objectCount; permissionRows = T .permissionRows } in
+    let c : Collections = record { cr = T .cr; cu = T .cu; cp = T .cp } in
+    g .words ∙
+    rw (empty, section-laid [] (ten [] [] [] [] [] [] [] [] [] []) 0 rs (omega arith) (omega arith) refl (fits .roles))
+    (rw (section-laid (x ∷ []) (ten rs [] [] [] [] [] [] [] [] []) 1 us (omega arith) (omega arith) refl (fits .users))
+    (rw (sessions-laid x y rs us ss few)
+    (rw (rights-laid x y rs us (length ss) o v q held)
+    (collections-laid x y rs us (length ss) o v _ _ _ _ _ _ c (fits .crs) (fits .cus) (fits .cps) ∙ rw (n, g .users, g .active)))))

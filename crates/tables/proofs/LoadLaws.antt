@@ -1,0 +1,80 @@
+-- Laws of the whole reading: what follows the sections, in the order 10, 7, 8, 9.
+-- Assumes nothing.
+use mathlib.Core.Path.{_≡_, refl, sym, _∙_}
+use mathlib.Core.Bool.{Bool, true, false, _&&_}
+use mathlib.Core.List.{List}
+use Prim.Native.Nat.{ℕ, _≤_, _<_}
+use native.Mathlib.Omega.{arith}
+use lib.Dec.{ltb}
+use lib.ListN.{length, drop, length-drop, replicate}
+use borrow.Author.Tests.{lt-ltb, le-ltb}
+use Rattle.answers.specs.declared.Refusal.{Refusal}
+use Rattle.answers.specs.declared.Refusal.the-variants.{LeftOver}
+use Rattle.tables.specs.declared.Outcome.{Outcome}
+use Rattle.tables.specs.declared.Outcome.the-variants.{Refused, Accepted}
+use Rattle.tables.specs.Tables.{Tables}
+use Rattle.tables.specs.Checks.{ranked, inReach, apart}
+use Rattle.tables.specs.Reading.{Bytes, stop, took, next, refuse, sections, nothingLeft, whole, turned, taken, tablesOf, outcomeOf, wordsOf, Reading}
+use Rattle.tables.specs.Flat.{flat}
+use Rattle.tables.specs.Reads.{lateOf, Filled}
+use Rattle.tables.proofs.ReadLaws.{Got}
+use Rattle.tables.proofs.FitsLaws.{Sound, sections-sound}
+use Rattle.tables.proofs.LaidLaws.{filled-flat}
+
+pub load-stop : (b : Bytes) {e : Refusal} → sections b ≡ stop e → tablesOf b ≡ turned e
+unfolding tablesOf whole next
+load-stop b q = rw q
+
+pub left-over : (b : Bytes) {T : Tables} {t : Bytes} → sections b ≡ took T t → 0 < length t → tablesOf b ≡ turned LeftOver
+unfolding tablesOf whole next nothingLeft refuse
+left-over b {T} {t} q l = rw (q, lt-ltb 0 (length t) l)
+
+module _ (b : Bytes) {T : Tables} {n : ℕ} (q : sections b ≡ took T (drop n b)) where
+  pub load-left : n < length b → tablesOf b ≡ turned LeftOver
+  load-left l = left-over b q (rw length-drop (omega arith))
+
+  module _ (l : length b ≤ n) where
+    none : ltb 0 (length (drop n b)) ≡ false
+    none = le-ltb 0 (length (drop n b)) (rw length-drop (omega arith))
+
+    pub late-outcome : lateOf T ≡ outcomeOf (tablesOf b)
+    unfolding tablesOf whole next nothingLeft refuse lateOf
+    late-outcome = go (ranked (T .roleRows)) (inReach T) (apart (T .cr) && (apart (T .cu) && apart (T .cp))) refl refl refl
+      where
+        go : (x y z : Bool) → ranked (T .roleRows) ≡ x → inReach T ≡ y → (apart (T .cr) && (apart (T .cu) && apart (T .cp))) ≡ z
+            → lateOf T ≡ outcomeOf (tablesOf b)
+        go false y z e₁ e₂ e₃ = rw (q, none, e₁)
+        go true false z e₁ e₂ e₃ = rw (q, none, e₁, e₂)
+        go true true false e₁ e₂ e₃ = rw (q, none, e₁, e₂, e₃)
+        go true true true e₁ e₂ e₃ = rw (q, none, e₁, e₂, e₃)
+
+    pub late-taken : lateOf T ≡ Accepted → tablesOf b ≡ taken T
+    unfolding tablesOf whole next nothingLeft refuse lateOf
+    late-taken h = go (ranked (T .roleRows)) (inReach T) (apart (T .cr) && (apart (T .cu) && apart (T .cp))) refl refl refl
+      where
+        go : (x y z : Bool) → ranked (T .roleRows) ≡ x → inReach T ≡ y → (apart (T .cr) && (apart (T .cu) && apart (T .cp))) ≡ z
+            → tablesOf b ≡ taken T
+        go false y z e₁ e₂ e₃ = let w : _≡_ {A = ℕ} 0 1 = cc (rw e₁ at h) in absurd (omega arith)
+        go true false z e₁ e₂ e₃ = let w : _≡_ {A = ℕ} 0 1 = cc (rw (e₁, e₂) at h) in absurd (omega arith)
+        go true true false e₁ e₂ e₃ = let w : _≡_ {A = ℕ} 0 1 = cc (rw (e₁, e₂, e₃) at h) in absurd (omega arith)
+        go true true true e₁ e₂ e₃ = rw (q, none, e₁, e₂, e₃)
+
+-- What reading the sections into empty words gives.
+pub record Whole (b : Bytes) (new : List ℕ) (n : ℕ) : Type 0 where
+  pub tables : Tables
+  pub reads : sections b ≡ took tables (drop n b)
+  pub sound : Sound tables
+  pub flatly : new ≡ flat tables
+
+pub whole-of : {b : Bytes} {old new : List ℕ} {v n : ℕ} → old ≡ replicate 704 0 → Got b (Filled old new) v n (sections b) → Whole b new n
+whole-of {b} e g =
+    let x = sections-sound b (g .reads) in
+    record { tables = g .value; reads = g .reads; sound = x; flatly = filled-flat (x .fits) (rw e at (g .holds)) }
+
+pub never : {A : Type 0} {e : Refusal} → Refused e ≡ Accepted → A
+never q = let z : _≡_ {A = ℕ} 0 1 = cc in absurd (omega arith)
+
+-- Refused tables have no words.
+pub refused-words : (r : Reading) {o : Outcome} {e : Refusal} → o ≡ outcomeOf r → o ≡ Refused e → replicate 704 0 ≡ wordsOf r
+refused-words (turned e) p q = refl
+refused-words (taken T) p q = never (sym q ∙ p)

@@ -1,0 +1,98 @@
+-- Document 01, "Tables": what the page says of reading besides its definitions, and small tables as examples.
+-- Assumes nothing.
+use mathlib.Core.Path.{_≡_, refl, sym, _∙_}
+use mathlib.Core.Bool.{Bool, true, false, _&&_}
+use mathlib.Core.List.{List, [], _∷_, _++_}
+use Prim.Native.Nat.{ℕ, _≤_, _<_, _^_}
+use native.Mathlib.Omega.{arith}
+use lib.Dec.{leb}
+use lib.ListN.{replicate}
+use borrow.Author.Tests.{leb-true, leb-false, le-leb}
+use Rattle.answers.specs.declared.Refusal.the-variants.{NotEntered, CutShort}
+use Rattle.words.specs.Words.{has, anyTo}
+use Rattle.words.proofs.WordsLaws.{has-out, word-self, word-more, any-here, any-witness, both, and-true, and-both, word-lt}
+use Rattle.tables.specs.Tables.{Tables}
+use Rattle.tables.specs.Checks.{allTo, reflexive, transitive, antisymmetric, ranked, inReach, apart}
+use Rattle.tables.specs.Reading.{Bytes, turned, taken, tablesOf, next, refuse, front, byte, count, wordFrom, wordWithin, wordRow, markedRow}
+use Rattle.tables.specs.Reading.{rows, section, permissions, rights, collections, sections, nothingLeft, whole}
+
+-- "bit i stands for item i"; "bit .. at or above its count": a word of 64 bits is 2 ^ n or more exactly where it has a bit at or above n.
+pub outside-bits : (n w : ℕ) → n ≤ 64 → w < 2 ^ 64 → leb (2 ^ n) w ≡ anyTo 64 (λ i. leb n i && has w i)
+outside-bits n w h l = both (leb (2 ^ n) w) (anyTo 64 f) there back
+  where
+    f : ℕ → Bool
+    f i = leb n i && has w i
+
+    none : (b : Bool) → anyTo 64 f ≡ b → 2 ^ n ≤ w → anyTo 64 f ≡ true
+    none true e k = e
+    none false e k = absurd (omega (arith, small))
+      where
+        clear : (i : ℕ) → n ≤ i → i < 64 → has w i ≡ false
+        clear i p q = go (has w i) refl
+          where
+            go : (c : Bool) → has w i ≡ c → has w i ≡ false
+            go false z = z
+            go true z = z ∙ sym (any-here 64 f i q (and-both (le-leb n i p) z)) ∙ e
+
+        small : w < 2 ^ n
+        small = rw (← word-self 64 w l, word-more n 64 (has w) h clear) (word-lt n (has w))
+
+    there : leb (2 ^ n) w ≡ true → anyTo 64 f ≡ true
+    there e = none (anyTo 64 f) refl (leb-true (2 ^ n) w e)
+
+    back : anyTo 64 f ≡ true → leb (2 ^ n) w ≡ true
+    back e =
+        let x = any-witness 64 f e in
+        let p = and-true (leb n (x .0)) (has w (x .0)) (x .2) in
+        go (leb (2 ^ n) w) refl (x .0) (leb-true n (x .0) (p .0)) (p .1)
+      where
+        go : (c : Bool) → leb (2 ^ n) w ≡ c → (i : ℕ) → n ≤ i → has w i ≡ true → leb (2 ^ n) w ≡ true
+        go true q i k g = q
+        go false q i k g = q ∙ sym (has-out w n i (leb-false (2 ^ n) w q) k) ∙ g
+
+-- Tables of roles and users alone.
+abbrev small : List ℕ → List ℕ → Tables
+small rs us =
+    record {
+      roleRows = rs;
+      userRows = us;
+      sessionUsers = [];
+      sessionRows = [];
+      operationCount = 0;
+      objectCount = 0;
+      permissionRows = [];
+      cr = [];
+      cu = [];
+      cp = [];
+    }
+
+-- Their bytes, with one role and one user whose mark and word's lowest byte are given.
+abbrev oneUser : ℕ → ℕ → Bytes
+oneUser mark low = 1 ∷ 1 ∷ replicate 7 0 ++ 1 ∷ mark ∷ low ∷ replicate 7 0 ++ replicate 7 0
+
+-- Open the definitions of the checks, and all of reading.
+checking : Unit {0}
+unfolding ranked reflexive transitive antisymmetric inReach apart allTo has nothingLeft
+checking = tt
+
+everything : Unit {0}
+unfolding checking tablesOf whole sections section rows next refuse front byte count wordFrom wordWithin wordRow markedRow permissions rights collections
+everything = tt
+
+-- "nine zero bytes are accepted"; "An entered empty word is a person without roles; a mark 0 never is."
+pub nine-zeros : tablesOf (replicate 9 0) ≡ taken (small [] [])
+unfolding everything
+nine-zeros = refl
+
+pub person-without-roles : tablesOf (oneUser 1 0) ≡ taken (small (1 ∷ []) (0 ∷ []))
+unfolding everything
+person-without-roles = refl
+
+pub never-entered : tablesOf (oneUser 0 0) ≡ turned NotEntered
+unfolding everything
+never-entered = refl
+
+-- The row is complete before its mark is looked at.
+pub cut-row : tablesOf (1 ∷ 1 ∷ replicate 7 0 ++ 1 ∷ 0 ∷ []) ≡ turned CutShort
+unfolding everything
+cut-row = refl

@@ -1,0 +1,67 @@
+-- Laws of writing lists into the words: one word more, and two lists that grow side by side.
+-- Assumes nothing.
+use mathlib.Core.Path.{_≡_, refl, ap, _∙_}
+use mathlib.Core.List.{List, [], _∷_, _++_}
+use Prim.Native.Nat.{ℕ, zero, suc, _+_, _/_, _%_, _<_}
+use native.Mathlib.Omega.{arith}
+use native.Mathlib.Numerals.{add-one}
+use lib.ListN.{length, set, length-set, length-append}
+use lib.Seq.{set-comm}
+use Rattle.words.specs.Words.{itemOf}
+use Rattle.tables.specs.Reads.{put, withNames}
+use Rattle.tables.specs.Flat.{tabulate}
+use Rattle.tables.proofs.FlatLaws.{length-tabulate}
+
+pub length-put : (ws : List ℕ) (k : ℕ) (xs : List ℕ) → length (put ws k xs) ≡ length ws
+unfolding put
+length-put ws k [] = refl
+length-put ws k (x ∷ xs) = length-put (set ws k x) (suc k) xs ∙ length-set ws k x
+
+-- One word more, behind those written.
+pub put-more : (ws : List ℕ) (k : ℕ) (xs : List ℕ) (x : ℕ) → set (put ws k xs) (k + length xs) x ≡ put ws k (xs ++ (x ∷ []))
+unfolding put
+put-more ws k [] x = let q : k + 0 ≡ k = omega arith in rw q
+put-more ws k (y ∷ xs) x =
+    let q : k + suc (length xs) ≡ suc k + length xs = omega arith in
+    rw q (put-more (set ws k y) (suc k) xs x)
+
+-- A word below the list.
+pub put-below : (ws : List ℕ) (k j : ℕ) (xs : List ℕ) (x : ℕ) → j < k → set (put ws k xs) j x ≡ put (set ws j x) k xs
+unfolding put
+put-below ws k j [] x l = refl
+put-below ws k j (y ∷ xs) x l =
+    put-below (set ws k y) (suc k) j xs x (omega arith) ∙ ap (λ (v : List ℕ). put v (suc k) xs) (set-comm ws k j y x (omega arith))
+
+-- Two lists that grow side by side, the first below the second.
+pub put-both : (ws : List ℕ) (a b i : ℕ) (xs ys : List ℕ) (x y : ℕ) → length xs ≡ i → length ys ≡ i → a + i < b
+    → set (set (put (put ws a xs) b ys) (a + i) x) (b + i) y ≡ put (put ws a (xs ++ (x ∷ []))) b (ys ++ (y ∷ []))
+put-both ws a b i xs ys x y p q l =
+    let e : set (put (put ws a xs) b ys) (a + i) x ≡ put (put ws a (xs ++ (x ∷ []))) b ys =
+    put-below (put ws a xs) b (a + i) ys x l ∙ ap (λ (v : List ℕ). put v b ys) (rw (← p) (put-more ws a xs x)) in
+    rw e (rw (← q) (put-more (put ws a (xs ++ (x ∷ []))) b ys y))
+
+pub length-more : (xs : List ℕ) (x i : ℕ) → length xs ≡ i → length (xs ++ (x ∷ [])) ≡ i + 1
+length-more xs x i q = omega (arith, length-append xs (x ∷ []))
+
+pub tabulate-more : (n : ℕ) (f : ℕ → ℕ) → tabulate (suc n) f ≡ tabulate n f ++ (f n ∷ [])
+unfolding tabulate
+tabulate-more zero f = refl
+tabulate-more (suc n) f = ap (λ (r : List ℕ). f 0 ∷ r) (tabulate-more n (λ i. f (suc i)))
+
+-- The objects and operations of the permissions below p.
+pub names-none : (ws : List ℕ) (o : ℕ) → ws ≡ withNames ws 0 o
+unfolding withNames tabulate put
+names-none ws o = refl
+
+pub names-long : (ws : List ℕ) (p o : ℕ) {new : List ℕ} → new ≡ withNames ws p o → length new ≡ length ws
+unfolding withNames
+names-long ws p o e = ap length e ∙ length-put _ 640 _ ∙ length-put ws 576 _
+
+pub names-more : (ws : List ℕ) (p o : ℕ) {new : List ℕ} {x y : ℕ} → p < 64 → x ≡ itemOf (p % o) → y ≡ itemOf (p / o)
+    → new ≡ withNames ws p o → set (set new (576 + p) x) (640 + p) y ≡ withNames ws (p + 1) o
+unfolding withNames
+names-more ws p o {new} {x} {y} l ex ey e =
+    let xs = tabulate p (λ i. itemOf (i % o)) in
+    let ys = tabulate p (λ i. itemOf (i / o)) in
+    let f = put-both ws 576 640 p xs ys x y (length-tabulate p _) (length-tabulate p _) (omega arith) in
+    rw (e, f, add-one, tabulate-more p (λ i. itemOf (i % o)), tabulate-more p (λ i. itemOf (i / o)), ← ex, ← ey)

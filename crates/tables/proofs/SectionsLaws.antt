@@ -1,0 +1,106 @@
+-- Laws of the sections one after another: where one stops all stop, and what the words hold once all are read.
+-- Assumes nothing.
+use mathlib.Core.Path.{_≡_, refl, _∙_}
+use mathlib.Core.List.{List}
+use Prim.Native.Nat.{ℕ, _*_, _≤_}
+use native.Mathlib.Nat.{mul-le-mul}
+use lib.ListN.{drop, set}
+use Rattle.answers.specs.declared.Refusal.{Refusal}
+use Rattle.tables.specs.declared.Step.{Step}
+use Rattle.tables.specs.declared.Step.the-variants.{Took}
+use Rattle.tables.specs.Reading.{Bytes, stop, took, next, count, section, permissions, Rights, rights, Collections, collections}
+use Rattle.tables.specs.Reading.{wordRow, markedRow, sessionRow, sections, assembled}
+use Rattle.tables.specs.Reads.{Reads, stops, takes, IsCount, SectionAt, PermissionsAt, SessionSection, RightsAt, CollectionsAt, Filled}
+use Rattle.tables.specs.Reads.{withNames, withRights, withCollections}
+use Rattle.tables.proofs.ReadLaws.{Got}
+
+pub product-few : {a b : ℕ} → a ≤ 8 → b ≤ 8 → a * b ≤ 64
+product-few h k = mul-le-mul h k
+
+module _ (s : Bytes) (at roles : ℕ) where
+  pub rights-stop : {e : Refusal} → count 8 (drop at s) ≡ stop e → rights roles (drop at s) ≡ stop e
+  unfolding rights next
+  rights-stop q = rw q
+
+  module _ {a i : ℕ} (f : Got s (IsCount 8) a i (count 8 (drop at s))) where
+    pub rights-stop-2 : {e : Refusal} → count 8 (drop i s) ≡ stop e → rights roles (drop at s) ≡ stop e
+    unfolding rights next
+    rights-stop-2 q = rw (f .reads, q)
+
+    module _ {b j : ℕ} (g : Got s (IsCount 8) b j (count 8 (drop i s))) where
+      pub rights-stop-3 : {e : Refusal} → permissions (a * b) roles (drop j s) ≡ stop e → rights roles (drop at s) ≡ stop e
+      unfolding rights next
+      rights-stop-3 q = rw (f .reads, g .reads, f .holds .is, g .holds .is, q)
+
+      pub rights-all : {old w new : List ℕ} {n k : ℕ}
+          → Got s (PermissionsAt (set (set old 3 a) 4 b) w (a * b)) n k (permissions (a * b) roles (drop j s))
+          → new ≡ withNames w n b → Reads s (RightsAt old new) (Took n k) (rights roles (drop at s))
+      unfolding rights next withRights
+      rights-all {old} {w} {new} {n} {k} h e =
+          let x = h .holds .section in
+          let q : Rights = record { operationCount = a; objectCount = b; permissionRows = h .value } in
+          let p : rights roles (drop at s) ≡ took q (drop k s) = rw (f .reads, g .reads, f .holds .is, g .holds .is, h .reads) in
+          let y : RightsAt old new q n = record { count = x .count; few = x .few; words = e ∙ rw (x .words, x .count) } in
+          takes p (h .within) y
+
+module _ (s : Bytes) (at r u p : ℕ) where
+  pub collections-stop : {e : Refusal} → section (λ _. wordRow r) (drop at s) ≡ stop e → collections r u p (drop at s) ≡ stop e
+  unfolding collections next
+  collections-stop q = rw q
+
+  module _ {old w₁ : List ℕ} {v i : ℕ} (f : Got s (SectionAt old w₁ 6 384) v i (section (λ _. wordRow r) (drop at s))) where
+    pub collections-stop-2 : {e : Refusal} → section (λ _. wordRow u) (drop i s) ≡ stop e → collections r u p (drop at s) ≡ stop e
+    unfolding collections next
+    collections-stop-2 q = rw (f .reads, q)
+
+    module _ {w₂ : List ℕ} {v′ j : ℕ} (g : Got s (SectionAt w₁ w₂ 7 448) v′ j (section (λ _. wordRow u) (drop i s))) where
+      pub collections-all : {new : List ℕ} {c : Step} → Reads s (SectionAt w₂ new 8 512) c (section (λ _. wordRow p) (drop j s))
+          → Reads s (CollectionsAt old new) c (collections r u p (drop at s))
+      unfolding collections next withCollections
+      collections-all (stops {e = e} q) =
+          let k : collections r u p (drop at s) ≡ stop e = rw (f .reads, g .reads, q) in
+          stops k
+      collections-all {new} (takes {n = n} {a = a} q w h) =
+          let x : Collections = record { cr = f .value; cu = g .value; cp = a } in
+          let k : collections r u p (drop at s) ≡ took x (drop n s) = rw (f .reads, g .reads, q) in
+          let y : new ≡ withCollections old x = h .words ∙ rw (g .holds .words, f .holds .words) in
+          takes k w (record { words = y })
+
+module _ (s : Bytes) where
+  pub sections-stop : {e : Refusal} → section (λ n. wordRow n) s ≡ stop e → sections s ≡ stop e
+  unfolding sections next
+  sections-stop q = rw q
+
+  module _ {old w₁ : List ℕ} {r i : ℕ} (f : Got s (SectionAt old w₁ 0 64) r i (section (λ n. wordRow n) s)) where
+    pub sections-stop-2 : {e : Refusal} → section (λ _. markedRow r) (drop i s) ≡ stop e → sections s ≡ stop e
+    unfolding sections next
+    sections-stop-2 q = rw (f .reads, ← f .holds .count, q)
+
+    module _ {w₂ : List ℕ} {u j : ℕ} (g : Got s (SectionAt w₁ w₂ 1 128) u j (section (λ _. markedRow r) (drop i s))) where
+      pub sections-stop-3 : {e : Refusal} → section (λ _. sessionRow u r) (drop j s) ≡ stop e → sections s ≡ stop e
+      unfolding sections next
+      sections-stop-3 q = rw (f .reads, ← f .holds .count, g .reads, ← g .holds .count, q)
+
+      module _ {w₃ : List ℕ} {v k : ℕ} (h : Got s (SessionSection w₂ w₃) v k (section (λ _. sessionRow u r) (drop j s))) where
+        pub sections-stop-4 : {e : Refusal} → rights r (drop k s) ≡ stop e → sections s ≡ stop e
+        unfolding sections next
+        sections-stop-4 q = rw (f .reads, ← f .holds .count, g .reads, ← g .holds .count, h .reads, q)
+
+        module _ {w₄ : List ℕ} {p l : ℕ} (t : Got s (RightsAt w₃ w₄) p l (rights r (drop k s))) where
+          pub sections-all : {new : List ℕ} {c : Step} → Reads s (CollectionsAt w₄ new) c (collections r u p (drop l s))
+              → Reads s (Filled old new) c (sections s)
+          unfolding sections next
+          sections-all (stops {e = e} q) =
+              let x : sections s ≡ stop e =
+              rw (f .reads, ← f .holds .count, g .reads, ← g .holds .count, h .reads, t .reads, ← t .holds .count, q) in
+              stops x
+          sections-all {new} (takes {n = n} {a = a} q w y) =
+              let x : sections s ≡ took (assembled (f .value) (g .value) (h .value) (t .value) a) (drop n s) =
+              rw (f .reads, ← f .holds .count, g .reads, ← g .holds .count, h .reads, t .reads, ← t .holds .count, q) in
+              takes x w
+              (record {
+                sessions = h .value;
+                users = refl;
+                active = refl;
+                words = y .words ∙ rw (t .holds .words, h .holds .words, g .holds .words, f .holds .words);
+              })

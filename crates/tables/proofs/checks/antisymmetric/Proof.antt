@@ -1,0 +1,67 @@
+-- `tables::checks::antisymmetric`: each role passed goes one way.
+-- Assumes nothing.
+use borrow.Author.Needs.{needs}
+use Prim.Native.Nat.{_-_}
+use mathlib.Core.Path.{_∙_}
+use lib.ListN.{length}
+use borrow.Author.Tests.{not-true, not-false}
+use Rattle.tables.specs.Checks.{antisymmetric}
+use Rattle.tables.specs.Reads.{oneWayAt}
+use Rattle.tables.proofs.CheckLaws.{antisymmetric-rows}
+use Rattle.tables.proofs.AllLaws.{Passed, passed-none, passed-more, passed-not, passed-all}
+use Rattle.tables.proofs.checks.antisymmetric.Statement.{statement}
+use Rattle.tables.proofs.checks.antisymmetric.Tie as tie
+
+abbrev Inv-loop : tie.InvT-loop
+Inv-loop rows r₀ r = Passed (length rows) (oneWayAt rows) r
+
+abbrev μ-loop : tie.MeasureT-loop
+μ-loop rows r₀ r = length rows - r
+
+loop-holds : tie.Need-loop-holds Inv-loop μ-loop
+loop-holds c = passed-none (length (c .before .args .rows .now)) (oneWayAt (c .before .args .rows .now))
+
+one-way-requires : tie.Need-one-way-requires Inv-loop μ-loop
+one-way-requires c κs =
+    let pre = c .before .before .before .pre in
+    (pre, c .loop-test .taken)
+
+returns : tie.Need-returns Inv-loop μ-loop
+unfolding antisymmetric
+returns c =
+    let args = c .before .before .before .before .before .args in
+    let loop = c .before .before .before .loop in
+    let loop-test = c .before .before .loop-test in
+    passed-not (loop .inv) (loop-test .taken) (c .before .one-way .ensures) (not-true _ (c .if1 .taken)) ∙ antisymmetric-rows (args .rows .now)
+
+add-r : tie.Need-add-r Inv-loop μ-loop
+add-r c = search needs
+
+loop-less : tie.Need-loop-less Inv-loop μ-loop
+loop-less c = search needs
+
+loop-again : tie.Need-loop-again Inv-loop μ-loop
+loop-again c =
+    let loop = c .before .before .before .loop in
+    let loop-test = c .before .before .loop-test in
+    passed-more (loop .inv) (loop-test .taken) (c .before .one-way .ensures) (not-false _ (c .if1 .left))
+
+returns-2 : tie.Need-returns-2 Inv-loop μ-loop
+unfolding antisymmetric
+returns-2 c =
+    let args = c .before .before .before .args in
+    passed-all (c .before .loop .inv) (c .loop-test .left) ∙ antisymmetric-rows (args .rows .now)
+
+pub antisymmetric-spec : {M : Type 1} → statement M
+antisymmetric-spec =
+    tie.close
+    (tie.spec
+    Inv-loop
+    μ-loop
+    loop-holds
+    one-way-requires
+    returns
+    add-r
+    loop-less
+    loop-again
+    returns-2)

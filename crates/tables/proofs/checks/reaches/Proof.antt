@@ -1,0 +1,48 @@
+-- `tables::checks::reaches`: overreach, by the parts of the flat tables.
+-- Assumes nothing.
+use mathlib.Core.Path.{sym, _∙_}
+use native.Mathlib.Omega.{arith}
+use Rattle.tables.proofs.PartLaws.{part-length, reach-part}
+use borrow.Author.Needs.{needs}
+use Rattle.tables.proofs.checks.reaches.Statement.{statement}
+use Rattle.tables.proofs.checks.reaches.Tie as tie
+
+shared-slice-read-users : tie.Need-shared-slice-read-users
+shared-slice-read-users c = search needs
+
+shared-slice-read-sessions : tie.Need-shared-slice-read-sessions
+shared-slice-read-sessions c = search needs
+
+part-requires : tie.Need-part-requires
+part-requires c κs = search needs
+
+part-requires-2 : tie.Need-part-requires-2
+part-requires-2 c κs = search needs
+
+part-requires-3 : tie.Need-part-requires-3
+part-requires-3 c κs = search needs
+
+in-reach-requires : tie.Need-in-reach-requires
+in-reach-requires c κs =
+    let args = c .before .before .before .before .before .before .args in
+    let pre = c .before .before .before .before .before .before .pre in
+    part-length (args .words .now) 192 _ (pre .long) (omega arith) (pre .sessions) (c .before .part2 .ensures)
+    ∙ sym (part-length (args .words .now) 256 _ (pre .long) (omega arith) (pre .sessions) (c .part3 .ensures))
+
+returns : tie.Need-returns
+returns c =
+    let part = c .before .before .before .part in
+    let part2 = c .before .before .part2 in
+    λ T f b e. c .in-reach .ensures ∙ reach-part T f e b (part .ensures) (part2 .ensures) (c .before .part3 .ensures)
+
+pub reaches-spec : {M : Type 1} → statement M
+reaches-spec =
+    tie.close
+    (tie.spec
+    shared-slice-read-users
+    shared-slice-read-sessions
+    part-requires
+    part-requires-2
+    part-requires-3
+    in-reach-requires
+    returns)

@@ -1,0 +1,57 @@
+-- `tables::rows::marked_row`: nine bytes, then the mark, then the word.
+-- Assumes nothing.
+use native.Mathlib.Omega.{arith}
+use Rattle.tables.specs.Reads.{stops}
+use Rattle.tables.proofs.ReadLaws.{marked-cut, marked-none, marked-bad, marked-row}
+use borrow.Author.Needs.{needs}
+use Rattle.tables.proofs.rows.marked_row.Statement.{statement}
+use Rattle.tables.proofs.rows.marked_row.Tie as tie
+
+sub-if1 : tie.Need-sub-if1
+sub-if1 c = search needs
+
+returns : tie.Need-returns
+returns c =
+    let args = c .before .before .args in
+    stops (marked-cut (args .bytes .now) (args .at) (args .n) (c .if1 .taken))
+
+shared-slice-read-mark : tie.Need-shared-slice-read-mark
+shared-slice-read-mark c = search needs
+
+returns-2 : tie.Need-returns-2
+returns-2 c =
+    let args = c .before .before .before .before .args in
+    let pre = c .before .before .before .before .pre in
+    stops (marked-none (args .bytes .now) (args .at) (args .n) (omega (arith, pre)) (c .if2 .taken))
+
+returns-3 : tie.Need-returns-3
+returns-3 c =
+    let args = c .before .before .before .before .before .args in
+    let pre = c .before .before .before .before .before .pre in
+    stops (marked-bad (args .bytes .now) (args .at) (args .n) (omega (arith, pre)) (c .if3 .taken))
+
+add-word-within : tie.Need-add-word-within
+add-word-within c = search needs
+
+word-within-requires : tie.Need-word-within-requires
+word-within-requires c κs = search needs
+
+returns-4 : tie.Need-returns-4
+returns-4 c =
+    let args = c .before .before .before .before .before .before .args in
+    let pre = c .before .before .before .before .before .before .pre in
+    let if2 = c .before .before .if2 in
+    rw (marked-row (args .bytes .now) (args .at) (args .n) (omega (arith, pre)) (if2 .left) (c .before .if3 .left)) (c .word-within .ensures)
+
+pub marked-row-spec : {M : Type 1} → statement M
+marked-row-spec =
+    tie.close
+    (tie.spec
+    sub-if1
+    returns
+    shared-slice-read-mark
+    returns-2
+    returns-3
+    add-word-within
+    word-within-requires
+    returns-4)

@@ -1,0 +1,67 @@
+-- `tables::sections::collection`: a section of words.
+-- Assumes nothing.
+use mathlib.Core.Path.{_∙_}
+use lib.ListN.{length-set}
+use Rattle.tables.specs.Reading.{wordRow}
+use Rattle.tables.proofs.ReadLaws.{as-took, as-stop, stops-as, reads-as}
+use Rattle.tables.proofs.SectionLaws.{section-stop, section-on, counted}
+use borrow.Author.Needs.{needs}
+use Rattle.tables.proofs.sections.collection.Statement.{statement}
+use Rattle.tables.proofs.sections.collection.Tie as tie
+
+count-requires : tie.Need-count-requires
+count-requires c κs = search needs
+
+enum-known-read : tie.Need-enum-known-read
+enum-known-read c = search needs
+
+enum-told : tie.Need-enum-told
+enum-told c = search needs
+
+returns : tie.Need-returns
+returns c =
+    let args = c .before .before .before .before .before .args in
+    let count = c .before .before .count in
+    stops-as (c .enum-told .given .1) (section-stop (args .bytes .now) (args .at) (λ n. wordRow (args .items)) (as-stop (count .ensures) (c .enum-told .given .1)))
+
+mul-words : tie.Need-mul-words
+mul-words c = search needs
+
+slice-write-words : tie.Need-slice-write-words
+slice-write-words c = search needs
+
+word-rows-requires : tie.Need-word-rows-requires
+word-rows-requires c κs =
+    let pre = c .before .before .before .before .before .before .before .pre in
+    let count = c .before .before .before .before .count in
+    let read = c .before .before .read in
+    let g = as-took (count .ensures) (read .given .1) in
+    (g .within, ((g .holds .few, pre .1 .0 .0), (pre .1 .1 .1, simp length-set (pre .1 .0 .1))))
+
+same-length : tie.Need-same-length
+same-length c =
+    let word-rows = c .before .before .word-rows in
+    word-rows .kept .1 .1 .1 .1 .0 ∙ simp length-set
+
+returns-2 : tie.Need-returns-2
+returns-2 c =
+    let args = c .before .before .before .before .before .before .before .before .before .before .args in
+    let count = c .before .before .before .before .before .before .before .count in
+    let read = c .before .before .before .before .before .read in
+    let word-rows = c .before .before .word-rows in
+    let g = as-took (count .ensures) (read .given .1) in
+    section-on (args .bytes .now) (args .at) (λ n. wordRow (args .items)) g (reads-as (word-rows .ensures) (λ xs v x. counted (args .words .now) (args .place) (args .to) _ (g .holds .few) x))
+
+pub collection-spec : {M : Type 1} → statement M
+collection-spec =
+    tie.close
+    (tie.spec
+    count-requires
+    enum-known-read
+    enum-told
+    returns
+    mul-words
+    slice-write-words
+    word-rows-requires
+    same-length
+    returns-2)

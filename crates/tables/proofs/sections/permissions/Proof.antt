@@ -1,0 +1,76 @@
+-- `tables::sections::permissions`: section 6, the permissions.
+-- Assumes nothing.
+use mathlib.Core.Path.{_∙_}
+use native.Mathlib.Omega.{arith}
+use lib.ListN.{length-set}
+use Rattle.tables.proofs.ReadLaws.{as-took, as-stop, stops-as, reads-as}
+use Rattle.tables.specs.Reads.{stops}
+use Rattle.tables.proofs.SectionLaws.{permissions-stop, permissions-wrong, permissions-on, counted}
+use borrow.Author.Needs.{needs}
+use Rattle.tables.proofs.sections.permissions.Statement.{statement}
+use Rattle.tables.proofs.sections.permissions.Tie as tie
+
+byte-requires : tie.Need-byte-requires
+byte-requires c κs = search needs
+
+enum-known-read : tie.Need-enum-known-read
+enum-known-read c = search needs
+
+enum-told : tie.Need-enum-told
+enum-told c = search needs
+
+returns : tie.Need-returns
+returns c =
+    let args = c .before .before .before .before .before .args in
+    let byte = c .before .before .byte in
+    stops-as (c .enum-told .given .1)
+    (permissions-stop (args .bytes .now) (args .at) (args .product) (args .roles) (as-stop (byte .ensures) (c .enum-told .given .1)))
+
+returns-2 : tie.Need-returns-2
+returns-2 c =
+    let args = c .before .before .before .before .before .before .before .args in
+    let byte = c .before .before .before .before .byte in
+    let read = c .before .before .read in
+    stops (permissions-wrong (args .bytes .now) (args .at) (args .product) (args .roles) (as-took (byte .ensures) (read .given .1)) (c .if1 .taken))
+
+slice-write-words : tie.Need-slice-write-words
+slice-write-words c = search needs
+
+marked-rows-requires : tie.Need-marked-rows-requires
+marked-rows-requires c κs =
+    let pre = c .before .before .before .before .before .before .before .before .pre in
+    let byte = c .before .before .before .before .before .byte in
+    let read = c .before .before .before .read in
+    let g = as-took (byte .ensures) (read .given .1) in
+    (g .within, ((omega (arith, c .before .if1 .left, pre), pre .1 .1), (omega arith, simp length-set (pre .1 .2))))
+
+same-length : tie.Need-same-length
+same-length c =
+    let marked-rows = c .before .before .marked-rows in
+    marked-rows .kept .1 .1 .1 .1 .0 ∙ simp length-set
+
+returns-3 : tie.Need-returns-3
+returns-3 c =
+    let args = c .before .before .before .before .before .before .before .before .before .before .before .args in
+    let pre = c .before .before .before .before .before .before .before .before .before .before .before .pre in
+    let byte = c .before .before .before .before .before .before .before .before .byte in
+    let read = c .before .before .before .before .before .before .read in
+    let if1 = c .before .before .before .before .if1 in
+    let marked-rows = c .before .before .marked-rows in
+    let g = as-took (byte .ensures) (read .given .1) in
+    permissions-on (args .bytes .now) (args .at) (args .product) (args .roles) g (if1 .left)
+    (reads-as (marked-rows .ensures) (λ xs v x. record { section = counted (args .words .now) 5 320 _ (omega (arith, if1 .left, pre)) x; all = x .all ∙ if1 .left }))
+
+pub permissions-spec : {M : Type 1} → statement M
+permissions-spec =
+    tie.close
+    (tie.spec
+    byte-requires
+    enum-known-read
+    enum-told
+    returns
+    returns-2
+    slice-write-words
+    marked-rows-requires
+    same-length
+    returns-3)

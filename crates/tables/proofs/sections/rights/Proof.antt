@@ -1,0 +1,155 @@
+-- `tables::sections::rights`: sections 4 to 6, and the names of the permissions.
+-- Assumes nothing.
+use mathlib.Core.Path.{_∙_}
+use native.Mathlib.Nat.{mul-le-mul-right}
+use native.Mathlib.Omega.{arith}
+use lib.ListN.{length-set}
+use Rattle.tables.proofs.ReadLaws.{as-took, as-stop, stops-as}
+use Rattle.tables.proofs.SectionsLaws.{product-few, rights-stop, rights-stop-2, rights-stop-3, rights-all}
+use borrow.Author.Needs.{needs}
+use Rattle.tables.proofs.sections.rights.Statement.{statement}
+use Rattle.tables.proofs.sections.rights.Tie as tie
+
+count-requires : tie.Need-count-requires
+count-requires c κs = search needs
+
+enum-known-first : tie.Need-enum-known-first
+enum-known-first c = search needs
+
+enum-told : tie.Need-enum-told
+enum-told c = search needs
+
+returns : tie.Need-returns
+returns c =
+    let args = c .before .before .before .before .before .args in
+    let count = c .before .before .count in
+    stops-as (c .enum-told .given .1) (rights-stop (args .bytes .now) (args .at) (args .roles) (as-stop (count .ensures) (c .enum-told .given .1)))
+
+slice-write-words : tie.Need-slice-write-words
+slice-write-words c = search needs
+
+count-requires-2 : tie.Need-count-requires-2
+count-requires-2 c κs =
+    let count = c .before .before .before .count in
+    as-took (count .ensures) (c .before .first .given .1) .within
+
+enum-known-second : tie.Need-enum-known-second
+enum-known-second c = search needs
+
+enum-told-2 : tie.Need-enum-told-2
+enum-told-2 c = search needs
+
+same-length : tie.Need-same-length
+same-length c = search needs
+
+returns-2 : tie.Need-returns-2
+returns-2 c =
+    let args = c .before .before .before .before .before .before .before .before .before .args in
+    let count = c .before .before .before .before .before .before .count in
+    let first = c .before .before .before .before .first in
+    let count2 = c .before .before .count2 in
+    let f = as-took (count .ensures) (first .given .1) in
+    stops-as (c .enum-told2 .given .1) (rights-stop-2 (args .bytes .now) (args .at) (args .roles) f (as-stop (count2 .ensures) (c .enum-told2 .given .1)))
+
+slice-write-words-2 : tie.Need-slice-write-words-2
+slice-write-words-2 c = search needs
+
+mul-permissions : tie.Need-mul-permissions
+mul-permissions c =
+    let count = c .before .before .before .before .before .before .before .count in
+    let first = c .before .before .before .before .before .first in
+    let count2 = c .before .before .before .count2 in
+    let f = as-took (count .ensures) (first .given .1) in
+    let g = as-took (count2 .ensures) (c .before .second .given .1) in
+    record { fits = omega (arith, product-few (f .holds .few) (g .holds .few)) }
+
+permissions-requires : tie.Need-permissions-requires
+permissions-requires c κs =
+    let pre = c .before .before .before .before .before .before .before .before .before .before .before .pre in
+    let count = c .before .before .before .before .before .before .before .before .count in
+    let first = c .before .before .before .before .before .before .first in
+    let count2 = c .before .before .before .before .count2 in
+    let second = c .before .before .second in
+    let f = as-took (count .ensures) (first .given .1) in
+    let g = as-took (count2 .ensures) (second .given .1) in
+    (g .within, (product-few (f .holds .few) (g .holds .few), pre .1 .0, simp length-set (pre .1 .1)))
+
+enum-known-third : tie.Need-enum-known-third
+enum-known-third c = search needs
+
+enum-told-3 : tie.Need-enum-told-3
+enum-told-3 c = search needs
+
+same-length-2 : tie.Need-same-length-2
+same-length-2 c =
+    let permissions = c .before .before .before .before .permissions in
+    permissions .kept .1 .1 .1 .1 .0 ∙ simp length-set
+
+returns-3 : tie.Need-returns-3
+returns-3 c =
+    let args = c .before .before .before .before .before .before .before .before .before .before .before .before .before .before .before .before .args in
+    let count = c .before .before .before .before .before .before .before .before .before .before .before .before .before .count in
+    let first = c .before .before .before .before .before .before .before .before .before .before .before .first in
+    let count2 = c .before .before .before .before .before .before .before .before .before .count2 in
+    let second = c .before .before .before .before .before .before .before .second in
+    let permissions = c .before .before .before .before .permissions in
+    let f = as-took (count .ensures) (first .given .1) in
+    let g = as-took (count2 .ensures) (second .given .1) in
+    stops-as (c .enum-told3 .given .1) (rights-stop-3 (args .bytes .now) (args .at) (args .roles) f g (as-stop (permissions .ensures) (c .enum-told3 .given .1)))
+
+name-permissions-requires : tie.Need-name-permissions-requires
+name-permissions-requires c κs =
+    let pre = c .before .before .before .before .before .before .before .before .before .before .before .before .before .before .before .before .before .before .pre in
+    let count = c .before .before .before .before .before .before .before .before .before .before .before .before .before .before .before .count in
+    let first = c .before .before .before .before .before .before .before .before .before .before .before .before .before .first in
+    let permissions = c .before .before .before .before .before .before .permissions in
+    let third = c .before .before .third in
+    let f = as-took (count .ensures) (first .given .1) in
+    let h = as-took (permissions .ensures) (third .given .1) in
+    ((h .holds .section .few, rw (h .holds .all) (mul-le-mul-right _ (f .holds .few))), permissions .kept .1 .1 .1 .1 .0 ∙ simp length-set (pre .1 .1))
+
+same-length-3 : tie.Need-same-length-3
+same-length-3 c =
+    let permissions = c .before .before .before .before .before .before .before .before .before .permissions in
+    let name-permissions = c .before .before .name-permissions in
+    name-permissions .kept .0 ∙ permissions .kept .1 .1 .1 .1 .0 ∙ simp length-set
+
+returns-4 : tie.Need-returns-4
+returns-4 c =
+    let args = c .before .before .before .before .before .before .before .before .before .before .before .before .before .before .before .before .before .before .before .before .before .args in
+    let count = c .before .before .before .before .before .before .before .before .before .before .before .before .before .before .before .before .before .before .count in
+    let first = c .before .before .before .before .before .before .before .before .before .before .before .before .before .before .before .before .first in
+    let count2 = c .before .before .before .before .before .before .before .before .before .before .before .before .before .before .count2 in
+    let second = c .before .before .before .before .before .before .before .before .before .before .before .before .second in
+    let permissions = c .before .before .before .before .before .before .before .before .before .permissions in
+    let third = c .before .before .before .before .before .third in
+    let name-permissions = c .before .before .name-permissions in
+    let f = as-took (count .ensures) (first .given .1) in
+    let g = as-took (count2 .ensures) (second .given .1) in
+    let h = as-took (permissions .ensures) (third .given .1) in
+    rights-all (args .bytes .now) (args .at) (args .roles) f g h (name-permissions .ensures)
+
+pub rights-spec : {M : Type 1} → statement M
+rights-spec =
+    tie.close
+    (tie.spec
+    count-requires
+    enum-known-first
+    enum-told
+    returns
+    slice-write-words
+    count-requires-2
+    enum-known-second
+    enum-told-2
+    same-length
+    returns-2
+    slice-write-words-2
+    mul-permissions
+    permissions-requires
+    enum-known-third
+    enum-told-3
+    same-length-2
+    returns-3
+    name-permissions-requires
+    same-length-3
+    returns-4)

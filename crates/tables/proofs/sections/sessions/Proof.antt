@@ -1,0 +1,65 @@
+-- `tables::sections::sessions`: section 3, the sessions.
+-- Assumes nothing.
+use mathlib.Core.Path.{_∙_}
+use lib.ListN.{length-set}
+use Rattle.tables.specs.Reading.{sessionRow}
+use Rattle.tables.proofs.ReadLaws.{as-took, as-stop, stops-as, reads-as}
+use Rattle.tables.proofs.SectionLaws.{section-stop, section-on, counted-sessions}
+use borrow.Author.Needs.{needs}
+use Rattle.tables.proofs.sections.sessions.Statement.{statement}
+use Rattle.tables.proofs.sections.sessions.Tie as tie
+
+count-requires : tie.Need-count-requires
+count-requires c κs = search needs
+
+enum-known-read : tie.Need-enum-known-read
+enum-known-read c = search needs
+
+enum-told : tie.Need-enum-told
+enum-told c = search needs
+
+returns : tie.Need-returns
+returns c =
+    let args = c .before .before .before .before .before .args in
+    let count = c .before .before .count in
+    stops-as (c .enum-told .given .1)
+    (section-stop (args .bytes .now) (args .at) (λ n. sessionRow (args .users) (args .roles)) (as-stop (count .ensures) (c .enum-told .given .1)))
+
+slice-write-words : tie.Need-slice-write-words
+slice-write-words c = search needs
+
+session-rows-requires : tie.Need-session-rows-requires
+session-rows-requires c κs =
+    let pre = c .before .before .before .before .before .before .before .pre in
+    let count = c .before .before .before .before .count in
+    let read = c .before .before .read in
+    let g = as-took (count .ensures) (read .given .1) in
+    (g .within, ((g .holds .few, pre .1 .0), simp length-set (pre .1 .1)))
+
+same-length : tie.Need-same-length
+same-length c =
+    let session-rows = c .before .before .session-rows in
+    session-rows .kept .1 .1 .1 .1 .1 .0 ∙ simp length-set
+
+returns-2 : tie.Need-returns-2
+returns-2 c =
+    let args = c .before .before .before .before .before .before .before .before .before .before .args in
+    let count = c .before .before .before .before .before .before .before .count in
+    let read = c .before .before .before .before .before .read in
+    let session-rows = c .before .before .session-rows in
+    let g = as-took (count .ensures) (read .given .1) in
+    section-on (args .bytes .now) (args .at) (λ n. sessionRow (args .users) (args .roles)) g
+    (reads-as (session-rows .ensures) (λ ss v x. counted-sessions (args .words .now) _ x))
+
+pub sessions-spec : {M : Type 1} → statement M
+sessions-spec =
+    tie.close
+    (tie.spec
+    count-requires
+    enum-known-read
+    enum-told
+    returns
+    slice-write-words
+    session-rows-requires
+    same-length
+    returns-2)

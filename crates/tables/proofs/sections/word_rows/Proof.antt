@@ -1,0 +1,108 @@
+-- `tables::sections::word_rows`: the rows read so far are stored, and what is read from here on is the rest.
+-- Assumes nothing.
+use borrow.Author.Needs.{needs}
+use Prim.Native.Nat.{_-_}
+use native.Mathlib.Omega.{arith}
+use lib.ListN.{drop}
+use Rattle.tables.specs.Reading.{wordRow}
+use Rattle.tables.proofs.ReadLaws.{as-took, as-stop, stops-as}
+use Rattle.tables.proofs.RowsLaws.{Storing, storing-none, storing-more, storing-all, along-stop}
+use Rattle.tables.proofs.sections.word_rows.Statement.{statement}
+use Rattle.tables.proofs.sections.word_rows.Tie as tie
+
+abbrev Inv-loop : tie.InvT-loop
+Inv-loop bytes at n items words₀ to from₀ i₀ words from i = Storing (wordRow items) n (drop at bytes) bytes words₀ words to from i
+
+abbrev μ-loop : tie.MeasureT-loop
+μ-loop bytes at n items words₀ to from₀ i₀ words from i = n - i
+
+loop-holds : tie.Need-loop-holds Inv-loop μ-loop
+loop-holds c =
+    let args = c .before .before .args in
+    let pre = c .before .before .pre in
+    storing-none (wordRow (args .items)) (args .n) (args .bytes .now) (args .at) (args .words .now) (args .to) (pre .0)
+
+word-row-requires : tie.Need-word-row-requires Inv-loop μ-loop
+word-row-requires c κs =
+    let pre = c .before .before .before .before .pre in
+    (c .before .loop .inv .along .within, pre .1 .0 .1)
+
+enum-known-row : tie.Need-enum-known-row Inv-loop μ-loop
+enum-known-row c = search needs
+
+enum-told : tie.Need-enum-told Inv-loop μ-loop
+enum-told c = search needs
+
+same-length : tie.Need-same-length Inv-loop μ-loop
+same-length c =
+    let loop = c .before .before .before .before .loop in
+    loop .inv .long
+
+returns : tie.Need-returns Inv-loop μ-loop
+returns c =
+    let args = c .before .before .before .before .before .before .before .args in
+    let loop = c .before .before .before .before .loop in
+    let loop-test = c .before .before .before .loop-test in
+    let word-row = c .before .before .word-row in
+    let g = loop .inv .along in
+    stops-as (c .enum-told .given .1) (along-stop (wordRow (args .items)) (args .n) g (loop-test .taken) (as-stop (word-row .ensures) (c .enum-told .given .1)))
+
+add-words : tie.Need-add-words Inv-loop μ-loop
+add-words c =
+    let pre = c .before .before .before .before .before .before .before .before .pre in
+    omega (arith, pre)
+
+mul-words : tie.Need-mul-words Inv-loop μ-loop
+mul-words c =
+    let pre = c .before .before .before .before .before .before .before .before .pre in
+    let loop = c .before .before .before .before .before .loop in
+    omega (arith, pre, loop .inv .long)
+
+slice-write-words : tie.Need-slice-write-words Inv-loop μ-loop
+slice-write-words c =
+    let pre = c .before .before .before .before .before .before .before .before .pre in
+    let loop = c .before .before .before .before .before .loop in
+    omega (arith, pre, loop .inv .long)
+
+add-i : tie.Need-add-i Inv-loop μ-loop
+add-i c = search needs
+
+loop-less : tie.Need-loop-less Inv-loop μ-loop
+loop-less c = search needs
+
+loop-again : tie.Need-loop-again Inv-loop μ-loop
+loop-again c =
+    let args = c .before .before .before .before .before .before .before .before .args in
+    let loop = c .before .before .before .before .before .loop in
+    let loop-test = c .before .before .before .before .loop-test in
+    let word-row = c .before .before .before .word-row in
+    storing-more (wordRow (args .items)) (args .n) (loop .inv) (loop-test .taken) (as-took (word-row .ensures) (c .before .row .given .1))
+
+same-length-2 : tie.Need-same-length-2 Inv-loop μ-loop
+same-length-2 c = c .before .loop .inv .long
+
+returns-2 : tie.Need-returns-2 Inv-loop μ-loop
+returns-2 c =
+    let args = c .before .before .before .before .args in
+    storing-all (wordRow (args .items)) (args .n) (c .before .loop .inv) (c .loop-test .left)
+
+pub word-rows-spec : {M : Type 1} → statement M
+word-rows-spec =
+    tie.close
+    (tie.spec
+    Inv-loop
+    μ-loop
+    loop-holds
+    word-row-requires
+    enum-known-row
+    enum-told
+    same-length
+    returns
+    add-words
+    mul-words
+    slice-write-words
+    add-i
+    loop-less
+    loop-again
+    same-length-2
+    returns-2)

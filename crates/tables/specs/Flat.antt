@@ -1,0 +1,60 @@
+-- The accepted tables as one list of 704 words, in which the code holds them: eleven sections of 64 words each. Internal.
+-- Assumes nothing.
+use mathlib.Core.Path.{_≡_}
+use mathlib.Core.List.{List, [], _∷_, _++_, map}
+use Prim.Native.Nat.{ℕ, zero, suc, _*_, _/_, _%_, _≤_}
+use lib.ListN.{length}
+use Rattle.words.specs.Words.{itemOf}
+use Rattle.tables.specs.Tables.{Tables}
+
+-- The first n of the words and of zeros after them.
+unfoldable pub padded : ℕ → List ℕ → List ℕ
+padded zero xs = []
+padded (suc n) [] = 0 ∷ padded n []
+padded (suc n) (x ∷ xs) = x ∷ padded n xs
+
+-- f 0, f 1, .., f (n - 1).
+unfoldable pub tabulate : ℕ → (ℕ → ℕ) → List ℕ
+tabulate zero f = []
+tabulate (suc n) f = f 0 ∷ tabulate n (λ i. f (suc i))
+
+-- Section 0: how many roles, users, sessions, operations, objects, permissions, and words of CR, CU, CP.
+unfoldable pub counts : Tables → List ℕ
+counts T =
+    length (T .roleRows) ∷ length (T .userRows) ∷ length (T .sessionUsers) ∷ T .operationCount ∷ T .objectCount
+    ∷ length (T .permissionRows) ∷ length (T .cr) ∷ length (T .cu) ∷ length (T .cp) ∷ []
+
+-- Sections 9 and 10: of each permission its object and its operation, as words of one item:
+-- "Permission number = operation × object count + object".
+unfoldable pub objectRows : Tables → List ℕ
+objectRows T = tabulate (length (T .permissionRows)) (λ p. itemOf (p % T .objectCount))
+
+unfoldable pub operationRows : Tables → List ℕ
+operationRows T = tabulate (length (T .permissionRows)) (λ p. itemOf (p / T .objectCount))
+
+-- The sections in their order; section k starts at word 64 × k. Section 3 has of each session its user, as a word of one item.
+unfoldable pub sections : Tables → List (List ℕ)
+sections T =
+    counts T ∷ T .roleRows ∷ T .userRows ∷ map itemOf (T .sessionUsers) ∷ T .sessionRows ∷ T .permissionRows
+    ∷ T .cr ∷ T .cu ∷ T .cp ∷ objectRows T ∷ operationRows T ∷ []
+
+-- Sections one after another, 64 words each.
+unfoldable pub laid : List (List ℕ) → List ℕ
+laid [] = []
+laid (s ∷ ss) = padded 64 s ++ laid ss
+
+unfoldable pub flat : Tables → List ℕ
+flat T = laid (sections T)
+
+-- What document 01's limits leave: no section is cut, and every permission is one operation on one object.
+pub record Fits (T : Tables) : Type 0 where
+  pub roles : length (T .roleRows) ≤ 64
+  pub users : length (T .userRows) ≤ 64
+  pub sessionsUsers : length (T .sessionUsers) ≤ 64
+  pub sessionsRoles : length (T .sessionRows) ≤ 64
+  pub operations : T .operationCount ≤ 8
+  pub objects : T .objectCount ≤ 8
+  pub permissions : length (T .permissionRows) ≡ T .operationCount * T .objectCount
+  pub crs : length (T .cr) ≤ 64
+  pub cus : length (T .cu) ≤ 64
+  pub cps : length (T .cp) ≤ 64

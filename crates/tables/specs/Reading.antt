@@ -1,0 +1,208 @@
+-- Document 01, "Tables" and "Turned back" 1 to 10: from bytes to a refusal or the tables, front to back.
+-- Assumes nothing.
+use mathlib.Core.Bool.{Bool, true, false, _&&_, not, cond}
+use mathlib.Core.List.{List, [], _∷_, map}
+use Prim.Native.Nat.{ℕ, zero, suc, _+_, _*_, _^_}
+use lib.Dec.{eqb, ltb, leb}
+use lib.ListN.{length, getD, take, drop, replicate}
+use Rattle.answers.specs.declared.Refusal.{Refusal}
+use Rattle.answers.specs.declared.Refusal.the-variants.{CutShort, Overfull, NotEntered, BadMark, NoSuchItem, Miscounted}
+use Rattle.answers.specs.declared.Refusal.the-variants.{Rank, Overreach, Twin, LeftOver}
+use Rattle.tables.specs.declared.Outcome.{Outcome}
+use Rattle.tables.specs.declared.Outcome.the-variants.{Refused, Accepted}
+use Rattle.tables.specs.Tables.{Tables}
+use Rattle.tables.specs.Checks.{ranked, inReach, apart}
+use Rattle.tables.specs.Flat.{flat}
+
+abbrev pub Bytes : Type 0
+Bytes = List ℕ
+
+-- "the first refusal met is the answer and nothing further is read": a refusal, or what was taken and the bytes left.
+pub data Taken (A : Type 0) : Type 0 where
+  stop : Refusal → Taken A
+  took : A → Bytes → Taken A
+
+abbrev pub Reader : Type 0 → Type 0
+Reader A = Bytes → Taken A
+
+-- `do a ← m; f a` reads m, and then, unless m stopped, f a.
+unfoldable pub next : {A B : Type 0} → Taken A → (A → Reader B) → Taken B
+next (stop e) f = stop e
+next (took a s) f = f a s
+
+infixl 20 _>>=_
+abbrev pub _>>=_ : {A B : Type 0} → Reader A → (A → Reader B) → Reader B
+_>>=_ m f = λ s. next (m s) f
+
+infixl 20 _>>_
+abbrev pub _>>_ : {A B : Type 0} → Reader A → Reader B → Reader B
+_>>_ m n = λ s. next (m s) (λ _. n)
+
+abbrev pub give : {A : Type 0} → A → Reader A
+give a = λ s. took a s
+
+-- Stop with this refusal where the test holds.
+unfoldable pub refuse : Bool → Refusal → Reader (Unit {0})
+refuse true e s = stop e
+refuse false e s = took tt s
+
+-- 1: "bytes end where a count or row is due, or inside a row". "A row must be complete before it is examined."
+unfoldable pub front : ℕ → Reader Bytes
+front n s = cond (ltb (length s) n) (stop CutShort) (took (take n s) (drop n s))
+
+-- "each after a one-byte count"; 2: "count above its limit".
+unfoldable pub byte : Reader ℕ
+byte = do
+  b ← front 1
+  give (getD b 0 0)
+
+unfoldable pub count : ℕ → Reader ℕ
+count limit = do
+  n ← byte
+  refuse (ltb limit n) Overfull
+  give n
+
+-- "A word is 8 bytes, lowest byte first; bit i stands for item i."
+unfoldable pub wordFrom : Bytes → ℕ
+wordFrom [] = 0
+wordFrom (b ∷ s) = b + 256 * wordFrom s
+
+-- The word of these bytes, of items below n. 5: "bit .. at or above its count": a word has one where it is 2 ^ n or more.
+unfoldable pub wordWithin : ℕ → Bytes → Reader ℕ
+wordWithin n b = do
+  refuse (leb (2 ^ n) (wordFrom b)) NoSuchItem
+  give (wordFrom b)
+
+-- "A row is a word".
+unfoldable pub wordRow : ℕ → Reader ℕ
+wordRow n = do
+  b ← front 8
+  wordWithin n b
+
+-- "A row is a mark byte (1 entered, 0 never entered), then a word of assigned roles". 3: "mark 0"; 4: "mark above 1".
+unfoldable pub markedRow : ℕ → Reader ℕ
+markedRow n = do
+  b ← front 9
+  refuse (eqb (getD b 0 0) 0) NotEntered
+  refuse (ltb 1 (getD b 0 0)) BadMark
+  wordWithin n (drop 1 b)
+
+-- "A row is a user number (1 byte), then a word of active roles." 5: "user number at or above its count".
+pub record Session : Type 0 where
+  pub user : ℕ
+  pub active : ℕ
+
+unfoldable pub sessionRow : ℕ → ℕ → Reader Session
+sessionRow users roles = do
+  b ← front 9
+  refuse (leb users (getD b 0 0)) NoSuchItem
+  w ← wordWithin roles (drop 1 b)
+  give (record { user = getD b 0 0; active = w })
+
+-- n rows, one after another.
+unfoldable pub rows : {A : Type 0} → Reader A → ℕ → Reader (List A)
+rows row zero = give []
+rows row (suc n) = do
+  a ← row
+  as′ ← rows row n
+  give (a ∷ as′)
+
+-- "Sections follow in this order, each after a one-byte count": at most 64 rows; the row may depend on the count.
+unfoldable pub section : {A : Type 0} → (ℕ → Reader A) → Reader (List A)
+section row = do
+  n ← count 64
+  rows (row n) n
+
+-- Section 6: "Permissions, exactly operations × objects." 6: "permissions not operations × objects";
+-- "For permissions 2 is never given: 6 covers its count."
+unfoldable pub permissions : ℕ → ℕ → Reader (List ℕ)
+permissions product roles = do
+  n ← byte
+  refuse (not (eqb n product)) Miscounted
+  rows (markedRow roles) n
+
+-- Sections 4 to 6: "Operations, at most 8; count only." "Objects, at most 8; count only." Permissions.
+pub record Rights : Type 0 where
+  pub operationCount : ℕ
+  pub objectCount : ℕ
+  pub permissionRows : List ℕ
+
+unfoldable pub rights : ℕ → Reader Rights
+rights roles = do
+  a ← count 8
+  b ← count 8
+  ps ← permissions (a * b) roles
+  give (record { operationCount = a; objectCount = b; permissionRows = ps })
+
+-- Sections 7 to 9: "CR: words of roles. 8. CU: words of users. 9. CP: words of permissions."
+pub record Collections : Type 0 where
+  pub cr : List ℕ
+  pub cu : List ℕ
+  pub cp : List ℕ
+
+unfoldable pub collections : ℕ → ℕ → ℕ → Reader Collections
+collections roles users permissions = do
+  r ← section (λ _. wordRow roles)
+  u ← section (λ _. wordRow users)
+  p ← section (λ _. wordRow permissions)
+  give (record { cr = r; cu = u; cp = p })
+
+-- The nine sections. A role's row is held against the count of roles just read.
+abbrev pub assembled : List ℕ → List ℕ → List Session → Rights → Collections → Tables
+assembled rs us ss q c =
+    record {
+      roleRows = rs;
+      userRows = us;
+      sessionUsers = map (λ s. s .user) ss;
+      sessionRows = map (λ s. s .active) ss;
+      operationCount = q .operationCount;
+      objectCount = q .objectCount;
+      permissionRows = q .permissionRows;
+      cr = c .cr;
+      cu = c .cu;
+      cp = c .cp;
+    }
+
+unfoldable pub sections : Reader Tables
+sections = do
+  rs ← section (λ n. wordRow n)
+  us ← section (λ _. markedRow (length rs))
+  ss ← section (λ _. sessionRow (length us) (length rs))
+  q ← rights (length rs)
+  c ← collections (length rs) (length us) (length (q .permissionRows))
+  give (assembled rs us ss q c)
+
+-- 10: "bytes after section 9".
+unfoldable pub nothingLeft : Reader (Unit {0})
+nothingLeft s = refuse (ltb 0 (length s)) LeftOver s
+
+-- "After the last section come 10, 7, 8, 9 in that order."
+unfoldable pub whole : Reader Tables
+whole = do
+  T ← sections
+  nothingLeft
+  refuse (not (ranked (T .roleRows))) Rank
+  refuse (not (inReach T)) Overreach
+  refuse (not (apart (T .cr) && (apart (T .cu) && apart (T .cp)))) Twin
+  give T
+
+-- "Tables are accepted when no check on them refuses".
+pub data Reading : Type 0 where
+  turned : Refusal → Reading
+  taken : Tables → Reading
+
+abbrev pub readingOf : Taken Tables → Reading
+readingOf (stop e) = turned e
+readingOf (took T s) = taken T
+
+unfoldable pub tablesOf : Bytes → Reading
+tablesOf s = readingOf (whole s)
+
+-- What `read` answers: the refusal, or acceptance with the flat tables; the words of refused tables are all 0.
+abbrev pub outcomeOf : Reading → Outcome
+outcomeOf (turned e) = Refused e
+outcomeOf (taken T) = Accepted
+
+abbrev pub wordsOf : Reading → List ℕ
+wordsOf (turned e) = replicate 704 0
+wordsOf (taken T) = flat T

@@ -1,0 +1,155 @@
+-- Internal: how the code's answers agree with the readers of Reading, and what the words hold once a section is stored.
+-- Assumes nothing.
+use mathlib.Core.Path.{_≡_}
+use mathlib.Core.List.{List, [], _∷_, map}
+use mathlib.Core.Bool.{Bool, _&&_, not, cond}
+use Prim.Native.Nat.{ℕ, suc, _%_, _/_, _^_, _≤_, _<_}
+use lib.Dec.{eqb}
+use lib.ListN.{length, getD, drop, set}
+use Rattle.answers.specs.declared.Refusal.{Refusal}
+use Rattle.answers.specs.declared.Refusal.the-variants.{Rank, Overreach, Twin}
+use Rattle.words.specs.Words.{has, itemOf, lessOf, imageOf}
+use Rattle.tables.specs.declared.Step.{Step}
+use Rattle.tables.specs.declared.Step.the-variants.{Stopped, Took}
+use Rattle.tables.specs.declared.Outcome.{Outcome}
+use Rattle.tables.specs.declared.Outcome.the-variants.{Refused, Accepted}
+use Rattle.tables.specs.Tables.{Tables}
+use Rattle.tables.specs.Reading.{Bytes, Taken, stop, took, Session, Rights, Collections}
+use Rattle.tables.specs.Checks.{allTo, implies, above, ranked, inReach, apart}
+use Rattle.tables.specs.Flat.{tabulate}
+
+-- The code stopped with the reader's refusal, or took what the reader took, up to the same byte; Holds relates the two values.
+pub data Reads {A : Type 0} (s : Bytes) (Holds : A → ℕ → Type 0) : Step → Taken A → Type 0 where
+  stops : {e : Refusal} {r : Taken A} → r ≡ stop e → Reads s Holds (Stopped e) r
+  takes : {v n : ℕ} {a : A} {r : Taken A} → r ≡ took a (drop n s) → n ≤ length s → Holds a v → Reads s Holds (Took v n) r
+
+-- A count within its limit.
+pub record IsCount (limit a v : ℕ) : Type 0 where
+  pub is : a ≡ v
+  pub few : v ≤ limit
+
+-- The value itself; a session whose user is the byte at `at`.
+abbrev pub Is : ℕ → ℕ → Type 0
+Is a v = a ≡ v
+
+pub record IsSession (s : Bytes) (at users : ℕ) (a : Session) (v : ℕ) : Type 0 where
+  pub user : a .user ≡ getD s at 0
+  pub known : getD s at 0 < users
+  pub active : a .active ≡ v
+  pub complete : at < length s
+
+-- The words with a list written from word k on.
+unfoldable pub put : List ℕ → ℕ → List ℕ → List ℕ
+put ws k [] = ws
+put ws k (x ∷ xs) = put (set ws k x) (suc k) xs
+
+-- A section's count at its place, and its rows from word `to` on.
+unfoldable pub withSection : List ℕ → ℕ → ℕ → List ℕ → List ℕ
+withSection ws place to xs = put (set ws place (length xs)) to xs
+
+-- The sessions: their count, their users as words of one item, their active roles.
+unfoldable pub withSessions : List ℕ → List Session → List ℕ
+withSessions ws ss = put (put (set ws 2 (length ss)) 192 (map itemOf (map (λ s. s .user) ss))) 256 (map (λ s. s .active) ss)
+
+-- Of each permission its object and its operation.
+unfoldable pub withNames : List ℕ → ℕ → ℕ → List ℕ
+withNames ws n objects = put (put ws 576 (tabulate n (λ p. itemOf (p % objects)))) 640 (tabulate n (λ p. itemOf (p / objects)))
+
+unfoldable pub withRights : List ℕ → Rights → List ℕ
+withRights ws q =
+    withNames (withSection (set (set ws 3 (q .operationCount)) 4 (q .objectCount)) 5 320 (q .permissionRows))
+    (length (q .permissionRows)) (q .objectCount)
+
+unfoldable pub withCollections : List ℕ → Collections → List ℕ
+withCollections ws c = withSection (withSection (withSection ws 6 384 (c .cr)) 7 448 (c .cu)) 8 512 (c .cp)
+
+-- The code's value is the count of the n rows, and the words are the old ones with the rows in them.
+pub record RowsAt (old new : List ℕ) (to n : ℕ) (xs : List ℕ) (v : ℕ) : Type 0 where
+  pub count : v ≡ length xs
+  pub all : v ≡ n
+  pub words : new ≡ put old to xs
+
+pub record SessionsAt (old new : List ℕ) (n : ℕ) (ss : List Session) (v : ℕ) : Type 0 where
+  pub count : v ≡ length ss
+  pub all : v ≡ n
+  pub words : new ≡ put (put old 192 (map itemOf (map (λ s. s .user) ss))) 256 (map (λ s. s .active) ss)
+
+pub record SectionAt (old new : List ℕ) (place to : ℕ) (xs : List ℕ) (v : ℕ) : Type 0 where
+  pub count : v ≡ length xs
+  pub few : v ≤ 64
+  pub words : new ≡ withSection old place to xs
+
+pub record PermissionsAt (old new : List ℕ) (product : ℕ) (xs : List ℕ) (v : ℕ) : Type 0 where
+  pub section : SectionAt old new 5 320 xs v
+  pub all : v ≡ product
+
+pub record SessionSection (old new : List ℕ) (ss : List Session) (v : ℕ) : Type 0 where
+  pub words : new ≡ withSessions old ss
+
+pub record RightsAt (old new : List ℕ) (q : Rights) (v : ℕ) : Type 0 where
+  pub count : v ≡ length (q .permissionRows)
+  pub few : v ≤ 64
+  pub words : new ≡ withRights old q
+
+pub record CollectionsAt (old new : List ℕ) (c : Collections) (v : ℕ) : Type 0 where
+  pub words : new ≡ withCollections old c
+
+-- All nine sections, in the order in which they are read.
+pub record Filled (old new : List ℕ) (T : Tables) (v : ℕ) : Type 0 where
+  pub sessions : List Session
+  pub users : T .sessionUsers ≡ map (λ s. s .user) sessions
+  pub active : T .sessionRows ≡ map (λ s. s .active) sessions
+  pub words :
+      new ≡ withCollections (withRights (withSessions (withSection (withSection old 0 64 (T .roleRows)) 1 128 (T .userRows)) sessions)
+      (record { operationCount = T .operationCount; objectCount = T .objectCount; permissionRows = T .permissionRows }))
+      (record { cr = T .cr; cu = T .cu; cp = T .cp })
+
+-- The checks as the code makes them, on the rows' words.
+abbrev pub inside : ℕ → ℕ → ℕ → Bool
+inside above q row = implies (has above q) (eqb (lessOf row above) 0)
+
+unfoldable pub closedAt : List ℕ → ℕ → Bool
+closedAt rows r = allTo (length rows) (λ q. inside (getD rows r 0) q (getD rows q 0))
+
+unfoldable pub oneWayAt : List ℕ → ℕ → Bool
+oneWayAt rows r = allTo (length rows) (λ q. implies (above rows r q && above rows q r) (eqb r q))
+
+unfoldable pub reaching : List ℕ → List ℕ → List ℕ → Bool
+reaching assigned users active =
+    allTo (length active) (λ s. eqb (lessOf (getD active s 0) (imageOf assigned (getD users s 0))) 0)
+
+unfoldable pub newAt : List ℕ → ℕ → Bool
+newAt ws i = allTo i (λ j. not (eqb (getD ws j 0) (getD ws i 0)))
+
+-- No word has a bit at or above n.
+unfoldable pub Below : ℕ → List ℕ → Type 0
+Below n ws = (i : ℕ) → getD ws i 0 < 2 ^ n
+
+-- What reading holds every word and user number of accepted tables to.
+pub record Bounded (T : Tables) : Type 0 where
+  pub roles : Below (length (T .roleRows)) (T .roleRows)
+  pub users : Below (length (T .roleRows)) (T .userRows)
+  pub sessions : Below (length (T .roleRows)) (T .sessionRows)
+  pub permissions : Below (length (T .roleRows)) (T .permissionRows)
+  pub crs : Below (length (T .roleRows)) (T .cr)
+  pub cus : Below (length (T .userRows)) (T .cu)
+  pub cps : Below (length (T .permissionRows)) (T .cp)
+  pub paired : length (T .sessionUsers) ≡ length (T .sessionRows)
+  pub numbers : (i : ℕ) → i < length (T .sessionUsers) → getD (T .sessionUsers) i 0 < length (T .userRows)
+
+-- The counts that the code takes parts of the words by.
+pub record CountsFit (ws : List ℕ) : Type 0 where
+  pub long : length ws ≡ 704
+  pub roles : getD ws 0 0 ≤ 64
+  pub users : getD ws 1 0 ≤ 64
+  pub sessions : getD ws 2 0 ≤ 64
+  pub crs : getD ws 6 0 ≤ 64
+  pub cus : getD ws 7 0 ≤ 64
+  pub cps : getD ws 8 0 ≤ 64
+
+-- The outcome of 7, 8 and 9.
+unfoldable pub lateOf : Tables → Outcome
+lateOf T =
+    cond (ranked (T .roleRows))
+    (cond (inReach T) (cond (apart (T .cr) && (apart (T .cu) && apart (T .cp))) Accepted (Refused Twin)) (Refused Overreach))
+    (Refused Rank)

@@ -1,0 +1,128 @@
+// Counts and rows at a place in the bytes: a row is complete before it is examined.
+// Nothing is stored here.
+ghost use mathlib.Core.Path.{_≡_};
+ghost use Prim.Native.Nat.{_+_, _≤_, _<_, _^_};
+ghost use lib.Dec.{leb};
+ghost use lib.ListN.{length, getD, drop, take};
+ghost use Rattle.tables.specs.Reading.{wordFrom, byte as byteOf, count as countOf, wordWithin, wordRow, markedRow, sessionRow};
+ghost use Rattle.tables.specs.Reads.{Reads, Is, IsCount, IsSession};
+use crate::Step;
+use answers::Refusal;
+
+pub fn wide(x: u8) -> u64
+    ensures { λ r. ⌜ r ≡ x ⌝ }
+{
+    x as u64
+}
+
+pub fn byte(bytes: &[u8], at: usize) -> Step
+    requires { ⌜ at ≤ length (now bytes) ⌝ }
+    ensures { λ r. ⌜ Reads (now (bytes .entry)) Is r (byteOf (drop at (now (bytes .entry)))) ⌝ }
+{
+    if at < bytes.len() {
+        return Step::Took {
+            value: wide(bytes[at]),
+            next: at + 1,
+        };
+    }
+    Step::Stopped(Refusal::CutShort)
+}
+
+pub fn count(bytes: &[u8], at: usize, limit: u64) -> Step
+    requires { ⌜ at ≤ length (now bytes) ⌝ }
+    ensures { λ r. ⌜ Reads (now (bytes .entry)) (IsCount limit) r (countOf limit (drop at (now (bytes .entry)))) ⌝ }
+{
+    let read = byte(bytes, at);
+    let Step::Took { value, next } = read else {
+        return read;
+    };
+    if limit < value {
+        return Step::Stopped(Refusal::Overfull);
+    }
+    Step::Took { value, next }
+}
+
+// The word whose lowest byte stands at `at`: from its highest byte down.
+pub fn word(bytes: &[u8], at: usize) -> u64
+    requires { ⌜ at + 8 ≤ length (now bytes) ⌝ }
+    ensures { λ r. ⌜ r ≡ wordFrom (take 8 (drop at (now (bytes .entry)))) ⌝ }
+{
+    let mut w: u64 = 0;
+    let mut i: usize = 8;
+    while 0 < i {
+        i -= 1;
+        w = w * 256 + wide(bytes[at + i]);
+    }
+    w
+}
+
+// A bit at or above n.
+pub fn outside(w: u64, n: u64) -> bool
+    requires { ⌜ n ≤ 64 ⌝ }
+    ensures { λ r. ⌜ r ≡ leb (2 ^ n) w ⌝ }
+{
+    if n < 64 {
+        return 0 < w >> n;
+    }
+    false
+}
+
+pub fn word_within(bytes: &[u8], at: usize, n: u64) -> Step
+    requires { ⌜ at + 8 ≤ length (now bytes) ⌝ }
+    requires { ⌜ n ≤ 64 ⌝ }
+    ensures { λ r. ⌜ Reads (now (bytes .entry)) Is r (wordWithin n (take 8 (drop at (now (bytes .entry)))) (drop (at + 8) (now (bytes .entry)))) ⌝ }
+{
+    let w = word(bytes, at);
+    if outside(w, n) {
+        return Step::Stopped(Refusal::NoSuchItem);
+    }
+    Step::Took {
+        value: w,
+        next: at + 8,
+    }
+}
+
+pub fn word_row(bytes: &[u8], at: usize, n: u64) -> Step
+    requires { ⌜ at ≤ length (now bytes) ⌝ }
+    requires { ⌜ n ≤ 64 ⌝ }
+    ensures { λ r. ⌜ Reads (now (bytes .entry)) Is r (wordRow n (drop at (now (bytes .entry)))) ⌝ }
+{
+    if bytes.len() - at < 8 {
+        return Step::Stopped(Refusal::CutShort);
+    }
+    word_within(bytes, at, n)
+}
+
+pub fn marked_row(bytes: &[u8], at: usize, n: u64) -> Step
+    requires { ⌜ at ≤ length (now bytes) ⌝ }
+    requires { ⌜ n ≤ 64 ⌝ }
+    ensures { λ r. ⌜ Reads (now (bytes .entry)) Is r (markedRow n (drop at (now (bytes .entry)))) ⌝ }
+{
+    if bytes.len() - at < 9 {
+        return Step::Stopped(Refusal::CutShort);
+    }
+    let mark = bytes[at];
+    if mark == 0 {
+        return Step::Stopped(Refusal::NotEntered);
+    }
+    if 1 < mark {
+        return Step::Stopped(Refusal::BadMark);
+    }
+    word_within(bytes, at + 1, n)
+}
+
+// The session's user is the byte at `at`.
+pub fn session_row(bytes: &[u8], at: usize, users: u64, n: u64) -> Step
+    requires { ⌜ at ≤ length (now bytes) ⌝ }
+    requires { ⌜ n ≤ 64 ⌝ }
+    ensures { λ r. ⌜ Reads (now (bytes .entry)) (IsSession (now (bytes .entry)) at users) r (sessionRow users n (drop at (now (bytes .entry)))) ⌝ }
+{
+    if bytes.len() - at < 9 {
+        return Step::Stopped(Refusal::CutShort);
+    }
+    let user = wide(bytes[at]);
+    if users <= user {
+        return Step::Stopped(Refusal::NoSuchItem);
+    }
+    word_within(bytes, at + 1, n)
+}
