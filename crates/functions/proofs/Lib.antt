@@ -1,0 +1,3 @@
+-- The laws of the functions.
+pub mod SectionLaws
+pub mod FunctionsLaws

@@ -1,0 +1,54 @@
+-- `functions::back` meets its contract: as many words from the section's start as its count have the section's rows.
+-- Assumes nothing.
+use Prim.Native.Nat.{ℕ, _*_, _+_, _-_}
+use mathlib.Core.Path.{_≡_, ap, _∙_}
+use mathlib.Core.List.{List}
+use native.Mathlib.Omega.{arith}
+use borrow.Author.Needs.{needs}
+use lib.ListN.{getD}
+use Rattle.tables.specs.Flat.{counts}
+use Rattle.tables.proofs.FlatLaws.{count-at}
+use Rattle.functions.proofs.SectionLaws.{preimage-section}
+use Rattle.functions.proofs.back.Statement.{statement}
+use Rattle.functions.proofs.back.Tie as tie
+
+mul-at : tie.Need-mul-at
+mul-at c = search needs
+
+mul-least : tie.Need-mul-least
+mul-least c = search needs
+
+shared-slice-read-least : tie.Need-shared-slice-read-least
+shared-slice-read-least c = search needs
+
+least-requires : tie.Need-least-requires
+least-requires c κs = search needs
+
+add-end : tie.Need-add-end
+add-end c = search needs
+
+mul-preimage : tie.Need-mul-preimage
+mul-preimage c = search needs
+
+sub-preimage : tie.Need-sub-preimage
+sub-preimage c = search needs
+
+part-preimage-start : tie.Need-part-preimage-start
+part-preimage-start c = search needs
+
+part-preimage-end : tie.Need-part-preimage-end
+part-preimage-end c = search needs
+
+preimage-requires : tie.Need-preimage-requires
+preimage-requires c κs = search needs
+
+returns : tie.Need-returns
+returns c = λ T e h.
+    let S = c .before .before .before .before .before in
+    let n : ℕ = c .before .before .least .result in
+    let same : getD (S .args .t .now) (S .args .n) 0 ≡ getD (counts T) (S .args .n) 0 =
+    ap (λ (l : List ℕ). getD l (S .args .n) 0) e ∙ count-at T (S .args .n) (omega (arith, S .pre)) in
+    c .preimage .ensures ∙ preimage-section T (S .args .k) ((64 * S .args .k + n) - 64 * S .args .k) (S .args .w) e (omega (arith, c .before .before .least .ensures))
+
+pub back-spec : {M : Type 1} → statement M
+back-spec = tie.close (tie.spec mul-at mul-least shared-slice-read-least least-requires add-end mul-preimage sub-preimage part-preimage-start part-preimage-end preimage-requires returns)

@@ -1,0 +1,36 @@
+-- `functions::forth` meets its contract: the rest of the words from the section's start has the section's rows.
+-- Assumes nothing.
+use Prim.Native.Nat.{_*_, _-_}
+use mathlib.Core.Path.{_∙_}
+use native.Mathlib.Omega.{arith}
+use borrow.Author.Needs.{needs}
+use lib.ListN.{length}
+use Rattle.functions.proofs.SectionLaws.{image-section}
+use Rattle.functions.proofs.forth.Statement.{statement}
+use Rattle.functions.proofs.forth.Tie as tie
+
+mul-at : tie.Need-mul-at
+mul-at c = search needs
+
+mul-image : tie.Need-mul-image
+mul-image c = search needs
+
+sub-image : tie.Need-sub-image
+sub-image c = search needs
+
+part-image-start : tie.Need-part-image-start
+part-image-start c = search needs
+
+part-image-end : tie.Need-part-image-end
+part-image-end c = search needs
+
+image-requires : tie.Need-image-requires
+image-requires c κs = search needs
+
+returns : tie.Need-returns
+returns c = λ T e.
+    let S = c .before .before .before in
+    c .image .ensures ∙ image-section T (S .args .k) (length (S .args .t .now) - 64 * S .args .k) (S .args .w) e (omega (arith, S .pre .0))
+
+pub forth-spec : {M : Type 1} → statement M
+forth-spec = tie.close (tie.spec mul-at mul-image sub-image part-image-start part-image-end image-requires returns)

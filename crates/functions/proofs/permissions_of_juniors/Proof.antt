@@ -1,0 +1,24 @@
+-- `functions::permissions_of_juniors` meets its contract: one step forth and one back.
+-- Assumes nothing.
+use mathlib.Core.Path.{ap, _∙_}
+use mathlib.Core.List.{[]}
+use borrow.Author.Needs.{needs}
+use lib.ListN.{getD}
+use Rattle.words.specs.Words.{preimageOf}
+use Rattle.tables.specs.Flat.{sections}
+use Rattle.functions.proofs.FunctionsLaws.{permissions-of-juniors, counted-permissions}
+use Rattle.functions.proofs.permissions_of_juniors.Statement.{statement}
+use Rattle.functions.proofs.permissions_of_juniors.Tie as tie
+
+forth-requires : tie.Need-forth-requires
+forth-requires c κs = search needs
+
+back-requires : tie.Need-back-requires
+back-requires c κs = search needs
+
+returns : tie.Need-returns
+returns c = λ T fits e.
+    c .back .ensures T e (counted-permissions T) ∙ ap (preimageOf (getD (sections T) 5 [])) (c .before .forth .ensures T e) ∙ permissions-of-juniors T (c .before .before .before .args .w)
+
+pub permissions-of-juniors-spec : {M : Type 1} → statement M
+permissions-of-juniors-spec = tie.close (tie.spec forth-requires back-requires returns)

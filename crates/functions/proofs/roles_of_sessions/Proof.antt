@@ -1,0 +1,16 @@
+-- `functions::roles_of_sessions` meets its contract: one step forth.
+-- Assumes nothing.
+use mathlib.Core.Path.{_∙_}
+use borrow.Author.Needs.{needs}
+use Rattle.functions.proofs.FunctionsLaws.{roles-of-sessions}
+use Rattle.functions.proofs.roles_of_sessions.Statement.{statement}
+use Rattle.functions.proofs.roles_of_sessions.Tie as tie
+
+forth-requires : tie.Need-forth-requires
+forth-requires c κs = search needs
+
+returns : tie.Need-returns
+returns c = λ T fits e. c .forth .ensures T e ∙ roles-of-sessions T (c .before .before .args .w)
+
+pub roles-of-sessions-spec : {M : Type 1} → statement M
+roles-of-sessions-spec = tie.close (tie.spec forth-requires returns)

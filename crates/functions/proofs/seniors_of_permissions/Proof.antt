@@ -1,0 +1,24 @@
+-- `functions::seniors_of_permissions` meets its contract: one step forth and one back.
+-- Assumes nothing.
+use mathlib.Core.Path.{ap, _∙_}
+use mathlib.Core.List.{[]}
+use borrow.Author.Needs.{needs}
+use lib.ListN.{getD}
+use Rattle.words.specs.Words.{preimageOf}
+use Rattle.tables.specs.Flat.{sections}
+use Rattle.functions.proofs.FunctionsLaws.{seniors-of-permissions, counted-roles}
+use Rattle.functions.proofs.seniors_of_permissions.Statement.{statement}
+use Rattle.functions.proofs.seniors_of_permissions.Tie as tie
+
+forth-requires : tie.Need-forth-requires
+forth-requires c κs = search needs
+
+back-requires : tie.Need-back-requires
+back-requires c κs = search needs
+
+returns : tie.Need-returns
+returns c = λ T fits e.
+    c .back .ensures T e (counted-roles T) ∙ ap (preimageOf (getD (sections T) 1 [])) (c .before .forth .ensures T e) ∙ seniors-of-permissions T (c .before .before .before .args .w)
+
+pub seniors-of-permissions-spec : {M : Type 1} → statement M
+seniors-of-permissions-spec = tie.close (tie.spec forth-requires back-requires returns)

@@ -1,0 +1,2 @@
+-- The functions of Figure 2.
+pub mod Functions
