@@ -1,0 +1,427 @@
+-- What each way out of the reader of terms gives: what was read, or that nothing is there, and what the nodes hold.
+-- Assumes nothing.
+use mathlib.Core.Path.{_≡_, refl, sym, ap, subst, _∙_}
+use mathlib.Core.Bool.{Bool, true, false, cond}
+use mathlib.Core.List.{List, [], _∷_}
+use Prim.Native.Nat.{ℕ, zero, suc, _+_, _*_, _-_, _/_, _%_, _<_, _≤_}
+use native.Mathlib.Omega.{arith}
+use borrow.Author.Tests.{lt-leb, eq-eqb, ne-eqb}
+use lib.Dec.{eqb, ltb, leb}
+use lib.ListN.{length, getD, drop}
+use Rattle.syntax.specs.Bytes.{Bytes, ascii, Read, fail, got, Reader, next, skip, branch, either, scan}
+use Rattle.syntax.specs.Term.{Base, Op, operations, meet, join, Term, base, call, oe, ao, two, Choices, Head, isBase, isCall, isOE}
+use Rattle.syntax.specs.Term.{isAO, isOperations, isBracket, isChoice, spell, heads, isMeet, isJoin, isLess, spellMiddle, middles}
+use Rattle.syntax.specs.Term.{known, closed, second, inner, readTerm}
+use Rattle.syntax.specs.Arena.{baseOp, fnOp, oeOp, aoOp, twoOp, None, One, Numbered, Both, Holds, hasTwo, Low, Down, Tidy}
+use Rattle.syntax.specs.Reading.{Signed, headOp, Choice, Arena, mk, Stays, Fresh, Interned, Put, put, Knows, Ready, Found, Agree, noThing}
+use Rattle.syntax.specs.Reading.{someThing, Makes, Joint, pair, away, jointOp, spellJoint, joints, choice, less, ending, paired}
+use Rattle.syntax.specs.declared.arena.Place.{Place}
+use Rattle.syntax.specs.declared.arena.Place.the-variants.{Nothing, Got}
+use Rattle.syntax.proofs.BytesLaws.{next-agree}
+use Rattle.syntax.proofs.ArenaLaws.{base-small, fn-range, two-range, stays-refl, stays-trans, holds-later, knows-later, Parts, parts}
+use Rattle.syntax.proofs.NameLaws.{Hit, Meant, meant}
+
+-- What a reader answered.
+
+pub as-none : {A : Type 0} {H : List ℕ → ℕ → A → Type 0} {s : Bytes} {at : ℕ} {a : Arena} {ns : List ℕ} {p : Place} {r : Read A} → Agree H s at a ns p r → p ≡ Nothing → r ≡ fail
+as-none (noThing e) q = e
+as-none (someThing f) q = let z : _≡_ {A = ℕ} 0 1 = cc in absurd (omega arith)
+
+pub as-some : {A : Type 0} {H : List ℕ → ℕ → A → Type 0} {s : Bytes} {at : ℕ} {a : Arena} {ns : List ℕ} {p : Place} {r : Read A} {k e n : ℕ} → Agree H s at a ns p r → p ≡ Got k e n → Found H s at a (mk ns n) k e r
+as-some (noThing e) q = let z : _≡_ {A = ℕ} 0 1 = cc in absurd (omega arith)
+as-some {k = k} {e = e} {n = n} (someThing {k = k′} {e = e′} {n = n′} f) q =
+    let qk : k′ ≡ k = cc in
+    let qe : e′ ≡ e = cc in
+    let qn : n′ ≡ n = cc in
+    rw qk at (rw qe at (rw qn at f))
+
+-- An answer for what was read from at′ on, seen from `at`.
+pub agree-from : {A : Type 0} {H : List ℕ → ℕ → A → Type 0} {s : Bytes} {at at′ : ℕ} {a b : Arena} {ns : List ℕ} {p : Place} {r : Read A} → Stays a b → b .n + at ≤ a .n + at′ → Agree H s at′ b ns p r → Agree H s at a ns p r
+agree-from st l (noThing e) = noThing e
+agree-from st l (someThing {k = k} {e = e} {n = n} f) =
+    someThing {k = k} {e = e} {n = n} (record { thing = f .thing; reads = f .reads; holds = f .holds; within = f .within; count = omega (arith, f .count); end = f .end; stays = stays-trans st (f .stays); tidy = f .tidy })
+
+-- A node that was put behind what was read.
+pub put-found : {A : Type 0} {H : List ℕ → ℕ → A → Type 0} {s : Bytes} {at e v : ℕ} {a b : Arena} {ns : List ℕ} {p : Place} {r : Read A} (t : A) → Put b v e ns p → Stays a b → b .n + at + 1 ≤ a .n + e → e ≤ length s → r ≡ got t (drop e s) → ((k n : ℕ) → Interned b v (mk ns n) k → H ns k t) → Agree H s at a ns p r
+put-found {e = e} t (put {k = k} {n = n} u) st l f q h =
+    someThing {k = k} {e = e} {n = n} (record { thing = t; reads = q; holds = h k n u; within = u .within; count = omega (arith, u .few); end = f; stays = stays-trans st (u .stays); tidy = u .tidy })
+
+-- Where the next reader starts.
+
+pub ready-at : {s : Bytes} {at at′ : ℕ} {vars : List ℕ} {a : Arena} → Ready s at vars a → at ≤ at′ → at′ ≤ length s → Ready s at′ vars a
+ready-at g l h = record { room = g .room; within = h; count = omega (arith, g .count); tidy = g .tidy; choices = g .choices; knows = g .knows }
+
+pub ready-on : {A : Type 0} {H : List ℕ → ℕ → A → Type 0} {s : Bytes} {at at′ k e : ℕ} {vars : List ℕ} {a b : Arena} {r : Read A} → Ready s at vars a → Found H s at a b k e r → e ≤ at′ → at′ ≤ length s → Ready s at′ vars b
+ready-on g f l h =
+    record {
+      room = omega (arith, g .room, f .stays .size);
+      within = h;
+      count = omega (arith, g .count, f .count);
+      tidy = f .tidy;
+      choices = g .choices;
+      knows = knows-later (f .stays) (g .knows);
+    }
+
+-- A node may be put behind the others.
+
+has-few : (o : ℕ) → o < 18 → hasTwo o ≡ false
+unfolding hasTwo
+has-few o h =
+    let l : o < 32 = omega arith in
+    rw (lt-leb 18 o h, lt-leb 32 o l)
+
+not-both : {b : Bool} → b ≡ false → b ≡ true → ⊥
+not-both e q = let z : _≡_ {A = ℕ} 0 1 = cc in omega arith
+
+pub fresh-leaf : {a : Arena} {o : ℕ} → a .n < length (a .nodes) → Tidy (a .nodes) (a .n) → o < 9 → Fresh a o 0 0
+fresh-leaf {a} {o} l d h =
+    let v : (o + 256 * 0 + 1048576 * 0) % 256 ≡ o = omega arith in
+    let few : hasTwo o ≡ false = has-few o (omega arith) in
+    record {
+      room = l;
+      tidy = d;
+      known = omega arith;
+      left = omega arith;
+      right = omega arith;
+      low = record { op = omega arith; left = λ q. absurd (omega arith); right = λ q. absurd (not-both few (rw v at q)) };
+    }
+
+pub fresh-two : {a : Arena} {o i j : ℕ} → a .n < length (a .nodes) → Tidy (a .nodes) (a .n) → o < 40 → i < a .n → j < a .n → Fresh a o i j
+fresh-two {a} {o} {i} {j} l d h li lj =
+    let m : a .n ≤ 4096 = omega (arith, d .size, d .fits) in
+    let p = parts (o + 256 * i + 1048576 * j) o i j refl (omega arith) (omega arith) in
+    record {
+      room = l;
+      tidy = d;
+      known = h;
+      left = omega arith;
+      right = omega arith;
+      low = record { op = omega (arith, p .op); left = λ q. omega (arith, p .left); right = λ q. omega (arith, p .right) };
+    }
+
+pub fresh-number : {a : Arena} {o i m : ℕ} → a .n < length (a .nodes) → Tidy (a .nodes) (a .n) → o < 40 → hasTwo o ≡ false → i < a .n → m ≤ 64 → Fresh a o i m
+fresh-number {a} {o} {i} {m} l d h few li lm =
+    let n : a .n ≤ 4096 = omega (arith, d .size, d .fits) in
+    let p = parts (o + 256 * i + 1048576 * m) o i m refl (omega arith) (omega arith) in
+    record {
+      room = l;
+      tidy = d;
+      known = h;
+      left = omega arith;
+      right = omega arith;
+      low = record { op = omega (arith, p .op); left = λ q. omega (arith, p .left); right = λ q. absurd (not-both few (rw (p .op) at q)) };
+    }
+
+-- The parts of a node that was put stand below it.
+
+pub leaf-node : {a b : Arena} {o k : ℕ} → Interned a (o + 256 * 0 + 1048576 * 0) b k → None (b .nodes) k o
+leaf-node u = record { node = omega (arith, u .at) }
+
+pub one-node : {a b : Arena} {o i k : ℕ} → Interned a (o + 256 * i + 1048576 * 0) b k → 9 ≤ o → o < 40 → i < 4096 → One (b .nodes) k o i
+unfolding Down
+one-node {a} {b} {o} {i} {k} u lo hi li =
+    let p = parts (getD (b .nodes) k 0) o i 0 (u .at) (omega arith) li in
+    let d = u .tidy .down k (u .within) in
+    record { below = omega (arith, p .left, d .left (omega (arith, p .op))); small = li; node = omega (arith, u .at) }
+
+pub both-node : {a b : Arena} {o i j k : ℕ} → Interned a (o + 256 * i + 1048576 * j) b k → 9 ≤ o → o < 40 → hasTwo o ≡ true → i < 4096 → j < 4096 → Both (b .nodes) k o i j
+unfolding Down
+both-node {a} {b} {o} {i} {j} {k} u lo hi has li lj =
+    let p = parts (getD (b .nodes) k 0) o i j (u .at) (omega arith) li in
+    let d = u .tidy .down k (u .within) in
+    let t : hasTwo (getD (b .nodes) k 0 % 256) ≡ true = rw (p .op) has in
+    record {
+      below = omega (arith, p .left, d .left (omega (arith, p .op)));
+      small = li;
+      below₂ = omega (arith, p .right, d .right t);
+      small₂ = lj;
+      node = u .at;
+    }
+
+pub number-node : {a b : Arena} {o i m k : ℕ} → Interned a (o + 256 * i + 1048576 * m) b k → 9 ≤ o → o < 40 → i < 4096 → m ≤ 64 → Numbered (b .nodes) k o i m
+unfolding Down
+number-node {a} {b} {o} {i} {m} {k} u lo hi li lm =
+    let p = parts (getD (b .nodes) k 0) o i m (u .at) (omega arith) li in
+    let d = u .tidy .down k (u .within) in
+    record { below = omega (arith, p .left, d .left (omega (arith, p .op))); small = li; few = lm; node = u .at }
+
+has-pair : (o : Op) → hasTwo (twoOp o) ≡ true
+unfolding hasTwo twoOp
+has-pair operations = refl
+has-pair meet = refl
+has-pair join = refl
+
+-- The beginnings by their numbers.
+
+pub leaf-head : (h : Head) → headOp h < 9 → (b : Base) × (h ≡ isBase b)
+unfolding headOp
+leaf-head (isBase b) l = (b, refl)
+leaf-head (isCall f) l = absurd (omega (arith, fn-range f .low))
+leaf-head isOE l = absurd (omega arith)
+leaf-head isAO l = absurd (omega arith)
+leaf-head isOperations l = absurd (omega arith)
+leaf-head isBracket l = absurd (omega arith)
+leaf-head isChoice l = absurd (omega arith)
+
+pub record OneHead (h : Head) : Type 0 where
+  pub make : Term → Term
+  pub makes : Makes (headOp h) make
+  pub is : (rd : Reader Term) (σ : Choices) (s : Bytes) → inner rd σ h s ≡ closed rd make s
+
+pub one-head : (h : Head) → 9 ≤ headOp h → headOp h < 18 → OneHead h
+unfolding headOp inner Holds
+one-head (isBase b) l m = absurd (omega (arith, base-small b))
+one-head (isCall f) l m = record { make = call f; makes = record { builds = λ ns k i a x y. (i, x, y) }; is = λ rd σ s. refl }
+one-head isOE l m = record { make = oe; makes = record { builds = λ ns k i a x y. (i, x, y) }; is = λ rd σ s. refl }
+one-head isAO l m = record { make = ao; makes = record { builds = λ ns k i a x y. (i, x, y) }; is = λ rd σ s. refl }
+one-head isOperations l m = absurd (omega arith)
+one-head isBracket l m = absurd (omega arith)
+one-head isChoice l m = absurd (omega arith)
+
+comma-paired : (rd : Reader Term) (σ : Choices) (s : Bytes) → inner rd σ isOperations s ≡ paired rd σ 18 s
+unfolding inner paired joints scan either spellJoint next ending
+comma-paired rd σ s = next-agree (rd s) _ _ (λ a r e. go a r (skip (ascii ",") r) refl)
+  where
+    go : (a : Term) (r : Bytes) (o : Read (Unit {0})) → skip (ascii ",") r ≡ o → next (skip (ascii ",") r) (λ _. closed rd (two operations a)) ≡ next (scan spellJoint (joints 18) r) (ending rd σ a)
+    go a r fail q = rw q
+    go a r (got u w) q = rw q
+
+sign-paired : (rd : Reader Term) (σ : Choices) (s : Bytes) → inner rd σ isBracket s ≡ paired rd σ 19 s
+unfolding inner paired joints scan either spellJoint spellMiddle middles second less next ending
+sign-paired rd σ s = next-agree (rd s) _ _ (λ a r e. go a r (skip (ascii "&") r) refl (skip (ascii "+") r) refl (skip (ascii "-{v") r) refl)
+  where
+    go : (a : Term) (r : Bytes) (o : Read (Unit {0})) → skip (ascii "&") r ≡ o → (p : Read (Unit {0})) → skip (ascii "+") r ≡ p → (q : Read (Unit {0})) → skip (ascii "-{v") r ≡ q → next (scan spellMiddle middles r) (second rd σ a) ≡ next (scan spellJoint (joints 19) r) (ending rd σ a)
+    go a r (got u w) e p e′ q e″ = rw e
+    go a r fail e (got u w) e′ q e″ = rw (e, e′)
+    go a r fail e fail e′ (got u w) e″ = rw (e, e′, e″)
+    go a r fail e fail e′ fail e″ = rw (e, e′, e″)
+
+pub two-head : (h : Head) → 18 ≤ headOp h → headOp h < 20 → (rd : Reader Term) (σ : Choices) (s : Bytes) → inner rd σ h s ≡ paired rd σ (headOp h) s
+unfolding headOp
+two-head (isBase b) l m rd σ s = absurd (omega (arith, base-small b))
+two-head (isCall f) l m rd σ s = absurd (omega (arith, fn-range f .high))
+two-head isOE l m rd σ s = absurd (omega arith)
+two-head isAO l m rd σ s = absurd (omega arith)
+two-head isOperations l m rd σ s = comma-paired rd σ s
+two-head isBracket l m rd σ s = sign-paired rd σ s
+two-head isChoice l m rd σ s = absurd (omega arith)
+
+pub choice-head : (h : Head) → 20 ≤ headOp h → (rd : Reader Term) (σ : Choices) (s : Bytes) → inner rd σ h s ≡ choice σ s
+unfolding headOp inner choice
+choice-head (isBase b) l rd σ s = absurd (omega (arith, base-small b))
+choice-head (isCall f) l rd σ s = absurd (omega (arith, fn-range f .high))
+choice-head isOE l rd σ s = absurd (omega arith)
+choice-head isAO l rd σ s = absurd (omega arith)
+choice-head isOperations l rd σ s = absurd (omega arith)
+choice-head isBracket l rd σ s = absurd (omega arith)
+choice-head isChoice l rd σ s = refl
+
+-- A term by its beginning.
+
+pub read-zero : (f : ℕ) (σ : Choices) (s : Bytes) → f ≡ 0 → readTerm f σ s ≡ fail
+unfolding readTerm
+read-zero f σ s e = rw e
+
+read-more : (f : ℕ) (σ : Choices) (s : Bytes) → (f ≡ 0 → ⊥) → readTerm f σ s ≡ next (scan spell heads s) (inner (readTerm (f - 1) σ) σ)
+unfolding readTerm
+read-more f σ s h = let e : f ≡ suc (f - 1) = omega arith in ap (λ (m : ℕ). readTerm m σ s) e
+
+-- What make is, where the number is that of a function, OE or AO.
+pub record OneRead (f : ℕ) (σ : Choices) (s : Bytes) (at o e : ℕ) : Type 0 where
+  pub make : Term → Term
+  pub makes : Makes o make
+  pub is : readTerm f σ (drop at s) ≡ closed (readTerm (f - 1) σ) make (drop e s)
+
+module _ (f : ℕ) (σ : Choices) (s : Bytes) (at : ℕ) (h : f ≡ 0 → ⊥) where
+  pub read-unknown : scan spell heads (drop at s) ≡ fail → readTerm f σ (drop at s) ≡ fail
+  unfolding next
+  read-unknown e = read-more f σ (drop at s) h ∙ rw e
+
+  read-head : {o e : ℕ} (x : Signed headOp s at o e (scan spell heads (drop at s))) → readTerm f σ (drop at s) ≡ inner (readTerm (f - 1) σ) σ (x .thing) (drop e s)
+  unfolding next
+  read-head x = read-more f σ (drop at s) h ∙ rw (x .is)
+
+  pub read-leaf : {o e : ℕ} → Signed headOp s at o e (scan spell heads (drop at s)) → o < 9 → (b : Base) × (baseOp b ≡ o) × (readTerm f σ (drop at s) ≡ got (base b) (drop e s))
+  unfolding headOp inner
+  read-leaf {o} {e} x l =
+      let y = leaf-head (x .thing) (omega (arith, x .numbered)) in
+      (y .0, ap headOp (sym (y .1)) ∙ x .numbered, read-head x ∙ ap (λ (g : Head). inner (readTerm (f - 1) σ) σ g (drop e s)) (y .1))
+
+  pub read-one : {o e : ℕ} → Signed headOp s at o e (scan spell heads (drop at s)) → 9 ≤ o → o < 18 → OneRead f σ s at o e
+  read-one {o} {e} x l m =
+      let y = one-head (x .thing) (omega (arith, x .numbered)) (omega (arith, x .numbered)) in
+      record { make = y .make; makes = subst (λ (p : ℕ). Makes p (y .make)) (x .numbered) (y .makes); is = read-head x ∙ y .is (readTerm (f - 1) σ) σ (drop e s) }
+
+  pub read-pair : {o e : ℕ} → Signed headOp s at o e (scan spell heads (drop at s)) → 18 ≤ o → o < 20 → readTerm f σ (drop at s) ≡ paired (readTerm (f - 1) σ) σ o (drop e s)
+  read-pair {o} {e} x l m =
+      read-head x ∙ two-head (x .thing) (omega (arith, x .numbered)) (omega (arith, x .numbered)) (readTerm (f - 1) σ) σ (drop e s)
+      ∙ ap (λ (p : ℕ). paired (readTerm (f - 1) σ) σ p (drop e s)) (x .numbered)
+
+  pub read-known : {o e : ℕ} → Signed headOp s at o e (scan spell heads (drop at s)) → 20 ≤ o → readTerm f σ (drop at s) ≡ choice σ (drop e s)
+  read-known {o} {e} x l = read-head x ∙ choice-head (x .thing) (omega (arith, x .numbered)) (readTerm (f - 1) σ) σ (drop e s)
+
+-- A term and its closing bracket.
+
+module _ (rd : Reader Term) (make : Term → Term) (s : Bytes) where
+  pub closed-none : rd s ≡ fail → closed rd make s ≡ fail
+  unfolding closed next
+  closed-none e = rw e
+
+  pub closed-lost : {t : Term} {r : Bytes} → rd s ≡ got t r → skip (ascii ")") r ≡ fail → closed rd make s ≡ fail
+  unfolding closed next
+  closed-lost e q = rw (e, q)
+
+  pub closed-got : {t : Term} {r w : Bytes} → rd s ≡ got t r → skip (ascii ")") r ≡ got tt w → closed rd make s ≡ got (make t) w
+  unfolding closed next
+  closed-got e q = rw (e, q)
+
+-- A term, and then what is read behind it.
+
+module _ (rd : Reader Term) (σ : Choices) (op : ℕ) (s : Bytes) where
+  pub paired-none : rd s ≡ fail → paired rd σ op s ≡ fail
+  unfolding paired next
+  paired-none e = rw e
+
+  pub paired-lost : {t : Term} {r : Bytes} → rd s ≡ got t r → scan spellJoint (joints op) r ≡ fail → paired rd σ op s ≡ fail
+  unfolding paired next
+  paired-lost e q = rw (e, q)
+
+  pub paired-on : {t : Term} {r w : Bytes} {j : Joint} → rd s ≡ got t r → scan spellJoint (joints op) r ≡ got j w → paired rd σ op s ≡ ending rd σ t j w
+  unfolding paired next
+  paired-on e q = rw (e, q)
+
+pub is-away : (j : Joint) → jointOp j ≡ 17 → j ≡ away
+unfolding jointOp
+is-away (pair o) e = absurd (omega (arith, two-range o .low))
+is-away away e = refl
+
+pub is-pair : (j : Joint) → (jointOp j ≡ 17 → ⊥) → (o : Op) × (j ≡ pair o)
+unfolding jointOp
+is-pair (pair o) h = (o, refl)
+is-pair away h = absurd (h refl)
+
+-- The names between two terms, by the number of what stands before.
+
+pub joints-comma : (op : ℕ) → op ≡ 18 → joints op ≡ pair operations ∷ []
+unfolding joints
+joints-comma op e = rw (eq-eqb op 18 e)
+
+pub joints-sign : (op : ℕ) → (op ≡ 18 → ⊥) → joints op ≡ pair meet ∷ pair join ∷ away ∷ []
+unfolding joints
+joints-sign op h = rw (ne-eqb op 18 h)
+
+-- A node behind what was read, where one byte more is there.
+pub fresh-on : {A : Type 0} {H : List ℕ → ℕ → A → Type 0} {s : Bytes} {at i e o j : ℕ} {vars : List ℕ} {a b : Arena} {r : Read A} → Ready s at vars a → Found H s at a b i e r → e + 1 ≤ length s → o < 40 → j < b .n → Fresh b o i j
+fresh-on g f l h lj =
+    fresh-two (omega (arith, g .room, g .count, f .count, f .stays .size)) (f .tidy) h (f .within) lj
+
+-- A node on two things that were read one after the other, with a byte between them.
+pub fresh-pair : {A B : Type 0} {H : List ℕ → ℕ → A → Type 0} {H′ : List ℕ → ℕ → B → Type 0} {s : Bytes} {at i e y j z o : ℕ} {vars : List ℕ} {a b d : Arena} {r : Read A} {r′ : Read B} → Ready s at vars a → Found H s at a b i e r → Found H′ s y b d j z r′ → e + 1 ≤ y → o < 40 → Fresh d o i j
+fresh-pair g f f′ l h =
+    fresh-two (omega (arith, g .room, g .count, f .count, f′ .count, f′ .end, f .stays .size, f′ .stays .size)) (f′ .tidy) h (omega (arith, f .within, f′ .stays .more)) (f′ .within)
+
+-- A choice, and a term without one.
+
+pub choice-none : (σ : Choices) (s : Bytes) → known σ s ≡ fail → choice σ s ≡ fail
+unfolding choice next
+choice-none σ s e = rw e
+
+pub less-none : (σ : Choices) (t : Term) (s : Bytes) → known σ s ≡ fail → less σ t s ≡ fail
+unfolding less next
+less-none σ t s e = rw e
+
+module _ {s : Bytes} {at : ℕ} {vars : List ℕ} {a : Arena} {v e : ℕ} (g : Ready s at vars a) (x : Choice s at vars v e) where
+  below : v < a .n
+  below = omega (arith, x .node, g .knows .below (x .index) (x .known))
+
+  small : {i : ℕ} → i < a .n → i < 4096
+  small l = omega (arith, g .tidy .size, g .tidy .fits)
+
+  pub choice-fresh : Fresh a 16 v 0
+  choice-fresh =
+      let l = below in
+      fresh-two (omega (arith, g .count, g .room, x .fits)) (g .tidy) (omega arith) l (omega arith)
+
+  pub choice-found : (σ : Choices) {ns : List ℕ} {p : Place} → Knows a vars σ → Put a (16 + 256 * v + 1048576 * 0) e ns p → Agree Holds s at a ns p (choice σ (drop at s))
+  unfolding choice next Holds
+  choice-found σ w u =
+      let m = meant (a .nodes) σ x (w .holds) in
+      let q₀ : choice σ (drop at s) ≡ got (oe (m .term)) (drop (at + 1) s) = rw (m .reads) in
+      let q : choice σ (drop at s) ≡ got (oe (m .term)) (drop e s) = q₀ ∙ ap (λ (i : ℕ). got (oe (m .term)) (drop i s)) (sym (x .behind)) in
+      put-found (oe (m .term)) u (stays-refl a) (omega (arith, x .behind)) (omega (arith, x .behind, x .fits)) q
+      (λ k n y. (v, one-node y (omega arith) (omega arith) (small below), holds-later a _ v (m .term) (y .stays) below (m .holds)))
+
+  module _ (σ : Choices) (t : Term) (w : Knows a vars σ) where
+    pub less-lost : skip (ascii "})") (drop e s) ≡ fail → less σ t (drop at s) ≡ fail
+    unfolding less next
+    less-lost q =
+        let m = meant (a .nodes) σ x (w .holds) in
+        rw (m .reads, ← x .behind, q)
+
+    pub less-found : {i : ℕ} {ns : List ℕ} {p : Place} → i < a .n → Holds (a .nodes) i t → Hit s e (ascii "})") → Put a (17 + 256 * i + 1048576 * 0) (e + 2) ns p → Agree Holds s at a ns p (less σ t (drop at s))
+    unfolding less next Holds
+    less-found {i} l y h u =
+        let m = meant (a .nodes) σ x (w .holds) in
+        let q : less σ t (drop at s) ≡ got (ao t) (drop (e + 2) s) = rw (m .reads, ← x .behind, h .skips) in
+        put-found (ao t) u (stays-refl a) (omega (arith, x .behind)) (h .fits) q
+        (λ k n z. (i, one-node z (omega arith) (omega arith) (small l), holds-later a _ i t (z .stays) l y))
+
+-- A term in brackets behind a name.
+pub call-found : {s : Bytes} {at i e o : ℕ} {a b : Arena} {ns : List ℕ} {p : Place} (rd : Reader Term) (make : Term → Term) → Makes o make → 9 ≤ o → o < 40 → Found Holds s at a b i e (rd (drop at s)) → Hit s e (ascii ")") → Put b (o + 256 * i + 1048576 * 0) (e + 1) ns p → Agree Holds s at a ns p (closed rd make (drop at s))
+call-found {s} {at} {i} {e} {o} {a} {b} {ns} rd make k lo hi f h u =
+    put-found (make (f .thing)) u (f .stays) (omega (arith, f .count)) (h .fits) (closed-got rd make (drop at s) (f .reads) (h .skips))
+    (λ l n y. k .builds ns l i (f .thing) (one-node y lo hi (omega (arith, f .within, f .tidy .size, f .tidy .fits))) (holds-later b _ i (f .thing) (y .stays) (f .within) (f .holds)))
+
+-- Two terms in brackets, or a term without a choice.
+module _ (rd : Reader Term) (σ : Choices) (op : ℕ) {s : Bytes} {at i e : ℕ} {a b : Arena} (f : Found Holds s at a b i e (rd (drop at s))) where
+  pub two-lost : scan spellJoint (joints op) (drop e s) ≡ fail → paired rd σ op (drop at s) ≡ fail
+  two-lost q = paired-lost rd σ op (drop at s) (f .reads) q
+
+  module _ {o y : ℕ} (x : Signed jointOp s e o y (scan spellJoint (joints op) (drop e s))) where
+    pub away-found : {ns : List ℕ} {p : Place} → o ≡ 17 → Agree Holds s y b ns p (less σ (f .thing) (drop y s)) → Agree Holds s at a ns p (paired rd σ op (drop at s))
+    unfolding ending
+    away-found q u =
+        let j = is-away (x .thing) (x .numbered ∙ q) in
+        let z : paired rd σ op (drop at s) ≡ less σ (f .thing) (drop y s) = paired-on rd σ op (drop at s) (f .reads) (x .is) ∙ ap (λ (k : Joint). ending rd σ (f .thing) k (drop y s)) j in
+        rw z (agree-from (f .stays) (omega (arith, f .count, x .more)) u)
+
+    -- What the two terms make.
+    pair-op : (o ≡ 17 → ⊥) → (k : Op) × (twoOp k ≡ o) × (paired rd σ op (drop at s) ≡ closed rd (two k (f .thing)) (drop y s))
+    unfolding ending jointOp
+    pair-op n =
+        let j = is-pair (x .thing) (λ q. n (sym (x .numbered) ∙ q)) in
+        (j .0, ap jointOp (sym (j .1)) ∙ x .numbered, paired-on rd σ op (drop at s) (f .reads) (x .is) ∙ ap (λ (k : Joint). ending rd σ (f .thing) k (drop y s)) (j .1))
+
+    pub two-none : (o ≡ 17 → ⊥) → rd (drop y s) ≡ fail → paired rd σ op (drop at s) ≡ fail
+    two-none n q = let k = pair-op n in k .2 ∙ closed-none rd _ (drop y s) q
+
+    module _ (n : o ≡ 17 → ⊥) {d : Arena} {j z : ℕ} (f′ : Found Holds s y b d j z (rd (drop y s))) where
+      pub two-open : skip (ascii ")") (drop z s) ≡ fail → paired rd σ op (drop at s) ≡ fail
+      two-open q = let k = pair-op n in k .2 ∙ closed-lost rd _ (drop y s) (f′ .reads) q
+
+      pub two-small : o < 40
+      two-small = let k = pair-op n in omega (arith, k .1, two-range (k .0) .high)
+
+      pub two-found : {ns : List ℕ} {p : Place} → Hit s z (ascii ")") → Put d (o + 256 * i + 1048576 * j) (z + 1) ns p → Agree Holds s at a ns p (paired rd σ op (drop at s))
+      unfolding Holds
+      two-found {ns} h u =
+          let k = pair-op n in
+          let hi : o < 40 = two-small in
+          let lo : 9 ≤ o = omega (arith, k .1, two-range (k .0) .low) in
+          let has : hasTwo o ≡ true = rw (k .1) at (has-pair (k .0)) in
+          put-found (two (k .0) (f .thing) (f′ .thing)) u (stays-trans (f .stays) (f′ .stays)) (omega (arith, f .count, x .more, f′ .count)) (h .fits)
+          (k .2 ∙ closed-got rd _ (drop y s) (f′ .reads) (h .skips))
+          (λ l m w. (
+            i,
+            j,
+            subst (λ (c : ℕ). Both ns l c i j) (sym (k .1)) (both-node w lo hi has (omega (arith, f .within, f′ .stays .more, f′ .tidy .size, f′ .tidy .fits)) (omega (arith, f′ .within, f′ .tidy .size, f′ .tidy .fits))),
+            holds-later b _ i (f .thing) (stays-trans (f′ .stays) (w .stays)) (f .within) (f .holds),
+            holds-later d _ j (f′ .thing) (w .stays) (f′ .within) (f′ .holds),
+          ))
+
+-- A set or a collection.
+pub leaf-found : {s : Bytes} {at o e : ℕ} {a : Arena} {ns : List ℕ} {p : Place} (f : ℕ) (σ : Choices) → (f ≡ 0 → ⊥) → Signed headOp s at o e (scan spell heads (drop at s)) → o < 9 → Put a (o + 256 * 0 + 1048576 * 0) e ns p → Agree Holds s at a ns p (readTerm f σ (drop at s))
+unfolding Holds
+leaf-found {s} {at} {o} {e} {a} {ns} f σ h x l u =
+    let y = read-leaf f σ s at h x l in
+    put-found (base (y .0)) u (stays-refl a) (omega (arith, x .more)) (x .fits) (y .2) (λ k n w. subst (λ (c : ℕ). None ns k c) (sym (y .1)) (leaf-node w))

@@ -1,0 +1,55 @@
+-- `seek` passes nodes that are not the one sought.
+-- Assumes nothing.
+use Prim.Native.Nat.{ℕ, _≤_, _<_, _-_}
+use mathlib.Core.Path.{_≡_}
+use borrow.Author.Count.{below-more, below-none}
+use borrow.Author.Needs.{needs}
+use native.Mathlib.Omega.{arith}
+use lib.ListN.{getD}
+use Rattle.syntax.proofs.arena.seek.Statement.{statement}
+use Rattle.syntax.proofs.arena.seek.Tie as tie
+
+abbrev Inv-loop : tie.InvT-loop
+Inv-loop nodes n node i₀ i = (i ≤ n) × ((k : ℕ) → k < i → getD nodes k 0 ≡ node → ⊥)
+
+abbrev μ-loop : tie.MeasureT-loop
+μ-loop nodes n node i₀ i = n - i
+
+loop-holds : tie.Need-loop-holds Inv-loop μ-loop
+loop-holds c = (search needs, below-none _)
+
+mul-if1 : tie.Need-mul-if1 Inv-loop μ-loop
+mul-if1 c = search needs
+
+shared-slice-read-if1 : tie.Need-shared-slice-read-if1 Inv-loop μ-loop
+shared-slice-read-if1 c = search needs
+
+returns : tie.Need-returns Inv-loop μ-loop
+returns c = record { within = search needs; before = c .before .before .before .loop .inv .1; found = λ _. c .if1 .taken }
+
+add-i : tie.Need-add-i Inv-loop μ-loop
+add-i c = search needs
+
+loop-less : tie.Need-loop-less Inv-loop μ-loop
+loop-less c = search needs
+
+loop-again : tie.Need-loop-again Inv-loop μ-loop
+loop-again c = (search needs, below-more _ _ (c .before .before .before .loop .inv .1) (c .if1 .left))
+
+returns-2 : tie.Need-returns-2 Inv-loop μ-loop
+returns-2 c = record { within = search needs; before = c .before .loop .inv .1; found = λ h. absurd (omega arith) }
+
+pub seek-spec : {M : Type 1} → statement M
+seek-spec =
+    tie.close
+    (tie.spec
+    Inv-loop
+    μ-loop
+    loop-holds
+    mul-if1
+    shared-slice-read-if1
+    returns
+    add-i
+    loop-less
+    loop-again
+    returns-2)

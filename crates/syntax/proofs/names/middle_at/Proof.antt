@@ -1,0 +1,103 @@
+-- `middle_at` tries `,` behind `operations(`, and otherwise the signs of a bracket.
+-- Assumes nothing.
+use mathlib.Core.List.{[], _∷_}
+use native.Mathlib.Omega.{arith}
+use Rattle.syntax.specs.Term.{operations, meet, join, spellMiddle}
+use Rattle.syntax.specs.Arena.{twoOp}
+use Rattle.syntax.specs.Reading.{pair, away, jointOp, spellJoint}
+use Rattle.syntax.proofs.NameLaws.{from-these, past, here, nowhere}
+use Rattle.syntax.proofs.ReadingLaws.{joints-comma, joints-sign}
+use borrow.Author.Needs.{needs}
+use Rattle.syntax.proofs.names.middle_at.Statement.{statement}
+use Rattle.syntax.proofs.names.middle_at.Tie as tie
+
+slice-aggregate-stands : tie.Need-slice-aggregate-stands
+slice-aggregate-stands c = search needs
+
+stands-requires : tie.Need-stands-requires
+stands-requires c κs = search needs
+
+add-t12 : tie.Need-add-t12
+add-t12 c = search needs
+
+returns : tie.Need-returns
+unfolding spellJoint jointOp twoOp
+returns c = here (pair operations) [] (from-these (joints-comma _ (c .before .before .before .if1 .taken)) (c .before .before .before .before .before .pre)) (c .before .stands .ensures) (c .if2 .taken) (omega arith)
+
+returns-2 : tie.Need-returns-2
+unfolding spellJoint
+returns-2 c = nowhere (past (pair operations) [] (from-these (joints-comma _ (c .before .before .before .if1 .taken)) (c .before .before .before .before .before .pre)) (c .before .stands .ensures) (c .if2 .left))
+
+slice-aggregate-stands-2 : tie.Need-slice-aggregate-stands-2
+slice-aggregate-stands-2 c = search needs
+
+stands-requires-2 : tie.Need-stands-requires-2
+stands-requires-2 c κs = search needs
+
+add-t16 : tie.Need-add-t16
+add-t16 c = search needs
+
+returns-3 : tie.Need-returns-3
+unfolding spellJoint spellMiddle jointOp twoOp
+returns-3 c = here (pair meet) (pair join ∷ away ∷ []) (from-these (joints-sign _ (c .before .before .before .if1 .left)) (c .before .before .before .before .before .pre)) (c .before .stands2 .ensures) (c .if3 .taken) (omega arith)
+
+slice-aggregate-stands-3 : tie.Need-slice-aggregate-stands-3
+slice-aggregate-stands-3 c = search needs
+
+stands-requires-3 : tie.Need-stands-requires-3
+stands-requires-3 c κs = search needs
+
+add-t20 : tie.Need-add-t20
+add-t20 c = search needs
+
+returns-4 : tie.Need-returns-4
+unfolding spellJoint spellMiddle jointOp twoOp
+returns-4 c =
+    let f = past (pair meet) (pair join ∷ away ∷ []) (from-these (joints-sign _ (c .before .before .before .before .before .before .if1 .left)) (c .before .before .before .before .before .before .before .before .pre)) (c .before .before .before .before .stands2 .ensures) (c .before .before .before .if3 .left) in
+    here (pair join) (away ∷ []) f (c .before .stands3 .ensures) (c .if4 .taken) (omega arith)
+
+slice-aggregate-stands-4 : tie.Need-slice-aggregate-stands-4
+slice-aggregate-stands-4 c = search needs
+
+stands-requires-4 : tie.Need-stands-requires-4
+stands-requires-4 c κs = search needs
+
+add-t24 : tie.Need-add-t24
+add-t24 c = search needs
+
+returns-5 : tie.Need-returns-5
+unfolding spellJoint spellMiddle jointOp
+returns-5 c =
+    let f = past (pair meet) (pair join ∷ away ∷ []) (from-these (joints-sign _ (c .before .before .before .before .before .before .before .before .before .if1 .left)) (c .before .before .before .before .before .before .before .before .before .before .before .pre)) (c .before .before .before .before .before .before .before .stands2 .ensures) (c .before .before .before .before .before .before .if3 .left) in
+    let f′ = past (pair join) (away ∷ []) f (c .before .before .before .before .stands3 .ensures) (c .before .before .before .if4 .left) in
+    here away [] f′ (c .before .stands4 .ensures) (c .if5 .taken) (omega arith)
+
+returns-6 : tie.Need-returns-6
+unfolding spellJoint spellMiddle
+returns-6 c =
+    let f = past (pair meet) (pair join ∷ away ∷ []) (from-these (joints-sign _ (c .before .before .before .before .before .before .before .before .before .if1 .left)) (c .before .before .before .before .before .before .before .before .before .before .before .pre)) (c .before .before .before .before .before .before .before .stands2 .ensures) (c .before .before .before .before .before .before .if3 .left) in
+    let f′ = past (pair join) (away ∷ []) f (c .before .before .before .before .stands3 .ensures) (c .before .before .before .if4 .left) in
+    nowhere (past away [] f′ (c .before .stands4 .ensures) (c .if5 .left))
+
+pub middle-at-spec : {M : Type 1} → statement M
+middle-at-spec =
+    tie.close
+    (tie.spec
+    slice-aggregate-stands
+    stands-requires
+    add-t12
+    returns
+    returns-2
+    slice-aggregate-stands-2
+    stands-requires-2
+    add-t16
+    returns-3
+    slice-aggregate-stands-3
+    stands-requires-3
+    add-t20
+    returns-4
+    slice-aggregate-stands-4
+    stands-requires-4
+    add-t24
+    returns-5
+    returns-6)

@@ -1,0 +1,95 @@
+-- `join_clauses` joins from the last clause on: the rule of the clauses from k on is at a node.
+-- Assumes nothing.
+use mathlib.Core.Path.{refl}
+use Prim.Native.Nat.{_-_}
+use native.Mathlib.Omega.{arith}
+use borrow.Author.Needs.{needs}
+use Rattle.syntax.specs.Reading.{mk}
+use Rattle.syntax.proofs.ClauseLaws.{Joining, join-start, join-fresh, join-next, join-end, as-put, put-some}
+use Rattle.syntax.proofs.tests.join_clauses.Statement.{statement}
+use Rattle.syntax.proofs.tests.join_clauses.Tie as tie
+
+abbrev Inv-loop : tie.InvT-loop
+Inv-loop nodes₀ n list c next k₀ node₀ m₀ nodes k node m = Joining (mk nodes₀ n) list c (mk nodes m) k node
+
+abbrev μ-loop : tie.MeasureT-loop
+μ-loop nodes₀ n list c next k₀ node₀ m₀ nodes k node m = k
+
+sub-k : tie.Need-sub-k Inv-loop μ-loop
+sub-k c = omega (arith, c .before .before .pre .some)
+
+mul-node : tie.Need-mul-node Inv-loop μ-loop
+mul-node c = search needs
+
+shared-slice-read-node : tie.Need-shared-slice-read-node Inv-loop μ-loop
+shared-slice-read-node c = omega (arith, c .before .before .before .pre .some, c .before .before .before .pre .many)
+
+cast-node : tie.Need-cast-node Inv-loop μ-loop
+cast-node c = omega (arith, c .shared-slice-known2 .given (c .before .before .before .args .c - 1))
+
+loop-holds : tie.Need-loop-holds Inv-loop μ-loop
+loop-holds c = join-start (c .before .before .before .pre)
+
+sub-k-2 : tie.Need-sub-k-2 Inv-loop μ-loop
+sub-k-2 c = search needs
+
+mul-intern : tie.Need-mul-intern Inv-loop μ-loop
+mul-intern c = search needs
+
+shared-slice-read-intern : tie.Need-shared-slice-read-intern Inv-loop μ-loop
+shared-slice-read-intern c = omega (arith, c .before .before .before .loop .inv .left, c .before .before .before .before .before .before .before .pre .many)
+
+cast-intern : tie.Need-cast-intern Inv-loop μ-loop
+cast-intern c = omega (arith, c .shared-slice-known3 .given (c .before .before .before .loop .k - 1))
+
+intern-requires : tie.Need-intern-requires Inv-loop μ-loop
+intern-requires c κs = join-fresh (c .before .before .before .before .before .before .before .pre) (c .before .before .before .loop .inv) (omega arith)
+
+enum-known-p : tie.Need-enum-known-p Inv-loop μ-loop
+enum-known-p c = search needs
+
+enum-told : tie.Need-enum-told Inv-loop μ-loop
+enum-told c = search needs
+
+same-length : tie.Need-same-length Inv-loop μ-loop
+same-length c = put-some (c .before .before .before .before .intern .ensures) (c .enum-told .given .1)
+
+returns : tie.Need-returns Inv-loop μ-loop
+returns c = put-some (c .before .before .before .before .intern .ensures) (c .enum-told .given .1)
+
+loop-less : tie.Need-loop-less Inv-loop μ-loop
+loop-less c = omega arith
+
+loop-again : tie.Need-loop-again Inv-loop μ-loop
+loop-again c = join-next (c .before .before .before .before .before .before .before .before .before .before .before .before .before .pre) (c .before .before .before .before .before .before .before .before .before .loop .inv) (omega arith) (as-put (c .before .before .before .before .before .intern .ensures) (c .before .p .given .1))
+
+same-length-2 : tie.Need-same-length-2 Inv-loop μ-loop
+same-length-2 c = c .before .loop .inv .stays .size
+
+returns-2 : tie.Need-returns-2 Inv-loop μ-loop
+returns-2 c = join-end (c .before .before .before .before .before .pre) (c .before .loop .inv) (omega arith) refl
+
+pub join-clauses-spec : {M : Type 1} → statement M
+join-clauses-spec =
+    tie.close
+    (tie.spec
+    Inv-loop
+    μ-loop
+    sub-k
+    mul-node
+    shared-slice-read-node
+    cast-node
+    loop-holds
+    sub-k-2
+    mul-intern
+    shared-slice-read-intern
+    cast-intern
+    intern-requires
+    enum-known-p
+    enum-told
+    same-length
+    returns
+    loop-less
+    loop-again
+    same-length-2
+    returns-2)

@@ -1,0 +1,126 @@
+-- `read_clauses` reads clause after clause: those with `^` behind them are passed.
+-- Assumes nothing.
+use mathlib.Core.Path.{_∙_}
+use Prim.Native.Nat.{_-_, _<_}
+use native.Mathlib.Omega.{arith}
+use denote.Ref.{now}
+use lib.ListN.{length, length-set}
+use borrow.Author.Needs.{needs}
+use borrow.Author.Tests.{not-true, not-false}
+use Rattle.syntax.specs.Reading.{mk, noClause, someClauses}
+use Rattle.syntax.proofs.ArenaLaws.{knows-later}
+use Rattle.syntax.proofs.NameLaws.{hit, miss}
+use Rattle.syntax.proofs.ReadingLaws.{as-none, as-some}
+use Rattle.syntax.proofs.ClauseLaws.{Passing, pass-start, pass-ready, pass-none, pass-last, pass-more, pass-full}
+use Rattle.syntax.proofs.tests.read_clauses.Statement.{statement}
+use Rattle.syntax.proofs.tests.read_clauses.Tie as tie
+
+abbrev Inv-loop : tie.InvT-loop
+Inv-loop s start vars nodes₀ first left list₀ at₀ n₀ c₀ nodes list at n c = Passing s start vars (mk nodes₀ first) left (length list₀) list (mk nodes n) at c
+
+abbrev μ-loop : tie.MeasureT-loop
+μ-loop s start vars nodes₀ first left list₀ at₀ n₀ c₀ nodes list at n c = length list₀ - c
+
+loop-holds : tie.Need-loop-holds Inv-loop μ-loop
+loop-holds c = pass-start (c .before .before .before .before .pre)
+
+read-clause-requires : tie.Need-read-clause-requires Inv-loop μ-loop
+read-clause-requires c κs = pass-ready (c .before .before .loop .inv) (c .before .before .before .before .before .before .before .pre)
+
+enum-known-p : tie.Need-enum-known-p Inv-loop μ-loop
+enum-known-p c = search needs
+
+enum-told : tie.Need-enum-told Inv-loop μ-loop
+enum-told c = search needs
+
+same-length : tie.Need-same-length Inv-loop μ-loop
+same-length c = c .before .before .before .before .read-clause .kept .1 .1 .1 .0 ∙ c .before .before .before .before .before .before .before .loop .inv .stays .size
+
+same-length-2 : tie.Need-same-length-2 Inv-loop μ-loop
+same-length-2 c = c .before .before .before .before .before .before .before .loop .inv .size
+
+returns : tie.Need-returns Inv-loop μ-loop
+returns c = λ σ w.
+    let l : c .before .before .before .before .before .before .before .loop .c < length (now (c .before .before .before .before .before .before .before .before .before .before .before .before .args .list)) = omega (arith, c .before .before .before .before .before .before .before .loop .inv .size) in
+    noClause (pass-none (c .before .before .before .before .before .before .before .loop .inv) σ w l (as-none (c .before .before .before .before .read-clause .ensures σ (knows-later (c .before .before .before .before .before .before .before .loop .inv .stays) w)) (c .enum-told .given .1)))
+
+cast-list : tie.Need-cast-list Inv-loop μ-loop
+cast-list c =
+    let f = as-some (c .before .before .before .before .before .read-clause .ensures (c .before .before .before .before .before .before .before .before .before .before .before .before .before .pre .choices) (knows-later (c .before .before .before .before .before .before .before .before .loop .inv .stays) (c .before .before .before .before .before .before .before .before .before .before .before .before .before .pre .knows))) (c .before .p .given .1) in
+    omega (arith, f .within, f .tidy .fits, f .tidy .size)
+
+mul-list : tie.Need-mul-list Inv-loop μ-loop
+mul-list c = search needs
+
+slice-write-list : tie.Need-slice-write-list Inv-loop μ-loop
+slice-write-list c = omega arith
+
+add-c : tie.Need-add-c Inv-loop μ-loop
+add-c c = omega arith
+
+caret-at-requires : tie.Need-caret-at-requires Inv-loop μ-loop
+caret-at-requires c κs = as-some (c .before .before .before .before .before .read-clause .ensures (c .before .before .before .before .before .before .before .before .before .before .before .before .before .pre .choices) (knows-later (c .before .before .before .before .before .before .before .before .loop .inv .stays) (c .before .before .before .before .before .before .before .before .before .before .before .before .before .pre .knows))) (c .before .p .given .1) .end
+
+same-length-3 : tie.Need-same-length-3 Inv-loop μ-loop
+same-length-3 c = c .before .before .before .before .before .before .before .read-clause .kept .1 .1 .1 .0 ∙ c .before .before .before .before .before .before .before .before .before .before .loop .inv .stays .size
+
+same-length-4 : tie.Need-same-length-4 Inv-loop μ-loop
+same-length-4 c = simp length-set (c .before .before .before .before .before .before .before .before .before .before .loop .inv .size)
+
+returns-2 : tie.Need-returns-2 Inv-loop μ-loop
+returns-2 c = λ σ w.
+    let l : c .before .before .before .before .before .before .before .before .before .before .loop .c < length (now (c .before .before .before .before .before .before .before .before .before .before .before .before .before .before .before .args .list)) = omega (arith, c .before .before .before .before .before .before .before .before .before .before .loop .inv .size) in
+    let f = as-some (c .before .before .before .before .before .before .before .read-clause .ensures σ (knows-later (c .before .before .before .before .before .before .before .before .before .before .loop .inv .stays) w)) (c .before .before .before .p .given .1) in
+    someClauses (pass-last (c .before .before .before .before .before .before .before .before .before .before .loop .inv) σ w l f (miss (c .before .caret-at .ensures) (not-true _ (c .if1 .taken))))
+
+add-at : tie.Need-add-at Inv-loop μ-loop
+add-at c =
+    let f = as-some (c .before .before .before .before .before .before .before .read-clause .ensures (c .before .before .before .before .before .before .before .before .before .before .before .before .before .before .before .pre .choices) (knows-later (c .before .before .before .before .before .before .before .before .before .before .loop .inv .stays) (c .before .before .before .before .before .before .before .before .before .before .before .before .before .before .before .pre .knows))) (c .before .before .before .p .given .1) in
+    omega (arith, c .before .before .before .before .before .before .before .before .before .before .before .before .before .before .before .pre .room, c .before .before .before .before .before .before .before .before .before .before .before .before .before .before .before .pre .tidy .size, f .end)
+
+loop-less : tie.Need-loop-less Inv-loop μ-loop
+loop-less c = omega (arith, c .before .before .before .before .before .before .before .before .before .before .loop .inv .size)
+
+loop-again : tie.Need-loop-again Inv-loop μ-loop
+loop-again c =
+    let l : c .before .before .before .before .before .before .before .before .before .before .loop .c < length (now (c .before .before .before .before .before .before .before .before .before .before .before .before .before .before .before .args .list)) = omega (arith, c .before .before .before .before .before .before .before .before .before .before .loop .inv .size) in
+    let f = as-some (c .before .before .before .before .before .before .before .read-clause .ensures (c .before .before .before .before .before .before .before .before .before .before .before .before .before .before .before .pre .choices) (knows-later (c .before .before .before .before .before .before .before .before .before .before .loop .inv .stays) (c .before .before .before .before .before .before .before .before .before .before .before .before .before .before .before .pre .knows))) (c .before .before .before .p .given .1) in
+    let h = hit (c .before .caret-at .ensures) (not-false _ (c .if1 .left)) (f .end) in
+    pass-more (c .before .before .before .before .before .before .before .before .before .before .loop .inv) (c .before .before .before .before .before .before .before .before .before .before .before .before .before .before .before .pre .choices) l f (c .before .before .before .before .before .before .before .before .before .before .before .before .before .before .before .pre .knows) h (λ σ w. as-some (c .before .before .before .before .before .before .before .read-clause .ensures σ (knows-later (c .before .before .before .before .before .before .before .before .before .before .loop .inv .stays) w)) (c .before .before .before .p .given .1))
+
+same-length-5 : tie.Need-same-length-5 Inv-loop μ-loop
+same-length-5 c = c .before .loop .inv .stays .size
+
+same-length-6 : tie.Need-same-length-6 Inv-loop μ-loop
+same-length-6 c = c .before .loop .inv .size
+
+returns-3 : tie.Need-returns-3 Inv-loop μ-loop
+returns-3 c = λ σ w. noClause (pass-full (c .before .loop .inv) σ w (omega (arith, c .before .loop .inv .size)))
+
+pub read-clauses-spec : {M : Type 1} → statement M
+read-clauses-spec =
+    tie.close
+    (tie.spec
+    Inv-loop
+    μ-loop
+    loop-holds
+    read-clause-requires
+    enum-known-p
+    enum-told
+    same-length
+    same-length-2
+    returns
+    cast-list
+    mul-list
+    slice-write-list
+    add-c
+    caret-at-requires
+    same-length-3
+    same-length-4
+    returns-2
+    add-at
+    loop-less
+    loop-again
+    same-length-5
+    same-length-6
+    returns-3)

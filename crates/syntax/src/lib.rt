@@ -1,0 +1,59 @@
+// The reader of rules and of formulas: the whole text as a tree of nodes.
+// arena: the nodes; names: fixed byte strings; terms, tests and formulas: a reader for each form of the language.
+ghost use Prim.Native.Nat.{ℕ, _≤_};
+ghost use mathlib.Core.List.{List, []};
+ghost use lib.ListN.{length};
+ghost use Rattle.syntax.specs.Bytes.{Read};
+ghost use Rattle.syntax.specs.Rule.{Rule, whole, ruleOf, readFormula};
+ghost use Rattle.syntax.specs.Arena.{HoldsRule};
+ghost use Rattle.syntax.specs.Reading.{mk, Agree, Reads};
+
+mod arena;
+mod formulas;
+mod names;
+mod terms;
+mod tests;
+
+use arena::Place;
+use formulas::read_formula;
+use tests::read_rule;
+
+// What a whole text is: nothing, or the tree at a node, in n nodes.
+pub enum Whole {
+    Nothing,
+    Root { node: usize, n: usize },
+}
+
+// Nothing may be left behind what was read.
+fn ended(s: &[u8], p: Place) -> Whole
+    ensures { λ r. ⌜ ((ns₀ ns : List ℕ) (o : Read Rule) → Agree HoldsRule (now (s .entry)) 0 (mk ns₀ 0) ns p o → Reads (now (s .entry)) ns r (whole o)) ⌝ }
+{
+    let Place::Got { node, next, n } = p else {
+        return Whole::Nothing;
+    };
+    if next < s.len() {
+        return Whole::Nothing;
+    }
+    Whole::Root { node: node, n: n }
+}
+
+// The rule that s is the text of.
+pub fn rule(s: &[u8], nodes: &mut [u32]) -> Whole
+    requires { ⌜ (length (now s) ≤ length (now nodes)) × (length (now nodes) ≤ 4096) ⌝ }
+    ensures { λ r. ⌜ Reads (now (s .entry)) (now (nodes .exit)) r (ruleOf (now (s .entry))) ⌝ }
+{
+    let none = [0u32; 1];
+    let mut list = [0u32; 4096];
+    let p = read_rule(s, 0, &none[..0], nodes, 0, s.len(), &mut list[..s.len()]);
+    ended(s, p)
+}
+
+// The rule that s is the formula of, with at most 8 quantifiers and brackets at most 512 deep.
+pub fn formula(s: &[u8], nodes: &mut [u32]) -> Whole
+    requires { ⌜ (length (now s) ≤ length (now nodes)) × (length (now nodes) ≤ 4096) ⌝ }
+    ensures { λ r. ⌜ Reads (now (s .entry)) (now (nodes .exit)) r (whole (readFormula 512 9 [] (now (s .entry)))) ⌝ }
+{
+    let mut vars = [0u32; 8];
+    let p = read_formula(s, 0, &mut vars, 0, nodes, 0);
+    ended(s, p)
+}
