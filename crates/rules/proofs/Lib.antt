@@ -1,0 +1,12 @@
+-- Laws of the checks on a rule: kinds, variables, lengths.
+pub mod TableLaws
+pub mod NodeLaws
+pub mod KindLaws
+pub mod SurplusLaws
+pub mod VariableLaws
+pub mod WalkLaws
+pub mod LengthLaws
+pub mod FormulaLengthLaws
+pub mod AcceptLaws
+pub mod ParseLaws
+pub mod Examples

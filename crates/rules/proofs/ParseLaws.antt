@@ -1,0 +1,142 @@
+-- From the checks on a text and on its tree to what a parsed rule is.
+-- Assumes nothing.
+use mathlib.Core.Path.{_≡_, ap, sym, _∙_}
+use mathlib.Core.Bool.{false}
+use mathlib.Core.List.{List, []}
+use mathlib.Core.Option.{Option, none, some}
+use mathlib.Core.Logic.{⊎-elim}
+use Prim.Native.Nat.{ℕ, _<_, _≤_}
+use native.Mathlib.Omega.{arith}
+use lib.Dec.{eqb}
+use lib.ListN.{length, getD, take}
+use lib.Seq.{getD-take, length-take-le}
+use borrow.Author.Tests.{eq-eqb, ne-eqb}
+use Rattle.answers.specs.declared.Refusal.{Refusal}
+use Rattle.answers.specs.declared.Refusal.the-variants.{RuleLength, Unkind, Choices}
+use Rattle.syntax.specs.Bytes.{Bytes}
+use Rattle.syntax.specs.Rule.{Rule, ruleText, ruleVars, formula, ruleOf}
+use Rattle.syntax.specs.Arena.{HoldsRule}
+use Rattle.syntax.specs.Reading.{Rooted, Reads, noRule, someRule}
+use Rattle.syntax.specs.declared.Whole.{Whole}
+use Rattle.syntax.specs.declared.Whole.the-variants.{Nothing, Root}
+use Rattle.syntax.proofs.RuleLaws.{rule-text}
+use Rattle.syntax.proofs.Length.{formula-short}
+use Rattle.rules.specs.declared.Checked.the-variants.{Refused, Accepted}
+use Rattle.rules.specs.declared.Weighed.{Weighed}
+use Rattle.rules.specs.declared.Weighed.the-variants.{Unfit, Variables}
+use Rattle.rules.specs.declared.Found.{Found}
+use Rattle.rules.specs.declared.Found.the-variants.{Turned, Rule as Tree}
+use Rattle.rules.specs.Kind.{ruleKinds}
+use Rattle.rules.specs.Accept.{deep, treeRefusal, refusal}
+use Rattle.rules.specs.Numbers.{Kinded}
+use Rattle.rules.specs.Variables.{VarsOf}
+use Rattle.rules.specs.Lengths.{LengthsOf, FormulaLength}
+use Rattle.rules.specs.Parsed.{RuleAt, Fitted, Weighs, unfit, fit, Finds, turned, found, Parses}
+use Rattle.rules.proofs.AcceptLaws.{refuse-long, refuse-tree, tree-unkind, tree-choices, tree-fits}
+use Rattle.rules.proofs.NodeLaws.{lt-or-le}
+use Rattle.rules.proofs.VariableLaws.{listed-count}
+
+-- The checks on a tree.
+module _ {ns : List ℕ} {n root : ℕ} {ks : List ℕ} {x : ℕ} (kinds : Kinded ns n ks) (within : root < n) (at : x ≡ getD ks root 15) where
+  rule-kinds : (ρ : Rule) → HoldsRule ns root ρ → eqb x 16 ≡ ruleKinds ρ
+  rule-kinds ρ h = rw at (kinds .at root within .rule ρ h)
+
+  pub weigh-unkind : {vs : List ℕ} → (x ≡ 16 → ⊥) → Weighs ns n root ks vs (Unfit Unkind)
+  weigh-unkind e = unfit (λ ρ h. tree-unkind ρ (sym (rule-kinds ρ h) ∙ ne-eqb x 16 e))
+
+  module _ {vs : List ℕ} {c : ℕ} (e : x ≡ 16) (vars : VarsOf ns n root vs c) where
+    pub weigh-choices : 8 < c → Weighs ns n root ks vs (Unfit Choices)
+    weigh-choices many = unfit (λ ρ h. tree-choices ρ (sym (rule-kinds ρ h) ∙ eq-eqb x 16 e) (vars .listed ρ h .more many))
+
+    pub weigh-fit : c ≤ 8 → Weighs ns n root ks vs (Variables c)
+    weigh-fit few = fit go
+      where
+        go : (ρ : Rule) → HoldsRule ns root ρ → Fitted ns n ks vs c ρ
+        go ρ h =
+            let l = vars .listed ρ h in
+            let q = listed-count (vars .size) l few in
+            let w : length (take c vs) ≡ c = length-take-le c vs (omega (arith, vars .size)) in
+            record {
+              refuses = tree-fits ρ (sym (rule-kinds ρ h) ∙ eq-eqb x 16 e) (omega arith);
+              kinds = kinds;
+              knows = record { holds = l .held few; below = λ i z. let y : i < c = omega arith in rw (getD-take c vs i 0 y) (l .below i y (omega arith)) };
+              counted = q;
+              few = few;
+            }
+
+-- What an answer says.
+
+pub as-unfit : {ns : List ℕ} {n root : ℕ} {ks vs : List ℕ} {w : Weighed} {r : Refusal} → Weighs ns n root ks vs w → w ≡ Unfit r → (ρ : Rule) → HoldsRule ns root ρ → treeRefusal ρ ≡ some r
+as-unfit {r = r} (unfit {r = r′} f) q ρ h = let e : r′ ≡ r = cc in f ρ h ∙ ap some e
+as-unfit (fit f) q ρ h = let z : _≡_ {A = ℕ} 0 1 = cc in absurd (omega arith)
+
+pub as-fit : {ns : List ℕ} {n root : ℕ} {ks vs : List ℕ} {w : Weighed} {c : ℕ} → Weighs ns n root ks vs w → w ≡ Variables c → (ρ : Rule) → HoldsRule ns root ρ → Fitted ns n ks vs c ρ
+as-fit (unfit f) q ρ h = let z : _≡_ {A = ℕ} 0 1 = cc in absurd (omega arith)
+as-fit {c = c} (fit {count = c′} f) q ρ h = let e : c′ ≡ c = cc in rw e at (f ρ h)
+
+pub as-nothing : {s ns : List ℕ} {w : Whole} {o : Option Rule} → Reads s ns w o → w ≡ Nothing → o ≡ none
+as-nothing (noRule e) q = e
+as-nothing (someRule f) q = let z : _≡_ {A = ℕ} 0 1 = cc in absurd (omega arith)
+
+pub as-root : {s ns : List ℕ} {w : Whole} {o : Option Rule} {k n : ℕ} → Reads s ns w o → w ≡ Root k n → Rooted s ns k n o
+as-root (noRule e) q = let z : _≡_ {A = ℕ} 0 1 = cc in absurd (omega arith)
+as-root {k = k} {n = n} (someRule {k = k′} {n = n′} f) q =
+    let e : k′ ≡ k = cc in
+    let g : n′ ≡ n = cc in
+    rw e at (rw g at f)
+
+-- The checks on a text whose tree was read.
+module _ {s ns : List ℕ} {n root : ℕ} {ks vs : List ℕ} {w : Weighed} (lo : 0 < length s) (hi : length s ≤ 256) (d : deep 0 0 s ≡ false) (t : Rooted s ns root n (ruleOf s)) (x : Weighs ns n root ks vs w) where
+  pub find-unfit : {r : Refusal} → w ≡ Unfit r → Finds s ns ks vs (Turned r)
+  find-unfit q = turned (refuse-tree s lo hi d (t .is) ∙ as-unfit x q (t .rule) (t .holds))
+
+  pub find-rule : {c : ℕ} → w ≡ Variables c → Finds s ns ks vs (Tree n root c)
+  find-rule q =
+      let f = as-fit x q (t .rule) (t .holds) in
+      found (refuse-tree s lo hi d (t .is) ∙ f .refuses)
+      (record {
+        tree = t .rule;
+        reads = t .is;
+        holds = t .holds;
+        within = t .within;
+        tidy = t .tidy;
+        kinds = f .kinds;
+        knows = f .knows;
+        counted = f .counted;
+        few = f .few;
+      })
+
+-- A parsed text.
+
+pub parse-turned : {s ns ks vs : List ℕ} {f : Found} {r : Refusal} (n root count : ℕ) → Finds s ns ks vs f → f ≡ Turned r → Parses s ns ks vs (Refused r) n root count
+parse-turned {r = r} n root count (turned {r = r′} e) q =
+    let g : r′ ≡ r = cc in
+    record { outcome = rw (e, g); accepted = λ z. let y : _≡_ {A = ℕ} 0 1 = cc in absurd (omega arith) }
+parse-turned n root count (found e a) q = let z : _≡_ {A = ℕ} 0 1 = cc in absurd (omega arith)
+
+pub parse-found : {s ns ks vs : List ℕ} {f : Found} {n root count : ℕ} → Finds s ns ks vs f → f ≡ Tree n root count → Parses s ns ks vs Accepted n root count
+parse-found (turned e) q = let z : _≡_ {A = ℕ} 0 1 = cc in absurd (omega arith)
+parse-found {n = n} {root = root} {count = count} (found {n = n′} {root = root′} {count = count′} e a) q =
+    let g : n′ ≡ n = cc in
+    let h : root′ ≡ root = cc in
+    let i : count′ ≡ count = cc in
+    record { outcome = rw e; accepted = λ _. rw g at (rw h at (rw i at a)) }
+
+-- An accepted text has 1 to 256 bytes, and its formula at most 4,096, so that its length is told exactly.
+
+pub accepted-short : (s : Bytes) → refusal s ≡ none → length s ≤ 256
+accepted-short s e = ⊎-elim (λ (h : 256 < length s). absurd (clash (refuse-long s h))) (λ (h : length s ≤ 256). h) (lt-or-le 256 (length s))
+  where
+    clash : refusal s ≡ some RuleLength → ⊥
+    clash q = let z : _≡_ {A = ℕ} 0 1 = cc in omega arith
+
+pub formula-bounded : {s ns : List ℕ} {n root : ℕ} {ks vs : List ℕ} {c : ℕ} → refusal s ≡ none → (a : RuleAt s ns n root ks vs c) → length (formula (a .tree)) ≤ 4096
+formula-bounded {s} e a =
+    let t = rule-text s (a .tree) (a .reads) .0 in
+    let h : length (ruleText [] (a .tree)) ≤ 256 = rw t at (accepted-short s e) in
+    formula-short (a .tree) h (omega (arith, a .counted, a .few))
+
+pub formula-exact : {s ns : List ℕ} {n root : ℕ} {ks vs ls : List ℕ} {c r : ℕ} → refusal s ≡ none → (a : RuleAt s ns n root ks vs c) → LengthsOf ns n (take c vs) ls → FormulaLength ls (take c vs) root r → r ≡ length (formula (a .tree))
+formula-exact {ns = ns} {n = n} e a l f =
+    let b = formula-bounded e a in
+    f .is ns n (a .tree) (a .within) (a .holds) (a .knows) (l .measured (ruleVars [] (a .tree)) (a .knows)) ∙ omega arith

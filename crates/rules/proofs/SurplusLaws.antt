@@ -1,0 +1,194 @@
+-- The running bracket surplus, one byte at a time, against the counts of brackets.
+-- Assumes nothing.
+use mathlib.Core.Path.{_≡_, refl, ap, sym, _∙_}
+use mathlib.Core.List.{List, _∷_}
+use mathlib.Core.Bool.{Bool, true, false, _||_, cond}
+use mathlib.Core.Logic.{⊎-elim}
+use Prim.Native.Nat.{ℕ, suc, _+_, _-_, _<_, _≤_}
+use native.Mathlib.Omega.{arith}
+use native.Mathlib.Numerals.{add-one}
+use lib.Dec.{eqb, ltb}
+use lib.IntN.{ℤ, pos, negsuc, subℕ, _+ℤ_, _-ℤ_}
+use lib.ListN.{length, drop, getD, drop-of-length-le}
+use lib.Seq.{drop-cons}
+use lib.Signed.{mag, ltZ}
+use mir.Syntax.{w32}
+use mir.Val.{SFits, toZ, ofZ}
+use mir.ValLaws.{toZ-ofZ}
+use borrow.Author.Tests.{lt-ltb, le-ltb, ltb-false}
+use Rattle.rules.specs.Accept.{deep}
+use Rattle.rules.specs.Surplus.{stepped, Read}
+use Rattle.rules.proofs.NodeLaws.{lt-or-le}
+
+-- A difference hangs on nothing but the difference.
+sub-same : (a b p q : ℕ) → a + q ≡ p + b → subℕ a b ≡ subℕ p q
+sub-same a b p q e = ⊎-elim less more (lt-or-le a b)
+  where
+    less : a < b → subℕ a b ≡ subℕ p q
+    less h =
+        let l : p < q = omega arith in
+        let m : b - suc a ≡ q - suc p = omega arith in
+        rw (lt-ltb a b h, lt-ltb p q l, m)
+
+    more : b ≤ a → subℕ a b ≡ subℕ p q
+    more h =
+        let l : q ≤ p = omega arith in
+        let m : a - b ≡ p - q = omega arith in
+        rw (le-ltb a b h, le-ltb p q l, m)
+
+sub-up : (o c : ℕ) → subℕ o c +ℤ pos 1 ≡ subℕ (suc o) c
+sub-up o c = ⊎-elim less more (lt-or-le o c)
+  where
+    less : o < c → subℕ o c +ℤ pos 1 ≡ subℕ (suc o) c
+    less h = rw (lt-ltb o c h) (sub-same 1 (suc (c - suc o)) (suc o) c (omega arith))
+
+    more : c ≤ o → subℕ o c +ℤ pos 1 ≡ subℕ (suc o) c
+    more h =
+        let l : c ≤ suc o = omega arith in
+        let m : o - c + 1 ≡ suc o - c = omega arith in
+        rw (le-ltb o c h, le-ltb (suc o) c l, m)
+
+sub-down : (o c : ℕ) → subℕ o c -ℤ pos 1 ≡ subℕ o (suc c)
+sub-down o c = ⊎-elim less more (lt-or-le o c)
+  where
+    less : o < c → subℕ o c -ℤ pos 1 ≡ subℕ o (suc c)
+    less h =
+        let l : o < suc c = omega arith in
+        let m : suc (c - suc o + 0) ≡ suc c - suc o = omega arith in
+        rw (lt-ltb o c h, lt-ltb o (suc c) l, m)
+
+    more : c ≤ o → subℕ o c -ℤ pos 1 ≡ subℕ o (suc c)
+    more h = rw (le-ltb o c h) (sub-same (o - c) 1 o (suc c) (omega arith))
+
+mag-sub : (o c : ℕ) → mag (subℕ o c) ≤ o + c
+mag-sub o c = ⊎-elim less more (lt-or-le o c)
+  where
+    less : o < c → mag (subℕ o c) ≤ o + c
+    less h = rw (lt-ltb o c h) (omega arith)
+
+    more : c ≤ o → mag (subℕ o c) ≤ o + c
+    more h = rw (le-ltb o c h) (omega arith)
+
+sub-over : (o c : ℕ) → ltZ (pos 32) (subℕ o c) ≡ ltb (c + 32) o
+sub-over o c = ⊎-elim less more (lt-or-le o c)
+  where
+    less : o < c → ltZ (pos 32) (subℕ o c) ≡ ltb (c + 32) o
+    less h =
+        let l : o ≤ c + 32 = omega arith in
+        rw (lt-ltb o c h, le-ltb (c + 32) o l)
+
+    at : (n : ℕ) → n + c ≡ o → ltb 32 n ≡ ltb (c + 32) o
+    at n e = ⊎-elim
+        (λ (h : 32 < n). let l : c + 32 < o = omega arith in rw (lt-ltb 32 n h, lt-ltb (c + 32) o l))
+        (λ (h : n ≤ 32). let l : o ≤ c + 32 = omega arith in rw (le-ltb 32 n h, le-ltb (c + 32) o l))
+        (lt-or-le 32 n)
+
+    more : c ≤ o → ltZ (pos 32) (subℕ o c) ≡ ltb (c + 32) o
+    more h = rw (le-ltb o c h) (at (o - c) (omega arith))
+
+-- A byte more, by what it is.
+deep-open : (o c x : ℕ) (s : List ℕ) → eqb x 40 ≡ true → deep o c (x ∷ s) ≡ (ltb (c + 32) (suc o) || deep (suc o) c s)
+unfolding deep
+deep-open o c x s e = rw (e, deep)
+
+deep-close : (o c x : ℕ) (s : List ℕ) → eqb x 40 ≡ false → eqb x 41 ≡ true → deep o c (x ∷ s) ≡ deep o (suc c) s
+unfolding deep
+deep-close o c x s e f = rw (e, f, deep)
+
+deep-other : (o c x : ℕ) (s : List ℕ) → eqb x 40 ≡ false → eqb x 41 ≡ false → deep o c (x ∷ s) ≡ deep o c s
+unfolding deep
+deep-other o c x s e f = rw (e, f, deep)
+
+pub read-none : (s : List ℕ) → Read s 0 (pos 0)
+read-none s = record { opened = 0; closed = 0; is = refl; few = omega arith; low = omega arith; same = refl }
+
+pub read-mag : {s : List ℕ} {i : ℕ} {z : ℤ} → Read s i z → mag z ≤ i
+read-mag {s} {i} {z} r = rw (r .is) (omega (arith, mag-sub (r .opened) (r .closed)))
+
+pub read-end : {s : List ℕ} {i : ℕ} {z : ℤ} → Read s i z → length s ≤ i → false ≡ deep 0 0 s
+unfolding deep
+read-end {s} r h = rw (drop-of-length-le s h) at (r .same)
+
+-- The counts after the byte at i, and whether their difference passes 32.
+record Next (s : List ℕ) (i : ℕ) (z : ℤ) : Type 0 where
+  opened : ℕ
+  closed : ℕ
+  is : z ≡ subℕ opened closed
+  few : opened + closed ≤ i + 1
+  same : (ltb (closed + 32) opened || deep opened closed (drop (i + 1) s)) ≡ deep 0 0 s
+
+module _ {s : List ℕ} {i : ℕ} {z w : ℤ} (r : Read s i z) (h : i < length s) (e : w ≡ stepped (getD s i 0) z) where
+  next : Next s i w
+  unfolding stepped
+  next = go (eqb (getD s i 0) 40) (eqb (getD s i 0) 41) refl refl
+    where
+      at : deep (r .opened) (r .closed) (getD s i 0 ∷ drop (i + 1) s) ≡ deep 0 0 s
+      at = rw (add-one, ← drop-cons s i 0 h) (r .same)
+
+      go : (t u : Bool) → eqb (getD s i 0) 40 ≡ t → eqb (getD s i 0) 41 ≡ u → Next s i w
+      go true u p q =
+          record {
+            opened = suc (r .opened);
+            closed = r .closed;
+            is = e ∙ rw (p, r .is) (sub-up (r .opened) (r .closed));
+            few = omega (arith, r .few);
+            same = sym (deep-open (r .opened) (r .closed) (getD s i 0) (drop (i + 1) s) p) ∙ at;
+          }
+      go false true p q =
+          let l : r .opened ≤ suc (r .closed) + 32 = omega (arith, r .low) in
+          record {
+            opened = r .opened;
+            closed = suc (r .closed);
+            is = e ∙ rw (p, q, r .is) (sub-down (r .opened) (r .closed));
+            few = omega (arith, r .few);
+            same = rw (le-ltb (suc (r .closed) + 32) (r .opened) l) (sym (deep-close (r .opened) (r .closed) (getD s i 0) (drop (i + 1) s) p q) ∙ at);
+          }
+      go false false p q =
+          record {
+            opened = r .opened;
+            closed = r .closed;
+            is = e ∙ rw (p, q) (r .is);
+            few = omega (arith, r .few);
+            same = rw (le-ltb (r .closed + 32) (r .opened) (r .low)) (sym (deep-other (r .opened) (r .closed) (getD s i 0) (drop (i + 1) s) p q) ∙ at);
+          }
+
+  pub read-over : ltZ (pos 32) w ≡ true → true ≡ deep 0 0 s
+  read-over p =
+      let n = next in
+      let q : ltb (n .closed + 32) (n .opened) ≡ true = sym (sub-over (n .opened) (n .closed)) ∙ ap (ltZ (pos 32)) (sym (n .is)) ∙ p in
+      rw q at (n .same)
+
+  pub read-next : ltZ (pos 32) w ≡ false → Read s (i + 1) w
+  read-next p =
+      let n = next in
+      let q : ltb (n .closed + 32) (n .opened) ≡ false = sym (sub-over (n .opened) (n .closed)) ∙ ap (ltZ (pos 32)) (sym (n .is)) ∙ p in
+      record {
+        opened = n .opened;
+        closed = n .closed;
+        is = n .is;
+        few = n .few;
+        low = ltb-false (n .closed + 32) (n .opened) q;
+        same = rw q at (n .same);
+      }
+
+-- A small surplus fits an i32, and one bracket more too.
+fits : {z : ℤ} → mag z ≤ 512 → SFits w32 z
+fits h = record { sfits = omega arith }
+
+pub up-fits : (z : ℤ) → mag z ≤ 256 → SFits w32 (z +ℤ pos 1)
+up-fits (pos n) h = fits (omega arith)
+up-fits (negsuc n) h = fits (omega (arith, mag-sub 1 (suc n)))
+
+pub down-fits : (z : ℤ) → mag z ≤ 256 → SFits w32 (z -ℤ pos 1)
+down-fits (pos n) h = fits (omega (arith, mag-sub n 1))
+down-fits (negsuc n) h = fits (omega arith)
+
+-- The surplus after a byte, as the machine reads it back from its bits.
+pub stepped-back : {w : ℤ} (b : ℕ) (z : ℤ) → mag z ≤ 256 → w ≡ stepped b z → toZ w32 (ofZ w32 w) ≡ stepped b z
+unfolding stepped
+stepped-back {w} b z h e = rw e (toZ-ofZ w32 (stepped b z) (go (eqb b 40) (eqb b 41)))
+  where
+    go : (t u : Bool) → SFits w32 (cond t (z +ℤ pos 1) (cond u (z -ℤ pos 1) z))
+    go true u = up-fits z h
+    go false true = down-fits z h
+    go false false = fits (omega arith)

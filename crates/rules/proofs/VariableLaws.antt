@@ -1,0 +1,161 @@
+-- The digit of a choice is found among the nodes of the choices, and a node more makes a choice more.
+-- Assumes nothing.
+use mathlib.Core.Path.{_≡_, refl, ap, sym, _∙_}
+use mathlib.Core.Bool.{cond}
+use mathlib.Core.List.{List, [], _∷_, _++_}
+use mathlib.Core.Logic.{⊎-elim}
+use mathlib.Core.Option.{Option, none, some}
+use Prim.Native.Nat.{ℕ, suc, _+_, _<_, _≤_}
+use native.Mathlib.Nat.{eq-or-lt-of-le}
+use native.Mathlib.Numerals.{add-one}
+use native.Mathlib.Omega.{arith}
+use lib.Dec.{eqb, ltb}
+use lib.ListN.{length, getD, take, drop, set, length-append, drop-of-length-le}
+use lib.Seq.{drop-cons, getD-take, length-take-le, take-suc-set, getD-set-same, getD-set-other}
+use borrow.Author.Tests.{eq-eqb, ne-eqb, lt-ltb, le-ltb}
+use Rattle.syntax.specs.Term.{Term, Term≟, Choices, digitFrom, digit}
+use Rattle.syntax.specs.Rule.{add}
+use Rattle.syntax.specs.Arena.{Holds, HoldsAll, Apart}
+use Rattle.rules.specs.Variables.{findFrom, Sought, Listed, Added, many, known, over, new}
+use Rattle.syntax.proofs.ArenaLaws.{holds-once, holds-one}
+
+-- A search from the front, one node at a time.
+module _ (xs : List ℕ) (v d i : ℕ) where
+  find-end : length xs ≤ i → findFrom d (drop i xs) v ≡ none
+  unfolding findFrom
+  find-end h = rw (drop-of-length-le xs h)
+
+  find-here : i < length xs → getD xs i 0 ≡ v → findFrom d (drop i xs) v ≡ some d
+  unfolding findFrom
+  find-here h e = rw (drop-cons xs i 0 h, eq-eqb (getD xs i 0) v e)
+
+  find-on : i < length xs → (getD xs i 0 ≡ v → ⊥) → findFrom d (drop i xs) v ≡ findFrom (suc d) (drop (i + 1) xs) v
+  unfolding findFrom
+  find-on h e = rw (drop-cons xs i 0 h, ne-eqb (getD xs i 0) v e, add-one)
+
+-- The first i of c nodes are not v.
+pub record Passed (vs : List ℕ) (c v i : ℕ) : Type 0 where
+  pub within : i ≤ c
+  pub is : findFrom 49 (take c vs) v ≡ findFrom (49 + i) (drop i (take c vs)) v
+
+pub passed-none : (vs : List ℕ) (c v : ℕ) → Passed vs c v 0
+passed-none vs c v = record { within = omega arith; is = refl }
+
+module _ {vs : List ℕ} {c v i : ℕ} (h : c ≤ length vs) (p : Passed vs c v i) where
+  pub sought-here : i < c → getD vs i 0 ≡ v → Sought vs c v i
+  sought-here l e =
+      let q : length (take c vs) ≡ c = length-take-le c vs h in
+      record {
+        within = p .within;
+        is = p .is ∙ find-here (take c vs) v (49 + i) i (omega arith) (getD-take c vs i 0 l ∙ e) ∙ rw (lt-ltb i c l);
+      }
+
+  pub sought-none : c ≤ i → Sought vs c v i
+  sought-none l =
+      let q : length (take c vs) ≡ c = length-take-le c vs h in
+      record { within = p .within; is = p .is ∙ find-end (take c vs) v (49 + i) i (omega arith) ∙ rw (le-ltb i c l) }
+
+  pub passed-next : i < c → (getD vs i 0 ≡ v → ⊥) → Passed vs c v (i + 1)
+  passed-next l e =
+      let q : length (take c vs) ≡ c = length-take-le c vs h in
+      let m : 49 + (i + 1) ≡ suc (49 + i) = omega arith in
+      record {
+        within = omega arith;
+        is = p .is ∙ find-on (take c vs) v (49 + i) i (omega arith) (λ x. e (sym (getD-take c vs i 0 l) ∙ x)) ∙ ap (λ (d : ℕ). findFrom d (drop (i + 1) (take c vs)) v) (sym m);
+      }
+
+-- The digit of a choice is that of its node: equal terms have equal nodes.
+module _ (ns : List ℕ) (n : ℕ) (apart : Apart ns n) (v : ℕ) (a : Term) (x : Holds ns v a) (h : v < n) where
+  pub digit-found : (d : ℕ) (vs : List ℕ) (σ : Choices) → HoldsAll ns vs σ → ((i : ℕ) → i < length vs → getD vs i 0 < n) → digitFrom d σ a ≡ findFrom d vs v
+  unfolding digitFrom findFrom
+  digit-found d [] [] y l = refl
+  digit-found d [] (b ∷ σ) y l = absurd y
+  digit-found d (w ∷ vs) [] y l = absurd y
+  digit-found d (w ∷ vs) (b ∷ σ) y l = go (Term≟ b a) (digit-found (suc d) vs σ (y .1) (λ i m. l (suc i) (omega arith)))
+    where
+      go : (q : Dec (b ≡ a)) → digitFrom (suc d) σ a ≡ findFrom (suc d) vs v → _≡_ {A = Option ℕ} (elim q [ yes p ↦ some d | no m ↦ digitFrom (suc d) σ a ]) (cond (eqb w v) (some d) (findFrom (suc d) vs v))
+      go (yes p) ih =
+          let e : w ≡ v = holds-once ns n apart w v a (l 0 (omega arith)) h (rw p at (y .0)) x in
+          rw (eq-eqb w v e)
+      go (no m) ih =
+          let e : w ≡ v → ⊥ = λ (q : w ≡ v). m (holds-one ns v b a (rw q at (y .0)) x) in
+          rw (ne-eqb w v e) ih
+
+all-length : (ns vs : List ℕ) (σ : Choices) → HoldsAll ns vs σ → length vs ≡ length σ
+all-length ns [] [] y = refl
+all-length ns [] (b ∷ σ) y = absurd y
+all-length ns (w ∷ vs) [] y = absurd y
+all-length ns (w ∷ vs) (b ∷ σ) y = ap suc (all-length ns vs σ (y .1))
+
+all-snoc : (ns vs : List ℕ) (σ : Choices) (v : ℕ) (a : Term) → HoldsAll ns vs σ → Holds ns v a → HoldsAll ns (vs ++ (v ∷ [])) (σ ++ (a ∷ []))
+all-snoc ns [] [] v a y x = (x, tt)
+all-snoc ns [] (b ∷ σ) v a y x = absurd y
+all-snoc ns (w ∷ vs) [] v a y x = absurd y
+all-snoc ns (w ∷ vs) (b ∷ σ) v a y x = (y .0, all-snoc ns vs σ v a (y .1) x)
+
+add-known : (σ : Choices) (a : Term) {d : ℕ} → digit σ a ≡ some d → add σ a ≡ σ
+unfolding add
+add-known σ a e = rw (e, add)
+
+add-new : (σ : Choices) (a : Term) → digit σ a ≡ none → add σ a ≡ σ ++ (a ∷ [])
+unfolding add
+add-new σ a e = rw (e, add)
+
+add-longer : (σ : Choices) (a : Term) → length σ ≤ length (add σ a)
+unfolding add
+add-longer σ a = go (digit σ a)
+  where
+    go : (o : Option ℕ) → length σ ≤ length {A = Term} (elim o [ none ↦ σ ++ (a ∷ []) | some _ ↦ σ ])
+    go none = simp length-append (omega arith)
+    go (some d) = omega arith
+
+-- The list has as many choices as it counts, where these are at most 8.
+pub listed-count : {ns vs : List ℕ} {n c : ℕ} {σ : Choices} → length vs ≡ 8 → Listed ns n vs c σ → c ≤ 8 → c ≡ length σ
+listed-count {ns} {vs} {n} {c} {σ} h l few =
+    let q : length (take c vs) ≡ c = length-take-le c vs (omega arith) in
+    sym q ∙ all-length ns (take c vs) σ (l .held few)
+
+-- The argument of an OE or AO came to the list.
+module _ {ns vs : List ℕ} {n c v : ℕ} {σ : Choices} (apart : Apart ns n) (a : Term) (x : Holds ns v a) (h : v < n) (size : length vs ≡ 8) (l : Listed ns n vs c σ) where
+  listed-digit : {r : ℕ} → c ≤ 8 → Sought vs c v r → digit σ a ≡ cond (ltb r c) (some (49 + r)) none
+  listed-digit few s =
+      let q : length (take c vs) ≡ c = length-take-le c vs (omega arith) in
+      digit-found ns n apart v a x h 49 (take c vs) σ (l .held few)
+      (λ i m. let j : i < c = omega arith in rw (getD-take c vs i 0 j) (l .below i j (omega arith)))
+      ∙ s .is
+
+  pub listed-add : {ws : List ℕ} {d : ℕ} → Added vs c v ws d → Listed ns n ws d (add σ a)
+  listed-add (many m) =
+      record {
+        few = omega arith;
+        more = λ _. omega (arith, add-longer σ a, l .more m);
+        held = λ z. absurd (omega arith);
+        below = λ i p q. l .below i (omega arith) q;
+      }
+  listed-add (known {r = r} few s m) = rw (add-known σ a {d = 49 + r} (listed-digit few s ∙ rw (lt-ltb r c m))) l
+  listed-add (over {r = r} e s m) =
+      let few : c ≤ 8 = omega arith in
+      let q = listed-count size l few in
+      rw (add-new σ a (listed-digit few s ∙ rw (le-ltb r c m)))
+      (record {
+        few = omega arith;
+        more = λ _. simp length-append (omega arith);
+        held = λ z. absurd (omega arith);
+        below = λ i p q. l .below i (omega arith) q;
+      })
+  listed-add (new {r = r} e s m) =
+      let few : c ≤ 8 = omega arith in
+      let b : c < length vs = omega arith in
+      rw (add-new σ a (listed-digit few s ∙ rw (le-ltb r c m)))
+      (record {
+        few = omega arith;
+        more = λ z. absurd (omega arith);
+        held = λ _. rw (add-one c, take-suc-set vs c v b) (all-snoc ns (take c vs) σ v a (l .held few) x);
+        below = λ i p q. ⊎-elim (at-c i b) (λ (z : i < c). rw (getD-set-other vs c i v 0 (omega arith)) (l .below i z q)) (eq-or-lt-of-le (le i p));
+      })
+    where
+      le : (i : ℕ) → i < c + 1 → i ≤ c
+      le i p = omega arith
+
+      at-c : (i : ℕ) → c < length vs → i ≡ c → getD (set vs c v) i 0 < n
+      at-c i b e = rw (e, getD-set-same vs c v 0 b) h

@@ -1,0 +1,56 @@
+-- `rules::variables::add`: each way out is one of those of `Added`.
+-- Assumes nothing.
+use native.Mathlib.Omega.{arith}
+use Rattle.rules.specs.Variables.{many, known, over, new}
+use borrow.Author.Needs.{needs}
+use Rattle.rules.proofs.variables.add.Statement.{statement}
+use Rattle.rules.proofs.variables.add.Tie as tie
+
+returns : tie.Need-returns
+returns c = many (c .if1 .taken)
+
+variable-requires : tie.Need-variable-requires
+variable-requires c κs = search needs
+
+same-length : tie.Need-same-length
+same-length c = search needs
+
+returns-2 : tie.Need-returns-2
+returns-2 c = known (omega arith) (c .before .variable .ensures) (c .if2 .taken)
+
+same-length-2 : tie.Need-same-length-2
+same-length-2 c = search needs
+
+returns-3 : tie.Need-returns-3
+returns-3 c = over (c .if3 .taken) (c .before .before .variable .ensures) (c .before .if2 .left)
+
+mul-vars : tie.Need-mul-vars
+mul-vars c = search needs
+
+slice-write-vars : tie.Need-slice-write-vars
+slice-write-vars c = search needs
+
+add-result : tie.Need-add-result
+add-result c = search needs
+
+same-length-3 : tie.Need-same-length-3
+same-length-3 c = search needs
+
+returns-4 : tie.Need-returns-4
+returns-4 c = new (omega arith) (c .before .before .variable .ensures) (c .before .if2 .left)
+
+pub add-spec : {M : Type 1} → statement M
+add-spec =
+    tie.close
+    (tie.spec
+    returns
+    variable-requires
+    same-length
+    returns-2
+    same-length-2
+    returns-3
+    mul-vars
+    slice-write-vars
+    add-result
+    same-length-3
+    returns-4)

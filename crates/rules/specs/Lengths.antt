@@ -1,0 +1,57 @@
+-- Lengths of what nodes hold, as it is written where some choices are known, without writing it.
+-- Internal: contracts of entry points do not speak of it. Assumes nothing.
+use mathlib.Core.Path.{_≡_}
+use mathlib.Core.Bool.{Bool, cond}
+use mathlib.Core.List.{List, [], _∷_}
+use Prim.Native.Nat.{ℕ, _+_, _<_, min}
+use lib.Dec.{eqb, ltb}
+use lib.ListN.{length, getD}
+use Rattle.syntax.specs.Term.{Choices}
+use Rattle.syntax.specs.Rule.{Rule, ruleVars, formula}
+use Rattle.syntax.specs.Arena.{hasTwo, HoldsRule}
+use Rattle.syntax.specs.Reading.{mk, Knows}
+use Rattle.rules.specs.Thing.{Thing, HoldsThing, thingText}
+
+-- How many bytes an operation adds to what it stands on, by its number.
+unfoldable pub extraTable : List ℕ
+extraTable =
+    1 ∷ 1 ∷ 2 ∷ 3 ∷ 1 ∷ 1 ∷ 2 ∷ 2 ∷ 2
+    ∷ 6 ∷ 7 ∷ 8 ∷ 10 ∷ 13 ∷ 14 ∷ 8 ∷ 4 ∷ 4
+    ∷ 13 ∷ 3 ∷ 3 ∷ 1 ∷ 1 ∷ 2 ∷ 3 ∷ 4
+    ∷ 3 ∷ 4 ∷ 3 ∷ 4 ∷ 3 ∷ 4 ∷ 5 ∷ 6 ∷ 5 ∷ 6 ∷ 5 ∷ 6
+    ∷ 2 ∷ 1 ∷ []
+
+unfoldable pub extra : ℕ → ℕ
+extra o = getD extraTable o 0
+
+-- The length of an operation's text, by those of its parts; m is the number of a count that is compared with one.
+unfoldable pub plainLength : ℕ → ℕ → ℕ → ℕ → ℕ
+plainLength o a b m = cond (hasTwo o) (extra o + a + b) (cond (ltb o 26) (extra o + a) (extra o + a + cond (ltb m 10) 1 2))
+
+-- With OE as `v1` and AO as `(X-{v1})`, where the choice is known.
+unfoldable pub knownLength : ℕ → ℕ → ℕ → ℕ → ℕ
+knownLength o a b m = cond (eqb o 16) 2 (cond (eqb o 17) (7 + a) (plainLength o a b m))
+
+unfoldable pub nodeLength : ℕ → Bool → ℕ → ℕ → ℕ → ℕ
+nodeLength o known a b m = cond (ltb o 9) (extra o) (cond known (knownLength o a b m) (plainLength o a b m))
+
+-- No length above this number is told apart from it.
+abbrev pub capped : ℕ → ℕ
+capped l = min 65535 l
+
+-- The list ls has the length of what each node below k holds, where the choices σ are known.
+pub record Measured (ns : List ℕ) (σ : Choices) (k : ℕ) (ls : List ℕ) : Type 0 where
+  pub at : (i : ℕ) (x : Thing) → i < k → HoldsThing ns i x → getD ls i 0 ≡ capped (length (thingText σ x))
+
+-- The lengths of the first n nodes, whatever choices the nodes vs hold.
+pub record LengthsOf (ns : List ℕ) (n : ℕ) (vs ls : List ℕ) : Type 0 where
+  pub measured : (σ : Choices) → Knows (mk ns n) vs σ → Measured ns σ n ls
+
+-- The length of the quantifiers of the nodes vs: "[v1@" and "]" and what stands between.
+unfoldable pub quantifierLength : List ℕ → List ℕ → ℕ
+quantifierLength ls [] = 0
+quantifierLength ls (v ∷ vs) = 5 + capped (getD ls v 0) + quantifierLength ls vs
+
+-- r is the length of the formula of the rule at root, whose choices are at the nodes vs, by the lengths ls.
+pub record FormulaLength (ls vs : List ℕ) (root r : ℕ) : Type 0 where
+  pub is : (ns : List ℕ) (n : ℕ) (ρ : Rule) → root < n → HoldsRule ns root ρ → Knows (mk ns n) vs (ruleVars [] ρ) → Measured ns (ruleVars [] ρ) n ls → r ≡ capped (length (formula ρ))

@@ -1,0 +1,54 @@
+-- What a parsed rule is made of: its tree, the kinds of the nodes and its variables; and what the checks on the way find.
+-- Internal: contracts of entry points that answer with bytes do not speak of it. Assumes nothing.
+use mathlib.Core.Path.{_≡_}
+use mathlib.Core.List.{List, []}
+use mathlib.Core.Option.{none, some}
+use Prim.Native.Nat.{ℕ, _<_, _≤_}
+use lib.ListN.{length, take}
+use Rattle.answers.specs.declared.Refusal.{Refusal}
+use Rattle.syntax.specs.Bytes.{Bytes}
+use Rattle.syntax.specs.Rule.{Rule, ruleVars, ruleOf}
+use Rattle.syntax.specs.Arena.{HoldsRule, Tidy}
+use Rattle.syntax.specs.Reading.{mk, Knows}
+use Rattle.rules.specs.declared.Checked.{Checked}
+use Rattle.rules.specs.declared.Weighed.{Weighed}
+use Rattle.rules.specs.declared.Weighed.the-variants.{Unfit, Variables}
+use Rattle.rules.specs.declared.Found.{Found}
+use Rattle.rules.specs.declared.Found.the-variants.{Turned, Rule as Tree}
+use Rattle.rules.specs.Checked.{checkedOf}
+use Rattle.rules.specs.Accept.{treeRefusal, refusal}
+use Rattle.rules.specs.Numbers.{Kinded}
+
+-- The tree of an accepted text s, at root in the first n nodes; the kinds ks of the nodes; the nodes of its variables, the first of vs.
+pub record RuleAt (s : Bytes) (ns : List ℕ) (n root : ℕ) (ks vs : List ℕ) (count : ℕ) : Type 0 where
+  pub tree : Rule
+  pub reads : ruleOf s ≡ some tree
+  pub holds : HoldsRule ns root tree
+  pub within : root < n
+  pub tidy : Tidy ns n
+  pub kinds : Kinded ns n ks
+  pub knows : Knows (mk ns n) (take count vs) (ruleVars [] tree)
+  pub counted : count ≡ length (ruleVars [] tree)
+  pub few : count ≤ 8
+
+-- What the checks on a tree find, 14, 15, or the kinds and the variables of a tree that they accept.
+pub record Fitted (ns : List ℕ) (n : ℕ) (ks vs : List ℕ) (count : ℕ) (ρ : Rule) : Type 0 where
+  pub refuses : treeRefusal ρ ≡ none
+  pub kinds : Kinded ns n ks
+  pub knows : Knows (mk ns n) (take count vs) (ruleVars [] ρ)
+  pub counted : count ≡ length (ruleVars [] ρ)
+  pub few : count ≤ 8
+
+pub data Weighs (ns : List ℕ) (n root : ℕ) (ks vs : List ℕ) : Weighed → Type 0 where
+  unfit : {r : Refusal} → ((ρ : Rule) → HoldsRule ns root ρ → treeRefusal ρ ≡ some r) → Weighs ns n root ks vs (Unfit r)
+  fit : {count : ℕ} → ((ρ : Rule) → HoldsRule ns root ρ → Fitted ns n ks vs count ρ) → Weighs ns n root ks vs (Variables count)
+
+-- What the checks on a text find.
+pub data Finds (s : Bytes) (ns ks vs : List ℕ) : Found → Type 0 where
+  turned : {r : Refusal} → refusal s ≡ some r → Finds s ns ks vs (Turned r)
+  found : {n root count : ℕ} → refusal s ≡ none → RuleAt s ns n root ks vs count → Finds s ns ks vs (Tree n root count)
+
+-- The answer to a text, and where it is accepted its tree.
+pub record Parses (s : Bytes) (ns ks vs : List ℕ) (o : Checked) (n root count : ℕ) : Type 0 where
+  pub outcome : o ≡ checkedOf (refusal s)
+  pub accepted : refusal s ≡ none → RuleAt s ns n root ks vs count

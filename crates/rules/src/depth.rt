@@ -1,0 +1,39 @@
+// Check 12: how far brackets are open.
+// The surplus may fall below zero, so it is a signed number.
+ghost use mathlib.Core.Path.{_≡_};
+ghost use Prim.Native.Nat.{_≤_, _<_};
+ghost use lib.ListN.{length};
+ghost use lib.Signed.{mag};
+ghost use Rattle.rules.specs.Accept.{deep};
+ghost use Rattle.rules.specs.Surplus.{stepped};
+
+// The count of `(` less the count of `)`, with one byte more.
+fn surplus_after(b: u8, surplus: i32) -> i32
+    requires { ⌜ mag surplus ≤ 256 ⌝ }
+    ensures { λ r. ⌜ r ≡ stepped b surplus ⌝ }
+{
+    if b == 40 {
+        return surplus + 1;
+    }
+    if b == 41 {
+        return surplus - 1;
+    }
+    surplus
+}
+
+// Whether the surplus passes 32 somewhere in the text.
+pub fn too_deep(s: &[u8]) -> bool
+    requires { ⌜ length (now s) ≤ 256 ⌝ }
+    ensures { λ r. ⌜ r ≡ deep 0 0 (now (s .entry)) ⌝ }
+{
+    let mut surplus: i32 = 0;
+    let mut i = 0;
+    while i < s.len() {
+        surplus = surplus_after(s[i], surplus);
+        if surplus > 32 {
+            return true;
+        }
+        i += 1;
+    }
+    false
+}

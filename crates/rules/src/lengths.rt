@@ -1,0 +1,146 @@
+// Lengths of terms, tests, clauses and rules as they are written, from the nodes alone.
+// Equal subtrees are one node, so that a text that is long to write is quick to measure.
+use super::variables::has_two;
+use super::variables::variable;
+ghost use mathlib.Core.Path.{_≡_};
+ghost use Prim.Native.Nat.{_<_, _≤_};
+ghost use lib.ListN.{length, getD};
+ghost use Rattle.syntax.specs.Arena.{Tidy};
+ghost use Rattle.rules.specs.Lengths.{extra, plainLength, knownLength, nodeLength, capped, LengthsOf, FormulaLength};
+
+// How many bytes an operation adds to what it stands on: names with their brackets, signs, bars.
+const EXTRA: [u32; 40] = [
+    1,
+    1,
+    2,
+    3,
+    1,
+    1,
+    2,
+    2,
+    2,
+    6,
+    7,
+    8,
+    10,
+    13,
+    14,
+    8,
+    4,
+    4,
+    13,
+    3,
+    3,
+    1,
+    1,
+    2,
+    3,
+    4,
+    3,
+    4,
+    3,
+    4,
+    3,
+    4,
+    5,
+    6,
+    5,
+    6,
+    5,
+    6,
+    2,
+    1,
+];
+
+fn extra_of(op: u32) -> u32
+    ensures { λ r. ⌜ (r ≡ extra op) × (r ≤ 14) ⌝ }
+{
+    if op < 40 { EXTRA[op as usize] } else { 0 }
+}
+
+// The length of an operation's text by those of its parts, which is m where the right part is a number.
+fn plain_length(op: u32, a: u32, b: u32, m: u32) -> u32
+    requires { ⌜ (a ≤ 65535) × (b ≤ 65535) ⌝ }
+    ensures { λ r. ⌜ r ≡ plainLength op a b m ⌝ }
+{
+    let e = extra_of(op);
+    if has_two(op) {
+        return e + a + b;
+    }
+    if op < 26 {
+        return e + a;
+    }
+    if m < 10 { e + a + 1 } else { e + a + 2 }
+}
+
+// The same where the choice of an OE or AO is known: `v1`, and `(X-{v1})`.
+fn known_length(op: u32, a: u32, b: u32, m: u32) -> u32
+    requires { ⌜ (a ≤ 65535) × (b ≤ 65535) ⌝ }
+    ensures { λ r. ⌜ r ≡ knownLength op a b m ⌝ }
+{
+    if op == 16 {
+        return 2;
+    }
+    if op == 17 {
+        return 7 + a;
+    }
+    plain_length(op, a, b, m)
+}
+
+fn node_length(op: u32, known: bool, a: u32, b: u32, m: u32) -> u32
+    requires { ⌜ (a ≤ 65535) × (b ≤ 65535) ⌝ }
+    ensures { λ r. ⌜ r ≡ nodeLength op known a b m ⌝ }
+{
+    if op < 9 {
+        return extra_of(op);
+    }
+    if known {
+        return known_length(op, a, b, m);
+    }
+    plain_length(op, a, b, m)
+}
+
+fn at_most(l: u32) -> u32
+    ensures { λ r. ⌜ r ≡ capped l ⌝ }
+{
+    if l < 65535 { l } else { 65535 }
+}
+
+// The length at a place, 0 past the end.
+fn length_at(lens: &[u32], i: usize) -> u32
+    ensures { λ r. ⌜ r ≡ capped (getD (now (lens .entry)) i 0) ⌝ }
+{
+    if i < lens.len() { at_most(lens[i]) } else { 0 }
+}
+
+// The lengths of what the first n nodes hold, where the choices at vars are known; 65535 stands for every longer one.
+pub fn lengths(nodes: &[u32], n: usize, vars: &[u32], lens: &mut [u32])
+    requires { ⌜ Tidy (now nodes) n ⌝ }
+    requires { ⌜ n ≤ length (now lens) ⌝ }
+    ensures { λ _. ⌜ LengthsOf (now (nodes .entry)) n (now (vars .entry)) (now (lens .exit)) ⌝ }
+{
+    let mut k = 0;
+    while k < n {
+        let v = nodes[k];
+        let left = v / 256 % 4096;
+        let right = v / 1048576;
+        let known = variable(vars, vars.len(), left) < vars.len();
+        let a = length_at(lens, left as usize);
+        let b = length_at(lens, right as usize);
+        lens[k] = at_most(node_length(v % 256, known, a, b, right));
+        k += 1;
+    }
+}
+
+// The length of the formula of the rule at root, whose choices are at vars, by the lengths of the nodes where these are known.
+pub fn formula_length(lens: &[u32], vars: &[u32], root: usize) -> u32
+    ensures { λ r. ⌜ FormulaLength (now (lens .entry)) (now (vars .entry)) root r ⌝ }
+{
+    let mut total = at_most(1 + length_at(lens, root));
+    let mut i = 0;
+    while i < vars.len() {
+        total = at_most(total + 5 + length_at(lens, vars[i] as usize));
+        i += 1;
+    }
+    total
+}

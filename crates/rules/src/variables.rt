@@ -1,0 +1,90 @@
+// The variables of a rule: the nodes of the arguments of its OE and AO, in the order of the closing brackets.
+// At most 8 are kept; the count is 9 where there are more.
+ghost use mathlib.Core.Path.{_≡_};
+ghost use Prim.Native.Nat.{_<_, _≤_};
+ghost use lib.ListN.{length};
+ghost use Rattle.syntax.specs.Arena.{Tidy, hasTwo};
+ghost use Rattle.rules.specs.Variables.{Sought, Walked, Added, VarsOf};
+
+// The index of the variable whose argument is the node, or count.
+pub fn variable(vars: &[u32], count: usize, node: u32) -> usize
+    requires { ⌜ count ≤ length (now vars) ⌝ }
+    ensures { λ r. ⌜ Sought (now (vars .entry)) count node r ⌝ }
+{
+    let mut i = 0;
+    while i < count {
+        if vars[i] == node {
+            return i;
+        }
+        i += 1;
+    }
+    i
+}
+
+// The count after the node, which is put behind the others unless it is one of them.
+fn add(vars: &mut [u32], count: usize, node: u32) -> usize
+    requires { ⌜ length (now vars) ≡ 8 ⌝ }
+    ensures { λ r. ⌜ Added (now (vars .entry)) count node (now (vars .exit)) r ⌝ }
+{
+    if count > 8 {
+        return 9;
+    }
+    let i = variable(vars, count, node);
+    if i < count {
+        return count;
+    }
+    if count == 8 {
+        return 9;
+    }
+    vars[count] = node;
+    count + 1
+}
+
+// Whether a node of the operation has two nodes below it.
+pub fn has_two(op: u32) -> bool
+    ensures { λ r. ⌜ r ≡ hasTwo op ⌝ }
+{
+    if op < 18 {
+        return false;
+    }
+    if op < 24 {
+        return true;
+    }
+    op >= 32
+}
+
+// The count after the variables of what node k holds, which are put behind the others: first those below it, then its own.
+fn walk(nodes: &[u32], n: usize, k: usize, vars: &mut [u32], count: usize) -> usize
+    requires { ⌜ Tidy (now nodes) n ⌝ }
+    requires { ⌜ k < n ⌝ }
+    requires { ⌜ length (now vars) ≡ 8 ⌝ }
+    ensures { λ r. ⌜ Walked (now (nodes .entry)) n k (now (vars .entry)) count (now (vars .exit)) r ⌝ }
+{
+    let v = nodes[k];
+    let op = v % 256;
+    if op < 9 {
+        return count;
+    }
+    let left = v / 256 % 4096;
+    let c = walk(nodes, n, left as usize, vars, count);
+    if op < 16 {
+        return c;
+    }
+    if op < 18 {
+        return add(vars, c, left);
+    }
+    if has_two(op) {
+        return walk(nodes, n, (v / 1048576) as usize, vars, c);
+    }
+    c
+}
+
+// The variables of the rule at a node, and their count.
+pub fn variables(nodes: &[u32], n: usize, root: usize, vars: &mut [u32]) -> usize
+    requires { ⌜ Tidy (now nodes) n ⌝ }
+    requires { ⌜ root < n ⌝ }
+    requires { ⌜ length (now vars) ≡ 8 ⌝ }
+    ensures { λ r. ⌜ VarsOf (now (nodes .entry)) n root (now (vars .exit)) r ⌝ }
+{
+    walk(nodes, n, root, vars, 0)
+}
