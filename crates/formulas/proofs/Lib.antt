@@ -1,0 +1,7 @@
+-- Laws of formulas, and the theorems on what the entry points answer.
+pub mod AcceptLaws
+pub mod RebuildLaws
+pub mod WrittenLaws
+pub mod ReduceLaws
+pub mod Theorems
+pub mod Examples

@@ -1,0 +1,146 @@
+-- How the code finds its answers: from what the parser, the reader and the writers say to `reduced` and `rebuiltAnswer`.
+-- Assumes nothing.
+use mathlib.Core.Path.{_≡_, refl, ap, sym, _∙_}
+use mathlib.Core.Bool.{true, false}
+use mathlib.Core.List.{List, []}
+use mathlib.Core.Option.{Option, none, some}
+use Prim.Native.Nat.{ℕ, _≤_, _<_}
+use native.Mathlib.Omega.{arith}
+use lib.ListN.{length, take, length-take}
+use lib.Seq.{take-all}
+use Rattle.answers.specs.Answer.{Answer, refused, wrote, lent}
+use Rattle.answers.specs.declared.Refusal.{Refusal}
+use Rattle.answers.specs.declared.Refusal.the-variants.{NoRulesFormula}
+use Rattle.syntax.specs.Bytes.{Bytes, same}
+use Rattle.syntax.specs.Rule.{Rule, ruleText, ruleVars, formula, readFormula, whole}
+use Rattle.syntax.specs.Arena.{HoldsRule}
+use Rattle.syntax.specs.Reading.{Rooted}
+use Rattle.syntax.proofs.BytesLaws.{same-own, same-gives}
+use Rattle.rules.specs.declared.Checked.{Checked}
+use Rattle.rules.specs.declared.Checked.the-variants.{Refused as TurnedBack, Accepted as Taken}
+use Rattle.rules.specs.Accept.{refusal}
+use Rattle.rules.specs.Checked.{checkedOf}
+use Rattle.rules.specs.Parsed.{Parses}
+use Rattle.printer.specs.Printed.{Prints, Ready, formulaIn}
+use Rattle.printer.proofs.PrintedLaws.{puts-front}
+use Rattle.printer.proofs.RuleTextLaws.{all-length}
+use Rattle.answers.specs.declared.Written.{Written}
+use Rattle.answers.specs.declared.Written.the-variants.{Refused, Wrote}
+use Rattle.formulas.specs.Formulas.{rebuilt, reduced, rebuiltAnswer}
+use Rattle.answers.specs.Written.{Answers}
+use Rattle.formulas.proofs.AcceptLaws.{accepted-gives}
+use Rattle.formulas.proofs.RebuildLaws.{reduced-wrote, wrote-reduced, accepted-formula, formula-within, rebuilt-gives, gives-rebuilt}
+use Rattle.formulas.proofs.RebuildLaws.{rebuilt-none, rebuilt-only}
+use Rattle.formulas.proofs.WrittenLaws.{answers-refusal, answers-wrote, answers-refused}
+
+pub answers-as : {a b : Answer} (n : ℕ) {old new : Bytes} {w : Written} → a ≡ b → Answers (lent n b) old new w → Answers (lent n a) old new w
+answers-as n e p = rw e p
+
+-- Rule to formula.
+
+module _ {s ns ks vs : List ℕ} {o : Checked} {n root count : ℕ} (p : Parses s ns ks vs o n root count) where
+  refused-of : {r : Refusal} → o ≡ TurnedBack r → refusal s ≡ some r
+  refused-of {r} e = go (refusal s) refl
+    where
+      go : (q : Option Refusal) → refusal s ≡ q → refusal s ≡ some r
+      go none h = let z : _≡_ {A = ℕ} 0 1 = cc (p .outcome, ap checkedOf h) in absurd (omega arith)
+      go (some x) h = let z : x ≡ r = cc (p .outcome, ap checkedOf h) in h ∙ ap some z
+
+  accepted-of : o ≡ Taken → refusal s ≡ none
+  accepted-of e = go (refusal s) refl
+    where
+      go : (q : Option Refusal) → refusal s ≡ q → refusal s ≡ none
+      go none h = h
+      go (some x) h = let z : _≡_ {A = ℕ} 0 1 = cc (p .outcome, ap checkedOf h) in absurd (omega arith)
+
+  -- 11 to 15.
+  pub reduce-turned : {r : Refusal} (m : ℕ) (old : Bytes) → o ≡ TurnedBack r → Answers (lent m (reduced s)) old old (Refused r)
+  unfolding reduced
+  reduce-turned m old e = answers-refusal (reduced s) m old (rw (refused-of e, reduced))
+
+  -- Where it is accepted its tree may be written.
+  pub reduce-few : o ≡ Taken → count ≤ length vs
+  reduce-few e =
+      let t = p .accepted (accepted-of e) in
+      omega (arith, t .counted, all-length ns (take count vs) (ruleVars [] (t .tree)) (t .knows .holds), length-take count vs)
+
+  pub reduce-ready : o ≡ Taken → Ready ns root (take count vs)
+  reduce-ready e =
+      let t = p .accepted (accepted-of e) in
+      record { n = n; tidy = t .tidy; node = t .within; below = t .knows .below; few = simp length-take (omega (arith, t .few)) }
+
+  -- The formula stands in front of a sheet of 4,096 bytes.
+  pub reduce-made : {old sheet : Bytes} {l : ℕ} → o ≡ Taken → length old ≡ 4096 → Prints ns (take count vs) (HoldsRule ns root) formulaIn old sheet l → reduced s ≡ wrote (take l sheet)
+  unfolding formula
+  reduce-made {old} {sheet} {l} e h q =
+      let t = p .accepted (accepted-of e) in
+      let a = accepted-gives s (accepted-of e) in
+      let i : a .rule ≡ t .tree = cc (a .reads, t .reads) in
+      let b : length (formula (t .tree)) ≤ 4096 = rw i at (formula-within a) in
+      let f : take l sheet ≡ formula (t .tree) = puts-front (q .shows (ruleVars [] (t .tree)) (t .tree) (t .knows .holds) (t .holds)) ∙ take-all (length old) (formula (t .tree)) (omega arith) in
+      wrote-reduced s (take l sheet) (accepted-of e) (accepted-formula a ∙ ap some (ap formula i ∙ sym f))
+
+-- Formula to rule.
+
+rebuilt-refused : (f : Bytes) → rebuilt f ≡ none → rebuiltAnswer f ≡ refused NoRulesFormula
+unfolding rebuiltAnswer
+rebuilt-refused f e = rw e
+
+module _ (f : Bytes) (m : ℕ) (old : Bytes) where
+  abbrev Sixteen : Type 0
+  Sixteen = Answers (lent m (rebuiltAnswer f)) old old (Refused NoRulesFormula)
+
+  sixteen : rebuilt f ≡ none → Sixteen
+  sixteen e = answers-refusal (rebuiltAnswer f) m old (rebuilt-refused f e)
+
+  -- No formula passes 4,096 bytes.
+  pub rebuild-long : 4096 < length f → Sixteen
+  rebuild-long h = sixteen (go (rebuilt f) refl)
+    where
+      go : (o : Option Bytes) → rebuilt f ≡ o → rebuilt f ≡ none
+      go none q = q
+      go (some s) q =
+          let p = reduced-wrote s f (rebuilt-gives f s q) in
+          let a = accepted-gives s (p .0) in
+          let e : formula (a .rule) ≡ f = cc (accepted-formula a, p .1) in
+          absurd (omega (arith, formula-within a, ap length e))
+
+  pub rebuild-unread : whole (readFormula 512 9 [] f) ≡ none → Sixteen
+  rebuild-unread e = sixteen (rebuilt-none f e)
+
+  -- The candidate c is the tree's own text as far as 257 bytes, which are too many for a rule.
+  module _ {ρ : Rule} {c : Bytes} (e : whole (readFormula 512 9 [] f) ≡ some ρ) (h : c ≡ take 257 (ruleText [] ρ)) where
+    other : (reduced c ≡ wrote f → ⊥) → Sixteen
+    other x = sixteen (go (rebuilt f) refl)
+      where
+        go : (o : Option Bytes) → rebuilt f ≡ o → rebuilt f ≡ none
+        go none q = q
+        go (some s) q =
+            let r = rebuilt-gives f s q in
+            let a = accepted-gives s (reduced-wrote s f r .0) in
+            let z : c ≡ s = h ∙ ap (take 257) (sym (rebuilt-only f ρ s e q)) ∙ take-all 257 s (omega (arith, a .short)) in
+            absurd (x (rw z r))
+
+    pub rebuild-refused : {zeros sheet : Bytes} {w : Written} {r : Refusal} → Answers (lent (length zeros) (reduced c)) zeros sheet w → w ≡ Refused r → length f ≤ length zeros → Sixteen
+    rebuild-refused p q l = other (λ x. answers-refused (reduced c) _ f p q l x)
+
+    pub rebuild-apart : {zeros sheet : Bytes} {w : Written} {k : ℕ} → Answers (lent (length zeros) (reduced c)) zeros sheet w → w ≡ Wrote k → same (take k sheet) f ≡ false → Sixteen
+    rebuild-apart {zeros} {sheet} {w} {k} p q d =
+        let t = answers-wrote (reduced c) (length zeros) p q in
+        other (λ x. let z : t .text ≡ f = cc (t .is) in let y : _≡_ {A = ℕ} 0 1 = cc (same-own f, t .front) in omega arith)
+
+-- The candidate whose formula is the input is the rule.
+pub rebuild-same : {c : Bytes} (f : Bytes) {zeros sheet : Bytes} {w : Written} {k : ℕ}
+    → Answers (lent (length zeros) (reduced c)) zeros sheet w → w ≡ Wrote k → same (take k sheet) f ≡ true → rebuiltAnswer f ≡ wrote c
+unfolding rebuiltAnswer
+rebuild-same {c} f {zeros} {sheet} {w} {k} p q d =
+    let t = answers-wrote (reduced c) (length zeros) p q in
+    let z : t .text ≡ f = sym (t .front) ∙ same-gives (take k sheet) f d in
+    rw (gives-rebuilt f c (t .is ∙ ap wrote z))
+
+pub rebuild-ready : {s ns : List ℕ} {k n : ℕ} {o : Option Rule} → Rooted s ns k n o → Ready ns k []
+rebuild-ready {n = n} t = record { n = n; tidy = t .tidy; node = t .within; below = λ i h. absurd (omega arith); few = omega arith }
+
+pub rebuild-text : {s ns text zeros : List ℕ} {k n l : ℕ} {o : Option Rule} (t : Rooted s ns k n o) → Prints ns [] (HoldsRule ns k) ruleText zeros text l
+    → take l text ≡ take (length zeros) (ruleText [] (t .rule))
+rebuild-text t p = puts-front (p .shows [] (t .rule) tt (t .holds))

@@ -1,0 +1,129 @@
+-- `rebuild`: 16 unless the tree's own text has the input as its formula; that text is the only candidate.
+-- Assumes nothing.
+use mathlib.Core.Path.{sym, _∙_}
+use native.Mathlib.Omega.{arith}
+use lib.Seq.{length-take-le}
+use borrow.Author.Tests.{not-true, not-false}
+use borrow.Author.Needs.{needs}
+use Rattle.rules.proofs.ParseLaws.{as-nothing, as-root}
+use Rattle.formulas.proofs.WrittenLaws.{answers-wrote}
+use Rattle.formulas.proofs.ReduceLaws.{answers-as, rebuild-long, rebuild-unread, rebuild-refused, rebuild-apart, rebuild-same, rebuild-ready, rebuild-text}
+use Rattle.formulas.proofs.rebuild.Statement.{statement}
+use Rattle.formulas.proofs.rebuild.Tie as tie
+
+returns : tie.Need-returns
+returns c = rebuild-long _ _ _ (c .if1 .taken)
+
+slice-aggregate-formula : tie.Need-slice-aggregate-formula
+slice-aggregate-formula c = search needs
+
+formula-requires : tie.Need-formula-requires
+formula-requires c κs = search needs
+
+enum-known-node : tie.Need-enum-known-node
+enum-known-node c = search needs
+
+enum-told : tie.Need-enum-told
+enum-told c = search needs
+
+returns-2 : tie.Need-returns-2
+returns-2 c = rebuild-unread _ _ _ (as-nothing (c .before .before .before .formula .ensures) (c .enum-told .given .1))
+
+slice-aggregate-write-rule : tie.Need-slice-aggregate-write-rule
+slice-aggregate-write-rule c = search needs
+
+array-share-prefix-none : tie.Need-array-share-prefix-none
+array-share-prefix-none c = search needs
+
+slice-aggregate-write-rule-2 : tie.Need-slice-aggregate-write-rule-2
+slice-aggregate-write-rule-2 c = search needs
+
+slice-aggregate-write-rule-3 : tie.Need-slice-aggregate-write-rule-3
+slice-aggregate-write-rule-3 c = search needs
+
+write-rule-requires : tie.Need-write-rule-requires
+write-rule-requires c κs = rebuild-ready (as-root (c .before .before .before .before .before .before .before .formula .ensures) (c .before .before .before .before .node .given .1))
+
+array-share-prefix-text : tie.Need-array-share-prefix-text
+array-share-prefix-text c = search needs
+
+slice-aggregate-reduce : tie.Need-slice-aggregate-reduce
+slice-aggregate-reduce c = sym (length-take-le _ _ (search needs))
+
+slice-aggregate-reduce-2 : tie.Need-slice-aggregate-reduce-2
+slice-aggregate-reduce-2 c = search needs
+
+reduce-requires : tie.Need-reduce-requires
+reduce-requires c κs = search needs
+
+enum-known-m : tie.Need-enum-known-m
+enum-known-m c = search needs
+
+enum-told-2 : tie.Need-enum-told-2
+enum-told-2 c = search needs
+
+returns-3 : tie.Need-returns-3
+returns-3 c =
+    let t = as-root (c .before .before .before .before .before .before .before .before .before .before .before .before .before .before .before .formula .ensures) (c .before .before .before .before .before .before .before .before .before .before .before .before .node .given .1) in
+    rebuild-refused _ _ _ (t .is) (rebuild-text t (c .before .before .before .before .before .before .before .write-rule .ensures)) (c .before .before .before .reduce .ensures) (c .enum-told2 .given .1) (omega (arith, c .before .before .before .before .before .before .before .before .before .before .before .before .before .before .before .before .before .if1 .left))
+
+array-share-prefix-sheet : tie.Need-array-share-prefix-sheet
+array-share-prefix-sheet c = answers-wrote _ _ (c .before .before .before .before .reduce .ensures) (c .before .m .given .1) .fits
+
+slice-aggregate-alike : tie.Need-slice-aggregate-alike
+slice-aggregate-alike c = sym (length-take-le _ _ (answers-wrote _ _ (c .before .before .before .before .before .reduce .ensures) (c .before .before .m .given .1) .fits))
+
+alike-requires : tie.Need-alike-requires
+alike-requires c κs = search needs
+
+returns-4 : tie.Need-returns-4
+returns-4 c =
+    let t = as-root (c .before .before .before .before .before .before .before .before .before .before .before .before .before .before .before .before .before .before .before .formula .ensures) (c .before .before .before .before .before .before .before .before .before .before .before .before .before .before .before .before .node .given .1) in
+    rebuild-apart _ _ _ (t .is) (rebuild-text t (c .before .before .before .before .before .before .before .before .before .before .before .write-rule .ensures)) (c .before .before .before .before .before .before .before .reduce .ensures) (c .before .before .before .before .m .given .1) (sym (c .before .alike .ensures) ∙ not-true _ (c .if2 .taken))
+
+array-share-prefix-text-2 : tie.Need-array-share-prefix-text-2
+array-share-prefix-text-2 c = search needs
+
+slice-aggregate-hand : tie.Need-slice-aggregate-hand
+slice-aggregate-hand c = sym (length-take-le _ _ (search needs))
+
+hand-requires : tie.Need-hand-requires
+hand-requires c κs = search needs
+
+same-length : tie.Need-same-length
+same-length c = search needs
+
+returns-5 : tie.Need-returns-5
+returns-5 c = answers-as _ (rebuild-same _ (c .before .before .before .before .before .before .before .before .before .before .before .before .reduce .ensures) (c .before .before .before .before .before .before .before .before .before .m .given .1) (sym (c .before .before .before .before .before .before .alike .ensures) ∙ not-false _ (c .before .before .before .before .before .if2 .left))) (c .before .before .hand .ensures)
+
+pub rebuild-spec : {M : Type 1} → statement M
+rebuild-spec =
+    tie.close
+    (tie.spec
+    returns
+    slice-aggregate-formula
+    formula-requires
+    enum-known-node
+    enum-told
+    returns-2
+    slice-aggregate-write-rule
+    array-share-prefix-none
+    slice-aggregate-write-rule-2
+    slice-aggregate-write-rule-3
+    write-rule-requires
+    array-share-prefix-text
+    slice-aggregate-reduce
+    slice-aggregate-reduce-2
+    reduce-requires
+    enum-known-m
+    enum-told-2
+    returns-3
+    array-share-prefix-sheet
+    slice-aggregate-alike
+    alike-requires
+    returns-4
+    array-share-prefix-text-2
+    slice-aggregate-hand
+    hand-requires
+    same-length
+    returns-5)

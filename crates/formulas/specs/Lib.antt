@@ -1,0 +1,2 @@
+-- Rule to formula and formula to rule: what the entry points answer.
+pub mod Formulas

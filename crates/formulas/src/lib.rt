@@ -1,0 +1,83 @@
+// Rule text to formula text, and formula text back to rule text.
+// Nothing is written to the output before all of the answer is known.
+ghost use mathlib.Core.Path.{_≡_};
+ghost use lib.ListN.{length};
+ghost use Rattle.answers.specs.Answer.{wrote, lent};
+ghost use Rattle.syntax.specs.Bytes.{same};
+ghost use Rattle.formulas.specs.Formulas.{reduced, rebuiltAnswer};
+ghost use Rattle.answers.specs.Written.{Answers};
+use answers::Refusal;
+use answers::Written;
+use printer::rules::write_formula;
+use printer::rules::write_rule;
+use printer::sheet::put;
+use rules::Checked;
+use syntax::Whole;
+
+// The text to the front of the output, or 17.
+fn hand(text: &[u8], out: &mut [u8]) -> Written
+    ensures { λ r. ⌜ Answers (lent (length (now (out .entry))) (wrote (now (text .entry)))) (now (out .entry)) (now (out .exit)) r ⌝ }
+{
+    if out.len() < text.len() {
+        return Written::Refused(Refusal::ShortSheet);
+    }
+    Written::Wrote(put(out, text))
+}
+
+// Whether two texts are equal byte for byte.
+fn alike(a: &[u8], b: &[u8]) -> bool
+    ensures { λ r. ⌜ r ≡ same (now (a .entry)) (now (b .entry)) ⌝ }
+{
+    if a.len() != b.len() {
+        return false;
+    }
+    let mut i = 0;
+    while i < a.len() {
+        if a[i] != b[i] {
+            return false;
+        }
+        i += 1;
+    }
+    true
+}
+
+// Rule to formula: 11 to 15, then 17. The formula is made on a sheet of its own, so that its length is known first.
+pub fn reduce(rule: &[u8], out: &mut [u8]) -> Written
+    ensures { λ r. ⌜ Answers (lent (length (now (out .entry))) (reduced (now (rule .entry)))) (now (out .entry)) (now (out .exit)) r ⌝ }
+{
+    let parsed = rules::parse(rule);
+    let outcome = parsed.outcome;
+    if let Checked::Refused(r) = outcome {
+        return Written::Refused(r);
+    }
+    let nodes = parsed.nodes;
+    let vars = parsed.vars;
+    let count = parsed.count;
+    let mut sheet = [0u8; 4096];
+    let l = write_formula(&nodes, parsed.root, &vars[..count], &mut sheet);
+    hand(&sheet[..l], out)
+}
+
+// Formula to rule: 16, then 17. The candidate is the tree's own text, kept where its formula is the input byte for byte.
+pub fn rebuild(formula: &[u8], out: &mut [u8]) -> Written
+    ensures { λ r. ⌜ Answers (lent (length (now (out .entry))) (rebuiltAnswer (now (formula .entry)))) (now (out .entry)) (now (out .exit)) r ⌝ }
+{
+    if formula.len() > 4096 {
+        return Written::Refused(Refusal::NoRulesFormula);
+    }
+    let mut nodes = [0u32; 4096];
+    let Whole::Root { node, n: _ } = syntax::formula(formula, &mut nodes) else {
+        return Written::Refused(Refusal::NoRulesFormula);
+    };
+    let none = [0u32; 1];
+    let mut text = [0u8; 257];
+    let l = write_rule(&nodes, node, &none[..0], &mut text);
+    let mut sheet = [0u8; 4096];
+    let Written::Wrote(m) = reduce(&text[..l], &mut sheet) else {
+        return Written::Refused(Refusal::NoRulesFormula);
+    };
+    if !alike(&sheet[..m], formula) {
+        return Written::Refused(Refusal::NoRulesFormula);
+    }
+    hand(&text[..l], out)
+}

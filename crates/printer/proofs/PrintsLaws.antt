@@ -1,0 +1,144 @@
+-- Writers one after the other, and a writer's text as that of the thing that a node holds.
+-- Assumes nothing.
+use mathlib.Core.Path.{_≡_, refl, ap, _∙_}
+use mathlib.Core.Bool.{Bool, true, false, _&&_, _||_}
+use mathlib.Core.List.{List, [], _∷_, _++_, append-assoc}
+use mathlib.Core.Option.{some}
+use Prim.Native.Nat.{ℕ, _+_, _-_, _/_, _%_, _≤_, _<_}
+use native.Mathlib.Omega.{arith}
+use lib.Dec.{leb, ltb}
+use lib.ListN.{length, getD}
+use borrow.Author.Tests.{le-leb, lt-ltb}
+use borrow.Rule.Slice.PartMut.{midOf, putMid}
+use Rattle.syntax.specs.Bytes.{Bytes, ascii}
+use Rattle.syntax.specs.Term.{Term, base, call, oe, ao, two, Choices, text, aoText, spell, isChoice, spellMiddle}
+use Rattle.syntax.specs.Arena.{Holds, HoldsAll, Down, hasTwo}
+use Rattle.printer.specs.Signs.{signOf, openOf}
+use Rattle.printer.specs.Printed.{Puts, Prints, Ready, Sought}
+use Rattle.syntax.proofs.ArenaLaws.{base-small, fn-range, two-range, opOf, holds-op}
+use Rattle.printer.proofs.PrintedLaws.{puts-as, puts-then, puts-room, room-then, room-none, puts-none}
+use Rattle.printer.proofs.TextLaws.{Shown, text-leaf, text-call, text-new, text-choice, text-others, text-two}
+use Rattle.printer.proofs.TextLaws.{choice-none, choice-some}
+
+module _ {A B : Type 0} {ns vs : List ℕ} {H : A → Type 0} {K : B → Type 0} {f : Choices → A → Bytes} {g : Choices → B → Bytes} where
+  -- Where every text of the one is a text of the other.
+  pub prints-as : {old new : Bytes} {r : ℕ} → ((σ : Choices) (b : B) → HoldsAll ns vs σ → K b → Shown H (f σ) (g σ b)) → Prints ns vs H f old new r → Prints ns vs K g old new r
+  prints-as h p =
+      record {
+        room = p .room;
+        shows = λ σ b y x. let w = h σ b y x in puts-as (w .written) (p .shows σ (w .thing) y (w .held));
+      }
+
+  module _ {old mid rest : Bytes} {r s : ℕ} where
+    pub prints-then : Prints ns vs H f old mid r → Prints ns vs K g (midOf r (length mid - r) mid) rest s
+        → Prints ns vs (λ (p : A × B). H (p .0) × K (p .1)) (λ σ p. f σ (p .0) ++ g σ (p .1)) old (putMid r (length mid - r) mid rest) (r + s)
+    prints-then p q =
+        record {
+          room = room-then (p .room) (q .room);
+          shows = λ σ a y x. puts-then (p .shows σ (a .0) y (x .0)) (q .shows σ (a .1) y (x .1));
+        }
+
+module _ {A : Type 0} {ns vs : List ℕ} {H : A → Type 0} {f : Choices → A → Bytes} {w old mid rest : Bytes} {r s : ℕ} where
+  pub put-prints : Puts w old mid r → Prints ns vs H f (midOf r (length mid - r) mid) rest s → Prints ns vs H (λ σ a. w ++ f σ a) old (putMid r (length mid - r) mid rest) (r + s)
+  put-prints p q = record { room = room-then (puts-room p) (q .room); shows = λ σ a y x. puts-then p (q .shows σ a y x) }
+
+  pub prints-put : Prints ns vs H f old mid r → Puts w (midOf r (length mid - r) mid) rest s → Prints ns vs H (λ σ a. f σ a ++ w) old (putMid r (length mid - r) mid rest) (r + s)
+  prints-put p q = record { room = room-then (p .room) (puts-room q); shows = λ σ a y x. puts-then (p .shows σ a y x) q }
+
+-- In an empty sheet, and where a node holds no such thing.
+
+module _ {A : Type 0} {ns vs : List ℕ} {H : A → Type 0} {f : Choices → A → Bytes} where
+  pub prints-full : (old : Bytes) → length old ≡ 0 → Prints ns vs H f old old 0
+  prints-full old e = record { room = room-none old; shows = λ σ a y x. puts-none (f σ a) old e }
+
+  pub prints-never : (old : Bytes) → ((a : A) → H a → ⊥) → Prints ns vs H f old old 0
+  prints-never old h = record { room = room-none old; shows = λ σ a y x. absurd (h a x) }
+
+-- The nodes below a node are ready too.
+module _ {ns vs : List ℕ} {k : ℕ} (r : Ready ns k vs) where
+  pub ready-size : k < length ns
+  ready-size = omega (arith, r .node, r .tidy .fits)
+
+  pub ready-left : {l : ℕ} → l ≡ getD ns k 0 / 256 % 4096 → 9 ≤ getD ns k 0 % 256 → Ready ns l vs × (l < k)
+  unfolding Down
+  ready-left {l} e h =
+      let w : l < k = rw e (r .tidy .down k (r .node) .left h) in
+      (record { n = r .n; tidy = r .tidy; node = omega (arith, r .node); below = r .below; few = r .few }, w)
+
+  pub ready-right : {l : ℕ} → l ≡ getD ns k 0 / 1048576 → hasTwo (getD ns k 0 % 256) ≡ true → Ready ns l vs × (l < k)
+  unfolding Down
+  ready-right {l} e h =
+      let w : l < k = rw e (r .tidy .down k (r .node) .right h) in
+      (record { n = r .n; tidy = r .tidy; node = omega (arith, r .node); below = r .below; few = r .few }, w)
+
+-- The writer of terms, by the operation of its node.
+module _ {ns vs : List ℕ} {k : ℕ} (w : Ready ns k vs) {op : ℕ} (e : op ≡ getD ns k 0 % 256) {old new : Bytes} {r : ℕ} where
+  pub term-leaf : op < 9 → Puts (signOf op) old new r → Prints ns vs (Holds ns k) text old new r
+  term-leaf h p =
+      record {
+        room = puts-room p;
+        shows = λ σ t y x. puts-as (ap signOf e ∙ text-leaf ns k σ t (omega arith) x) p;
+      }
+
+  pub term-two : {l m : ℕ} → l ≡ getD ns k 0 / 256 % 4096 → m ≡ getD ns k 0 / 1048576 → 18 ≤ op → op < 21
+      → Prints ns vs (λ (p : Term × Term). Holds ns l (p .0) × Holds ns m (p .1)) (λ σ p. (((openOf op ++ text σ (p .0)) ++ signOf op) ++ text σ (p .1)) ++ ascii ")") old new r
+      → Prints ns vs (Holds ns k) text old new r
+  term-two q u h g p =
+      prints-as
+      (λ σ t y x.
+      let z = text-two ns k σ t (omega arith) (omega arith) x in
+      record { thing = z .thing; held = z .held; written = simp append-assoc (z .written) })
+      (rw e at (rw q at (rw u at p)))
+
+  -- Below a call, an OE or an AO.
+  module _ {l : ℕ} (q : l ≡ getD ns k 0 / 256 % 4096) where
+    pub term-call : 9 ≤ op → op < 16 → Prints ns vs (Holds ns l) (λ σ a. signOf op ++ (text σ a ++ ascii ")")) old new r → Prints ns vs (Holds ns k) text old new r
+    term-call h g p = prints-as (λ σ t y x. text-call ns k σ t (omega arith) (omega arith) x) (rw e at (rw q at p))
+
+    module _ {d : ℕ} (b : 16 ≤ op) (s : Sought vs l d) where
+      pub term-new : op < 18 → length vs ≤ d → Prints ns vs (Holds ns l) (λ σ a. signOf op ++ (text σ a ++ ascii ")")) old new r → Prints ns vs (Holds ns k) text old new r
+      term-new g h p =
+          let v = ready-left w q (omega arith) .0 in
+          prints-as
+          (λ σ t y x. text-new ns k σ t (omega arith) (omega arith) (λ a z. choice-none v s σ y a (rw q z) h) x)
+          (rw e at (rw q at p))
+
+      pub term-choice : op ≡ 16 → d < length vs → Puts (spell isChoice ++ ((49 + d) ∷ [])) old new r → Prints ns vs (Holds ns k) text old new r
+      term-choice g h p =
+          let v = ready-left w q (omega arith) .0 in
+          record {
+            room = puts-room p;
+            shows = λ σ t y x. puts-as (text-choice ns k σ (49 + d) (λ a z. choice-some v s σ y a (rw q z) h) t (omega arith) x) p;
+          }
+
+      pub term-others : 17 ≤ op → op < 18 → d < length vs → Prints ns vs (Holds ns l) (λ σ a. aoText (some (49 + d)) (text σ a)) old new r → Prints ns vs (Holds ns k) text old new r
+      term-others f g h p =
+          let v = ready-left w q (omega arith) .0 in
+          prints-as
+          (λ σ t y x. text-others ns k σ (49 + d) (λ a z. choice-some v s σ y a (rw q z) h) t (omega arith) (omega arith) x)
+          (rw q at p)
+
+pub has-two : (o : ℕ) → 18 ≤ o → o < 24 → hasTwo o ≡ true
+unfolding hasTwo
+has-two o h g = rw (le-leb 18 o h, lt-ltb o 24 g)
+
+or-true : (b : Bool) → (b || true) ≡ true
+or-true true = refl
+or-true false = refl
+
+pub has-two-last : (o : ℕ) → 32 ≤ o → hasTwo o ≡ true
+unfolding hasTwo
+has-two-last o h = rw (le-leb 32 o h) (or-true (leb 18 o && ltb o 24))
+
+pub no-term : (ns : List ℕ) (k : ℕ) (t : Term) → 21 ≤ getD ns k 0 % 256 → Holds ns k t → ⊥
+unfolding opOf
+no-term ns k (base b) h x = omega (arith, holds-op ns k (base b) x, base-small b)
+no-term ns k (call f a) h x = omega (arith, holds-op ns k (call f a) x, fn-range f .high)
+no-term ns k (oe a) h x = omega (arith, holds-op ns k (oe a) x)
+no-term ns k (ao a) h x = omega (arith, holds-op ns k (ao a) x)
+no-term ns k (two o a b) h x = omega (arith, holds-op ns k (two o a b) x, two-range o .high)
+
+-- The parts of `(X-{v})`, one after the other.
+pub others-text : (c : ℕ) (w : Bytes) → (((ascii "(" ++ w) ++ ascii "-{v") ++ (c ∷ [])) ++ ascii "})" ≡ aoText (some c) w
+unfolding aoText spell spellMiddle
+others-text c w = simp append-assoc

@@ -1,0 +1,106 @@
+-- The writers of tests, clauses, rules and quantifiers, by the operation of their node.
+-- Assumes nothing.
+use mathlib.Core.Path.{_≡_, ap, sym, _∙_}
+use mathlib.Core.List.{List, [], _∷_, _++_, append-assoc}
+use Prim.Native.Nat.{ℕ, _+_, _-_, _/_, _%_, _≤_, _<_}
+use native.Mathlib.Omega.{arith}
+use native.Mathlib.Numerals.{add-one}
+use lib.ListN.{length, getD, take, drop-of-length-le}
+use lib.Seq.{length-take-le, getD-take}
+use borrow.Rule.Slice.PartMut.{midOf, putMid}
+use Rattle.syntax.specs.Bytes.{Bytes, ascii}
+use Rattle.syntax.specs.Term.{Term, Choices, text}
+use Rattle.syntax.specs.Rule.{digits, testText, clauseText, ruleText, quantifiers}
+use Rattle.syntax.specs.Arena.{Holds, HoldsTest, HoldsClause, HoldsRule}
+use Rattle.printer.specs.Signs.{signOf, cmpSignOf}
+use Rattle.printer.specs.Printed.{Prints, Ready, quantifier, quantifiersFrom, Any}
+use Rattle.printer.proofs.PrintedLaws.{puts-as, puts-then, room-then, room-none, puts-empty}
+use Rattle.printer.proofs.PrintsLaws.{prints-as}
+use Rattle.printer.proofs.RuleTextLaws.{test-compared, test-empty, test-number, test-count, clause-plain, clause-when, rule-last}
+use Rattle.printer.proofs.RuleTextLaws.{rule-also, all-length, split, quantifiers-more}
+
+-- Of both terms.
+abbrev Both : {A B : Type 0} → (A → Type 0) → (B → Type 0) → A × B → Type 0
+Both H K p = H (p .0) × K (p .1)
+
+abbrev counted : Choices → Term → Bytes
+counted σ a = ascii "|" ++ (text σ a ++ ascii "|")
+
+module _ {ns vs : List ℕ} {k : ℕ} (w : Ready ns k vs) {op : ℕ} (e : op ≡ getD ns k 0 % 256) {old new : Bytes} {r : ℕ} where
+  module _ {l : ℕ} (q : l ≡ getD ns k 0 / 256 % 4096) where
+    pub prints-empty : 24 ≤ op → op < 26 → Prints ns vs (Holds ns l) (λ σ a. (text σ a ++ signOf op) ++ ascii "{}") old new r → Prints ns vs (HoldsTest ns k) testText old new r
+    prints-empty h g p = prints-as (λ σ t y x. test-empty ns k σ t (omega arith) (omega arith) x) (rw e at (rw q at p))
+
+    module _ {m : ℕ} (u : m ≡ getD ns k 0 / 1048576) where
+      pub prints-compared : 21 ≤ op → op < 24 → Prints ns vs (Both (Holds ns l) (Holds ns m)) (λ σ p. (text σ (p .0) ++ signOf op) ++ text σ (p .1)) old new r
+          → Prints ns vs (HoldsTest ns k) testText old new r
+      prints-compared h g p = prints-as (λ σ t y x. test-compared ns k σ t (omega arith) (omega arith) x) (rw e at (rw q at (rw u at p)))
+
+      pub prints-number : 26 ≤ op → op < 32 → Prints ns vs (Holds ns l) (λ σ a. (counted σ a ++ cmpSignOf ((op - 26) % 6)) ++ digits (m % 100)) old new r
+          → Prints ns vs (HoldsTest ns k) testText old new r
+      prints-number h g p = prints-as (λ σ t y x. test-number ns k σ t (omega arith) (omega arith) x) (rw e at (rw q at (rw u at p)))
+
+      pub prints-count : 32 ≤ op → op < 38 → Prints ns vs (Both (Holds ns l) (Holds ns m)) (λ σ p. (counted σ (p .0) ++ cmpSignOf ((op - 26) % 6)) ++ counted σ (p .1)) old new r
+          → Prints ns vs (HoldsTest ns k) testText old new r
+      prints-count h g p = prints-as (λ σ t y x. test-count ns k σ t (omega arith) (omega arith) x) (rw e at (rw q at (rw u at p)))
+
+      pub prints-when : op ≡ 38 → Prints ns vs (Both (HoldsTest ns l) (HoldsTest ns m)) (λ σ p. (testText σ (p .0) ++ ascii "=>") ++ testText σ (p .1)) old new r
+          → Prints ns vs (HoldsClause ns k) clauseText old new r
+      prints-when h p = prints-as (λ σ t y x. clause-when ns k σ t (sym e ∙ h) x) (rw q at (rw u at p))
+
+      pub prints-also : op ≡ 39 → Prints ns vs (Both (HoldsClause ns l) (HoldsRule ns m)) (λ σ p. (clauseText σ (p .0) ++ ascii "^") ++ ruleText σ (p .1)) old new r
+          → Prints ns vs (HoldsRule ns k) ruleText old new r
+      prints-also h p = prints-as (λ σ t y x. rule-also ns k σ t (sym e ∙ h) x) (rw q at (rw u at p))
+
+  pub prints-plain : (op ≡ 38 → ⊥) → Prints ns vs (HoldsTest ns k) testText old new r → Prints ns vs (HoldsClause ns k) clauseText old new r
+  prints-plain h p = prints-as (λ σ t y x. clause-plain ns k σ t (λ z. h (e ∙ z)) x) p
+
+  pub prints-last : (op ≡ 39 → ⊥) → Prints ns vs (HoldsClause ns k) clauseText old new r → Prints ns vs (HoldsRule ns k) ruleText old new r
+  prints-last h p = prints-as (λ σ t y x. rule-last ns k σ t (λ z. h (e ∙ z)) x) p
+
+-- Quantifiers.
+
+pub ready-choice : {ns vs : List ℕ} {k d : ℕ} → Ready ns k vs → d < length vs → Ready ns (getD vs d 0) (take d vs)
+ready-choice {ns} {vs} {k} {d} w h =
+    let l : length (take d vs) ≡ d = length-take-le d vs (omega arith) in
+    record {
+      n = w .n;
+      tidy = w .tidy;
+      node = w .below d h;
+      below = λ i g. rw (getD-take d vs i 0 (omega arith)) (w .below i (omega arith));
+      few = omega (arith, w .few);
+    }
+
+-- One quantifier, from its parts.
+pub prints-quantifier : {ns : List ℕ} (vs : List ℕ) {d : ℕ} {old new : Bytes} {r : ℕ} → d < length vs
+    → Prints ns (take d vs) (Holds ns (getD vs d 0)) (λ σ x. (((ascii "[v" ++ ((49 + d) ∷ [])) ++ ascii "@") ++ text σ x) ++ ascii "]") old new r
+    → Prints ns (take d vs) (Holds ns (getD vs d 0)) quantifier old new r
+unfolding quantifier
+prints-quantifier {ns} vs {d} h p =
+    prints-as
+    (λ σ x y z.
+    let l : length σ ≡ d = all-length ns (take d vs) σ y ∙ length-take-le d vs (omega arith) in
+    record { thing = x; held = z; written = rw l (ap (λ (b : Bytes). ascii "[v" ++ ((49 + d) ∷ b)) (append-assoc (ascii "@") (text σ x) (ascii "]"))) })
+    p
+
+pub quantifiers-none : {ns vs : List ℕ} {d : ℕ} (old : Bytes) → length vs ≤ d → Prints ns vs Any (λ σ u. quantifiersFrom d σ) old old 0
+unfolding quantifiers
+quantifiers-none {ns} {vs} {d} old h =
+    record {
+      room = room-none old;
+      shows = λ σ u y x.
+          let l : length σ ≤ d = omega (arith, all-length ns vs σ y) in
+          rw (drop-of-length-le σ l) (puts-empty old);
+    }
+
+pub quantifiers-then : {ns vs : List ℕ} {d : ℕ} {old mid rest : Bytes} {r s : ℕ} → d < length vs
+    → Prints ns (take d vs) (Holds ns (getD vs d 0)) quantifier old mid r
+    → Prints ns vs Any (λ σ u. quantifiersFrom (d + 1) σ) (midOf r (length mid - r) mid) rest s
+    → Prints ns vs Any (λ σ u. quantifiersFrom d σ) old (putMid r (length mid - r) mid rest) (r + s)
+quantifiers-then {ns} {vs} {d} h p q =
+    record {
+      room = room-then (p .room) (q .room);
+      shows = λ σ u y x.
+          let z = split ns vs σ d h y in
+          puts-as (rw add-one (quantifiers-more ns vs σ d z)) (puts-then (p .shows (take d σ) (z .term) (z .before) (z .holds)) (q .shows σ tt y tt));
+    }

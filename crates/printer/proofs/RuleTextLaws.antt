@@ -1,0 +1,219 @@
+-- What is written for the test, the clause and the rule that a node holds, and for a quantifier.
+-- Assumes nothing.
+use mathlib.Core.Path.{_≡_, refl, ap, _∙_}
+use mathlib.Core.List.{List, [], _∷_, _++_, append-assoc}
+use Prim.Native.Nat.{ℕ, suc, zero, _+_, _-_, _/_, _%_, _≤_, _<_}
+use native.Mathlib.Omega.{arith}
+use lib.ListN.{length, getD, take, drop}
+use Rattle.syntax.specs.Bytes.{Bytes, ascii}
+use Rattle.syntax.specs.Term.{Term, Choices, text}
+use Rattle.syntax.specs.Rule.{Cmp, lt, le, gt, ge, eq, ne, Sign, is, isnt, number, count, Test, member, alike, empty, sized}
+use Rattle.syntax.specs.Rule.{Clause, plain, when, Rule, last, also, spellCmp, spellBetween, isSign, digits, countText, testText, clauseText, ruleText}
+use Rattle.syntax.specs.Rule.{quantifiers}
+use Rattle.syntax.specs.Arena.{memberOp, alikeOp, emptyOp, cmpNumber, Numbered, Holds, HoldsTest, HoldsClause}
+use Rattle.syntax.specs.Arena.{HoldsRule, HoldsAll}
+use Rattle.printer.specs.Signs.{signs, signOf, cmpSigns, cmpSignOf}
+use Rattle.printer.specs.Printed.{quantifier, quantifiersFrom}
+use Rattle.syntax.proofs.ArenaLaws.{Parts, parts, one-parts, both-parts}
+use Rattle.printer.proofs.TextLaws.{Shown, AtBoth}
+
+-- The operation of the node that holds a test.
+
+unfoldable testOp : Test → ℕ
+testOp (member a b) = memberOp
+testOp (alike g a b) = alikeOp g
+testOp (empty g a) = emptyOp g
+testOp (sized c a (number m)) = 26 + cmpNumber c
+testOp (sized c a (count b)) = 32 + cmpNumber c
+
+cmp-small : (c : Cmp) → cmpNumber c < 6
+unfolding cmpNumber
+cmp-small lt = omega arith
+cmp-small le = omega arith
+cmp-small gt = omega arith
+cmp-small ge = omega arith
+cmp-small eq = omega arith
+cmp-small ne = omega arith
+
+alike-range : (g : Sign) → (22 ≤ alikeOp g) × (alikeOp g < 24)
+unfolding alikeOp
+alike-range is = (omega arith, omega arith)
+alike-range isnt = (omega arith, omega arith)
+
+empty-range : (g : Sign) → (24 ≤ emptyOp g) × (emptyOp g < 26)
+unfolding emptyOp
+empty-range is = (omega arith, omega arith)
+empty-range isnt = (omega arith, omega arith)
+
+numbered-parts : {ns : List ℕ} {k o i m : ℕ} → Numbered ns k o i m → o < 256 → Parts (getD ns k 0) o i m
+numbered-parts {ns} {k} {o} {i} {m} x h = parts (getD ns k 0) o i m (x .node) h (x .small)
+
+test-op : (ns : List ℕ) (k : ℕ) (p : Test) → HoldsTest ns k p → getD ns k 0 % 256 ≡ testOp p
+unfolding HoldsTest testOp
+test-op ns k (member a b) x = both-parts (x .2) (omega arith) .op
+test-op ns k (alike g a b) x = both-parts (x .2) (omega (arith, alike-range g .1)) .op
+test-op ns k (empty g a) x = one-parts (x .1) (omega (arith, empty-range g .1)) .op
+test-op ns k (sized c a (number m)) x = numbered-parts (x .1) (omega (arith, cmp-small c)) .op
+test-op ns k (sized c a (count b)) x = both-parts (x .2) (omega (arith, cmp-small c)) .op
+
+pub test-range : (ns : List ℕ) (k : ℕ) (p : Test) → HoldsTest ns k p → (21 ≤ getD ns k 0 % 256) × (getD ns k 0 % 256 < 38)
+unfolding testOp
+test-range ns k (member a b) x = let e = test-op ns k (member a b) x in (omega arith, omega arith)
+test-range ns k (alike g a b) x = let e = test-op ns k (alike g a b) x in let r = alike-range g in (omega arith, omega arith)
+test-range ns k (empty g a) x = let e = test-op ns k (empty g a) x in let r = empty-range g in (omega arith, omega arith)
+test-range ns k (sized c a (number m)) x = let e = test-op ns k (sized c a (number m)) x in let r = cmp-small c in (omega arith, omega arith)
+test-range ns k (sized c a (count b)) x = let e = test-op ns k (sized c a (count b)) x in let r = cmp-small c in (omega arith, omega arith)
+
+cmp-sign : (c : Cmp) → cmpSignOf (cmpNumber c) ≡ spellCmp c
+unfolding cmpSigns cmpNumber
+cmp-sign lt = refl
+cmp-sign le = refl
+cmp-sign gt = refl
+cmp-sign ge = refl
+cmp-sign eq = refl
+cmp-sign ne = refl
+
+alike-sign : (g : Sign) → signOf (alikeOp g) ≡ spellBetween (isSign g)
+unfolding signs alikeOp
+alike-sign is = refl
+alike-sign isnt = refl
+
+empty-sign : (g : Sign) → signOf (emptyOp g) ≡ spellBetween (isSign g)
+unfolding signs emptyOp
+empty-sign is = refl
+empty-sign isnt = refl
+
+-- Node k, its operation and its indexes: how the test that it holds is written.
+module _ (ns : List ℕ) (k : ℕ) (σ : Choices) where
+  abbrev o : ℕ
+  o = getD ns k 0 % 256
+
+  abbrev i : ℕ
+  i = getD ns k 0 / 256 % 4096
+
+  abbrev j : ℕ
+  j = getD ns k 0 / 1048576
+
+  abbrev counted : Term → Bytes
+  counted a = ascii "|" ++ (text σ a ++ ascii "|")
+
+  sized-text : (a : Term) (u v : Bytes) → (counted a ++ u) ++ v ≡ ascii "|" ++ (text σ a ++ (ascii "|" ++ (u ++ v)))
+  sized-text a u v = append-assoc (counted a) u v ∙ ap (λ (l : Bytes). ascii "|" ++ l) (append-assoc (text σ a) (ascii "|") (u ++ v))
+
+  module _ {p : ℕ} {l m : ℕ} (x : Parts (getD ns k 0) p l m) where
+    left-at : (a : Term) → Holds ns l a → Holds ns i a
+    left-at a y = rw (x .left) y
+
+    both-at : (a b : Term) → Holds ns l a → Holds ns m b → AtBoth ns k σ (Holds ns) (Holds ns) (a, b)
+    both-at a b y z = (rw (x .left) y, rw (x .right) z)
+
+  pub test-compared : (p : Test) → 21 ≤ o → o < 24 → HoldsTest ns k p
+      → Shown (AtBoth ns k σ (Holds ns) (Holds ns)) (λ (t : Term × Term). (text σ (t .0) ++ signOf o) ++ text σ (t .1)) (testText σ p)
+  unfolding testText testOp HoldsTest signs
+  test-compared (member a b) h l x =
+      let y = both-parts (x .2) (omega arith) in
+      record { thing = (a, b); held = both-at y a b (x .3) (x .4); written = rw (y .op) (append-assoc (text σ a) _ _) }
+  test-compared (alike g a b) h l x =
+      let y = both-parts (x .2) (omega (arith, alike-range g .1)) in
+      record { thing = (a, b); held = both-at y a b (x .3) (x .4); written = rw (y .op, alike-sign g) (append-assoc (text σ a) _ _) }
+  test-compared (empty g a) h l x = absurd (omega (arith, test-op ns k (empty g a) x, empty-range g .0))
+  test-compared (sized c a (number m)) h l x = absurd (omega (arith, test-op ns k (sized c a (number m)) x))
+  test-compared (sized c a (count b)) h l x = absurd (omega (arith, test-op ns k (sized c a (count b)) x))
+
+  pub test-empty : (p : Test) → 24 ≤ o → o < 26 → HoldsTest ns k p → Shown (Holds ns i) (λ (a : Term). (text σ a ++ signOf o) ++ ascii "{}") (testText σ p)
+  unfolding testText testOp HoldsTest
+  test-empty (member a b) h l x = absurd (omega (arith, test-op ns k (member a b) x))
+  test-empty (alike g a b) h l x = absurd (omega (arith, test-op ns k (alike g a b) x, alike-range g .1))
+  test-empty (empty g a) h l x =
+      let y = one-parts (x .1) (omega (arith, empty-range g .1)) in
+      record { thing = a; held = left-at y a (x .2); written = rw (y .op, empty-sign g) (append-assoc (text σ a) _ _) }
+  test-empty (sized c a (number m)) h l x = absurd (omega (arith, test-op ns k (sized c a (number m)) x))
+  test-empty (sized c a (count b)) h l x = absurd (omega (arith, test-op ns k (sized c a (count b)) x))
+
+  pub test-number : (p : Test) → 26 ≤ o → o < 32 → HoldsTest ns k p
+      → Shown (Holds ns i) (λ (a : Term). (counted a ++ cmpSignOf ((o - 26) % 6)) ++ digits (j % 100)) (testText σ p)
+  unfolding testText countText testOp HoldsTest
+  test-number (member a b) h l x = absurd (omega (arith, test-op ns k (member a b) x))
+  test-number (alike g a b) h l x = absurd (omega (arith, test-op ns k (alike g a b) x, alike-range g .1))
+  test-number (empty g a) h l x = absurd (omega (arith, test-op ns k (empty g a) x, empty-range g .1))
+  test-number (sized c a (number m)) h l x =
+      let y = numbered-parts (x .1) (omega (arith, cmp-small c)) in
+      let q : (o - 26) % 6 ≡ cmpNumber c = rw (y .op) (omega (arith, cmp-small c)) in
+      let u : j % 100 ≡ m = rw (y .right) (omega (arith, x .1 .few)) in
+      record { thing = a; held = left-at y a (x .2); written = rw (q, u, cmp-sign c) (sized-text a (spellCmp c) (digits m)) }
+  test-number (sized c a (count b)) h l x = absurd (omega (arith, test-op ns k (sized c a (count b)) x))
+
+  pub test-count : (p : Test) → 32 ≤ o → o < 38 → HoldsTest ns k p
+      → Shown (AtBoth ns k σ (Holds ns) (Holds ns)) (λ (t : Term × Term). (counted (t .0) ++ cmpSignOf ((o - 26) % 6)) ++ counted (t .1)) (testText σ p)
+  unfolding testText countText testOp HoldsTest
+  test-count (member a b) h l x = absurd (omega (arith, test-op ns k (member a b) x))
+  test-count (alike g a b) h l x = absurd (omega (arith, test-op ns k (alike g a b) x, alike-range g .1))
+  test-count (empty g a) h l x = absurd (omega (arith, test-op ns k (empty g a) x, empty-range g .1))
+  test-count (sized c a (number m)) h l x = absurd (omega (arith, test-op ns k (sized c a (number m)) x, cmp-small c))
+  test-count (sized c a (count b)) h l x =
+      let y = both-parts (x .2) (omega (arith, cmp-small c)) in
+      let q : (o - 26) % 6 ≡ cmpNumber c = rw (y .op) (omega (arith, cmp-small c)) in
+      record { thing = (a, b); held = both-at y a b (x .3) (x .4); written = rw (q, cmp-sign c) (sized-text a (spellCmp c) (counted b)) }
+
+  -- Clauses and rules.
+
+  pub clause-plain : (c : Clause) → (o ≡ 38 → ⊥) → HoldsClause ns k c → Shown (HoldsTest ns k) (testText σ) (clauseText σ c)
+  unfolding HoldsClause clauseText
+  clause-plain (plain p) h x = record { thing = p; held = x; written = refl }
+  clause-plain (when p q) h x = absurd (h (both-parts (x .2) (omega arith) .op))
+
+  pub clause-when : (c : Clause) → o ≡ 38 → HoldsClause ns k c
+      → Shown (AtBoth ns k σ (HoldsTest ns) (HoldsTest ns)) (λ (t : Test × Test). (testText σ (t .0) ++ ascii "=>") ++ testText σ (t .1)) (clauseText σ c)
+  unfolding HoldsClause clauseText
+  clause-when (plain p) h x = absurd (omega (arith, test-range ns k p x .1))
+  clause-when (when p q) h x =
+      let y = both-parts (x .2) (omega arith) in
+      record { thing = (p, q); held = (rw (y .left) (x .3), rw (y .right) (x .4)); written = append-assoc (testText σ p) _ _ }
+
+  clause-range : (c : Clause) → HoldsClause ns k c → o < 39
+  unfolding HoldsClause
+  clause-range (plain p) x = omega (arith, test-range ns k p x .1)
+  clause-range (when p q) x = omega (arith, both-parts (x .2) (omega arith) .op)
+
+  pub rule-last : (ρ : Rule) → (o ≡ 39 → ⊥) → HoldsRule ns k ρ → Shown (HoldsClause ns k) (clauseText σ) (ruleText σ ρ)
+  unfolding HoldsRule ruleText
+  rule-last (last c) h x = record { thing = c; held = x; written = refl }
+  rule-last (also c ρ) h x = absurd (h (both-parts (x .2) (omega arith) .op))
+
+  pub rule-also : (ρ : Rule) → o ≡ 39 → HoldsRule ns k ρ
+      → Shown (AtBoth ns k σ (HoldsClause ns) (HoldsRule ns)) (λ (t : Clause × Rule). (clauseText σ (t .0) ++ ascii "^") ++ ruleText σ (t .1)) (ruleText σ ρ)
+  unfolding HoldsRule ruleText
+  rule-also (last c) h x = absurd (omega (arith, clause-range c x))
+  rule-also (also c ρ) h x =
+      let y = both-parts (x .2) (omega arith) in
+      record { thing = (c, ρ); held = (rw (y .left) (x .3), rw (y .right) (x .4)); written = append-assoc (clauseText σ c) _ _ }
+
+-- Choices by their nodes: the one of index d, and those before it.
+
+pub all-length : (ns vs : List ℕ) (σ : Choices) → HoldsAll ns vs σ → length σ ≡ length vs
+all-length ns [] [] y = refl
+all-length ns [] (a ∷ σ) y = absurd y
+all-length ns (v ∷ vs) [] y = absurd y
+all-length ns (v ∷ vs) (a ∷ σ) y = ap suc (all-length ns vs σ (y .1))
+
+pub record Split (ns vs : List ℕ) (σ : Choices) (d : ℕ) : Type 0 where
+  pub term : Term
+  pub holds : Holds ns (getD vs d 0) term
+  pub before : HoldsAll ns (take d vs) (take d σ)
+  pub rest : drop d σ ≡ term ∷ drop (suc d) σ
+  pub upto : take (suc d) σ ≡ take d σ ++ (term ∷ [])
+
+pub split : (ns vs : List ℕ) (σ : Choices) (d : ℕ) → d < length vs → HoldsAll ns vs σ → Split ns vs σ d
+split ns [] σ d h y = absurd (omega arith)
+split ns (v ∷ vs) [] d h y = absurd y
+split ns (v ∷ vs) (a ∷ σ) zero h y = record { term = a; holds = y .0; before = tt; rest = refl; upto = refl }
+split ns (v ∷ vs) (a ∷ σ) (suc d) h y =
+    let s = split ns vs σ d (omega arith) (y .1) in
+    record { term = s .term; holds = s .holds; before = (y .0, s .before); rest = s .rest; upto = ap (λ (l : Choices). a ∷ l) (s .upto) }
+
+-- One quantifier and those after it.
+pub quantifiers-more : (ns vs : List ℕ) (σ : Choices) (d : ℕ) (s : Split ns vs σ d) → quantifier (take d σ) (s .term) ++ quantifiersFrom (suc d) σ ≡ quantifiersFrom d σ
+unfolding quantifier quantifiers
+quantifiers-more ns vs σ d s =
+    rw (s .rest, s .upto)
+    (ap (λ (l : Bytes). ascii "[v" ++ ((49 + length (take d σ)) ∷ (ascii "@" ++ l))) (append-assoc (text (take d σ) (s .term)) (ascii "]") _))

@@ -1,0 +1,151 @@
+-- `put_between` puts what stands between two things: each test is one line of the table of signs.
+-- Assumes nothing.
+use mathlib.Core.Path.{refl}
+use borrow.Author.Needs.{needs}
+use Rattle.syntax.specs.Term.{spellMiddle}
+use Rattle.syntax.specs.Rule.{spellBetween}
+use Rattle.printer.specs.Signs.{signs}
+use Rattle.printer.proofs.PrintedLaws.{puts-at, above, only}
+use Rattle.printer.proofs.names.put_between.Statement.{statement}
+use Rattle.printer.proofs.names.put_between.Tie as tie
+
+slice-aggregate-put : tie.Need-slice-aggregate-put
+slice-aggregate-put c = search needs
+
+put-requires : tie.Need-put-requires
+put-requires c κs = search needs
+
+same-length : tie.Need-same-length
+same-length c = search needs
+
+returns : tie.Need-returns
+unfolding signs spellMiddle spellBetween
+returns c = puts-at signs (c .before .before .before .before .before .if1 .taken) refl (c .before .before .put .ensures)
+
+slice-aggregate-put-2 : tie.Need-slice-aggregate-put-2
+slice-aggregate-put-2 c = search needs
+
+put-requires-2 : tie.Need-put-requires-2
+put-requires-2 c κs = search needs
+
+same-length-2 : tie.Need-same-length-2
+same-length-2 c = search needs
+
+returns-2 : tie.Need-returns-2
+unfolding signs spellMiddle spellBetween
+returns-2 c = puts-at signs (c .before .before .before .before .before .if2 .taken) refl (c .before .before .put2 .ensures)
+
+slice-aggregate-put-3 : tie.Need-slice-aggregate-put-3
+slice-aggregate-put-3 c = search needs
+
+put-requires-3 : tie.Need-put-requires-3
+put-requires-3 c κs = search needs
+
+same-length-3 : tie.Need-same-length-3
+same-length-3 c = search needs
+
+returns-3 : tie.Need-returns-3
+unfolding signs spellMiddle spellBetween
+returns-3 c = puts-at signs (c .before .before .before .before .before .if3 .taken) refl (c .before .before .put3 .ensures)
+
+slice-aggregate-put-4 : tie.Need-slice-aggregate-put-4
+slice-aggregate-put-4 c = search needs
+
+put-requires-4 : tie.Need-put-requires-4
+put-requires-4 c κs = search needs
+
+same-length-4 : tie.Need-same-length-4
+same-length-4 c = search needs
+
+returns-4 : tie.Need-returns-4
+unfolding signs spellMiddle spellBetween
+returns-4 c = puts-at signs (c .before .before .before .before .before .if4 .taken) refl (c .before .before .put4 .ensures)
+
+slice-aggregate-put-5 : tie.Need-slice-aggregate-put-5
+slice-aggregate-put-5 c = search needs
+
+put-requires-5 : tie.Need-put-requires-5
+put-requires-5 c κs = search needs
+
+same-length-5 : tie.Need-same-length-5
+same-length-5 c = search needs
+
+returns-5 : tie.Need-returns-5
+unfolding signs spellMiddle spellBetween
+returns-5 c = puts-at signs (c .before .before .before .before .before .if5 .taken) refl (c .before .before .put5 .ensures)
+
+slice-aggregate-put-6 : tie.Need-slice-aggregate-put-6
+slice-aggregate-put-6 c = search needs
+
+put-requires-6 : tie.Need-put-requires-6
+put-requires-6 c κs = search needs
+
+same-length-6 : tie.Need-same-length-6
+same-length-6 c = search needs
+
+returns-6 : tie.Need-returns-6
+unfolding signs spellMiddle spellBetween
+returns-6 c = puts-at signs (c .before .before .before .before .before .if6 .taken) refl (c .before .before .put6 .ensures)
+
+slice-aggregate-put-7 : tie.Need-slice-aggregate-put-7
+slice-aggregate-put-7 c = search needs
+
+put-requires-7 : tie.Need-put-requires-7
+put-requires-7 c κs = search needs
+
+same-length-7 : tie.Need-same-length-7
+same-length-7 c = search needs
+
+returns-7 : tie.Need-returns-7
+unfolding signs spellMiddle spellBetween
+returns-7 c = puts-at signs (c .before .before .before .before .before .if7 .taken) refl (c .before .before .put7 .ensures)
+
+slice-aggregate-put-8 : tie.Need-slice-aggregate-put-8
+slice-aggregate-put-8 c = search needs
+
+put-requires-8 : tie.Need-put-requires-8
+put-requires-8 c κs = search needs
+
+same-length-8 : tie.Need-same-length-8
+same-length-8 c = search needs
+
+returns-8 : tie.Need-returns-8
+unfolding signs spellMiddle spellBetween
+returns-8 c = puts-at signs (only {a = 25} (c .before .before .before .before .before .before .before .before .before .before .before .before .before .pre .1) (above {a = 24} (above {a = 23} (above {a = 22} (above {a = 21} (above {a = 20} (above {a = 19} (above {a = 18} (c .before .before .before .before .before .before .before .before .before .before .before .before .before .pre .0) (c .before .before .before .before .before .before .before .before .before .before .before .if1 .left)) (c .before .before .before .before .before .before .before .before .before .before .if2 .left)) (c .before .before .before .before .before .before .before .before .before .if3 .left)) (c .before .before .before .before .before .before .before .before .if4 .left)) (c .before .before .before .before .before .before .before .if5 .left)) (c .before .before .before .before .before .before .if6 .left)) (c .before .before .before .before .before .if7 .left))) refl (c .before .before .put8 .ensures)
+
+pub put-between-spec : {M : Type 1} → statement M
+put-between-spec =
+    tie.close
+    (tie.spec
+    slice-aggregate-put
+    put-requires
+    same-length
+    returns
+    slice-aggregate-put-2
+    put-requires-2
+    same-length-2
+    returns-2
+    slice-aggregate-put-3
+    put-requires-3
+    same-length-3
+    returns-3
+    slice-aggregate-put-4
+    put-requires-4
+    same-length-4
+    returns-4
+    slice-aggregate-put-5
+    put-requires-5
+    same-length-5
+    returns-5
+    slice-aggregate-put-6
+    put-requires-6
+    same-length-6
+    returns-6
+    slice-aggregate-put-7
+    put-requires-7
+    same-length-7
+    returns-7
+    slice-aggregate-put-8
+    put-requires-8
+    same-length-8
+    returns-8)

@@ -1,0 +1,117 @@
+-- `put_cmp` puts each comparison: each test is one line of the table of comparisons.
+-- Assumes nothing.
+use mathlib.Core.Path.{refl}
+use native.Mathlib.Omega.{arith}
+use borrow.Author.Needs.{needs}
+use Rattle.syntax.specs.Rule.{spellCmp}
+use Rattle.printer.specs.Signs.{cmpSigns}
+use Rattle.printer.proofs.PrintedLaws.{puts-at, above, only}
+use Rattle.printer.proofs.names.put_cmp.Statement.{statement}
+use Rattle.printer.proofs.names.put_cmp.Tie as tie
+
+slice-aggregate-put : tie.Need-slice-aggregate-put
+slice-aggregate-put c = search needs
+
+put-requires : tie.Need-put-requires
+put-requires c κs = search needs
+
+same-length : tie.Need-same-length
+same-length c = search needs
+
+returns : tie.Need-returns
+unfolding cmpSigns spellCmp
+returns c = puts-at cmpSigns (c .before .before .before .before .before .if1 .taken) refl (c .before .before .put .ensures)
+
+slice-aggregate-put-2 : tie.Need-slice-aggregate-put-2
+slice-aggregate-put-2 c = search needs
+
+put-requires-2 : tie.Need-put-requires-2
+put-requires-2 c κs = search needs
+
+same-length-2 : tie.Need-same-length-2
+same-length-2 c = search needs
+
+returns-2 : tie.Need-returns-2
+unfolding cmpSigns spellCmp
+returns-2 c = puts-at cmpSigns (c .before .before .before .before .before .if2 .taken) refl (c .before .before .put2 .ensures)
+
+slice-aggregate-put-3 : tie.Need-slice-aggregate-put-3
+slice-aggregate-put-3 c = search needs
+
+put-requires-3 : tie.Need-put-requires-3
+put-requires-3 c κs = search needs
+
+same-length-3 : tie.Need-same-length-3
+same-length-3 c = search needs
+
+returns-3 : tie.Need-returns-3
+unfolding cmpSigns spellCmp
+returns-3 c = puts-at cmpSigns (c .before .before .before .before .before .if3 .taken) refl (c .before .before .put3 .ensures)
+
+slice-aggregate-put-4 : tie.Need-slice-aggregate-put-4
+slice-aggregate-put-4 c = search needs
+
+put-requires-4 : tie.Need-put-requires-4
+put-requires-4 c κs = search needs
+
+same-length-4 : tie.Need-same-length-4
+same-length-4 c = search needs
+
+returns-4 : tie.Need-returns-4
+unfolding cmpSigns spellCmp
+returns-4 c = puts-at cmpSigns (c .before .before .before .before .before .if4 .taken) refl (c .before .before .put4 .ensures)
+
+slice-aggregate-put-5 : tie.Need-slice-aggregate-put-5
+slice-aggregate-put-5 c = search needs
+
+put-requires-5 : tie.Need-put-requires-5
+put-requires-5 c κs = search needs
+
+same-length-5 : tie.Need-same-length-5
+same-length-5 c = search needs
+
+returns-5 : tie.Need-returns-5
+unfolding cmpSigns spellCmp
+returns-5 c = puts-at cmpSigns (c .before .before .before .before .before .if5 .taken) refl (c .before .before .put5 .ensures)
+
+slice-aggregate-put-6 : tie.Need-slice-aggregate-put-6
+slice-aggregate-put-6 c = search needs
+
+put-requires-6 : tie.Need-put-requires-6
+put-requires-6 c κs = search needs
+
+same-length-6 : tie.Need-same-length-6
+same-length-6 c = search needs
+
+returns-6 : tie.Need-returns-6
+unfolding cmpSigns spellCmp
+returns-6 c = puts-at cmpSigns (only {a = 5} (c .before .before .before .before .before .before .before .before .before .before .before .pre) (above {a = 4} (above {a = 3} (above {a = 2} (above {a = 1} (above {a = 0} (omega arith) (c .before .before .before .before .before .before .before .before .before .if1 .left)) (c .before .before .before .before .before .before .before .before .if2 .left)) (c .before .before .before .before .before .before .before .if3 .left)) (c .before .before .before .before .before .before .if4 .left)) (c .before .before .before .before .before .if5 .left))) refl (c .before .before .put6 .ensures)
+
+pub put-cmp-spec : {M : Type 1} → statement M
+put-cmp-spec =
+    tie.close
+    (tie.spec
+    slice-aggregate-put
+    put-requires
+    same-length
+    returns
+    slice-aggregate-put-2
+    put-requires-2
+    same-length-2
+    returns-2
+    slice-aggregate-put-3
+    put-requires-3
+    same-length-3
+    returns-3
+    slice-aggregate-put-4
+    put-requires-4
+    same-length-4
+    returns-4
+    slice-aggregate-put-5
+    put-requires-5
+    same-length-5
+    returns-5
+    slice-aggregate-put-6
+    put-requires-6
+    same-length-6
+    returns-6)

@@ -1,0 +1,3 @@
+-- What the writers of terms, tests, clauses, rules and formulas leave in a sheet.
+pub mod Printed
+pub mod Signs

@@ -1,0 +1,34 @@
+-- What is written for an operation: a name with its bracket, or the sign that stands between two things.
+-- Internal: contracts of entry points do not speak of it. Assumes nothing.
+use mathlib.Core.Bool.{cond}
+use mathlib.Core.List.{List, [], _∷_}
+use Prim.Native.Nat.{ℕ}
+use lib.Dec.{eqb}
+use lib.ListN.{getD}
+use Rattle.syntax.specs.Bytes.{Bytes, ascii}
+use Rattle.syntax.specs.Term.{bU, bR, bOP, bOBJ, bP, bS, bCR, bCP, bCU, user, roles, roles*, sessions, permissions, permissions*, object}
+use Rattle.syntax.specs.Term.{isBase, isCall, isOE, isAO, isOperations, isBracket, spell, isMeet, isJoin, spellMiddle}
+use Rattle.syntax.specs.Rule.{is, isnt, isIn, isSign, spellBetween, lt, le, gt, ge, eq, ne, spellCmp}
+
+-- By the operation's number; for `operations`, with two terms, the comma.
+unfoldable pub signs : List Bytes
+signs =
+    spell (isBase bU) ∷ spell (isBase bR) ∷ spell (isBase bOP) ∷ spell (isBase bOBJ) ∷ spell (isBase bP) ∷ spell (isBase bS)
+    ∷ spell (isBase bCR) ∷ spell (isBase bCP) ∷ spell (isBase bCU)
+    ∷ spell (isCall user) ∷ spell (isCall roles) ∷ spell (isCall roles*) ∷ spell (isCall sessions) ∷ spell (isCall permissions)
+    ∷ spell (isCall permissions*) ∷ spell (isCall object) ∷ spell isOE ∷ spell isAO
+    ∷ ascii "," ∷ spellMiddle isMeet ∷ spellMiddle isJoin
+    ∷ spellBetween isIn ∷ spellBetween (isSign is) ∷ spellBetween (isSign isnt) ∷ spellBetween (isSign is) ∷ spellBetween (isSign isnt) ∷ []
+
+abbrev pub signOf : ℕ → Bytes
+signOf op = getD signs op []
+
+unfoldable pub cmpSigns : List Bytes
+cmpSigns = spellCmp lt ∷ spellCmp le ∷ spellCmp gt ∷ spellCmp ge ∷ spellCmp eq ∷ spellCmp ne ∷ []
+
+abbrev pub cmpSignOf : ℕ → Bytes
+cmpSignOf c = getD cmpSigns c []
+
+-- What stands before the first of two terms.
+abbrev pub openOf : ℕ → Bytes
+openOf op = cond (eqb op 18) (spell isOperations) (spell isBracket)

@@ -1,0 +1,193 @@
+// The names and signs of the language, as fixed byte strings put into a sheet.
+// Each function has those of a few operations, by their numbers.
+ghost use mathlib.Core.Path.{_≡_};
+ghost use mathlib.Core.List.{_∷_, [], _++_};
+ghost use Prim.Native.Nat.{_+_, _%_, _<_, _≤_};
+ghost use lib.ListN.{getD};
+ghost use Rattle.syntax.specs.Bytes.{ascii};
+ghost use Rattle.syntax.specs.Term.{spell, isChoice};
+ghost use Rattle.syntax.specs.Rule.{digits};
+ghost use Rattle.printer.specs.Printed.{Puts};
+ghost use Rattle.printer.specs.Signs.{signOf, cmpSignOf, openOf};
+use crate::sheet::put;
+
+// U to CU: the operations 0 to 8.
+fn put_base(out: &mut [u8], op: u32) -> usize
+    requires { ⌜ op < 9 ⌝ }
+    ensures { λ r. ⌜ Puts (signOf op) (now (out .entry)) (now (out .exit)) r ⌝ }
+{
+    if op == 0 {
+        return put(out, b"U");
+    }
+    if op == 1 {
+        return put(out, b"R");
+    }
+    if op == 2 {
+        return put(out, b"OP");
+    }
+    if op == 3 {
+        return put(out, b"OBJ");
+    }
+    if op == 4 {
+        return put(out, b"P");
+    }
+    if op == 5 {
+        return put(out, b"S");
+    }
+    if op == 6 {
+        return put(out, b"CR");
+    }
+    if op == 7 {
+        return put(out, b"CP");
+    }
+    put(out, b"CU")
+}
+
+// `user(` to `AO(`: the operations 9 to 17.
+fn put_call(out: &mut [u8], op: u32) -> usize
+    requires { ⌜ (9 ≤ op) × (op < 18) ⌝ }
+    ensures { λ r. ⌜ Puts (signOf op) (now (out .entry)) (now (out .exit)) r ⌝ }
+{
+    if op == 9 {
+        return put(out, b"user(");
+    }
+    if op == 10 {
+        return put(out, b"roles(");
+    }
+    if op == 11 {
+        return put(out, b"roles*(");
+    }
+    if op == 12 {
+        return put(out, b"sessions(");
+    }
+    if op == 13 {
+        return put(out, b"permissions(");
+    }
+    if op == 14 {
+        return put(out, b"permissions*(");
+    }
+    if op == 15 {
+        return put(out, b"object(");
+    }
+    if op == 16 {
+        return put(out, b"OE(");
+    }
+    put(out, b"AO(")
+}
+
+// What stands between two things: the operations 18 to 25.
+fn put_between(out: &mut [u8], op: u32) -> usize
+    requires { ⌜ (18 ≤ op) × (op < 26) ⌝ }
+    ensures { λ r. ⌜ Puts (signOf op) (now (out .entry)) (now (out .exit)) r ⌝ }
+{
+    if op == 18 {
+        return put(out, b",");
+    }
+    if op == 19 {
+        return put(out, b"&");
+    }
+    if op == 20 {
+        return put(out, b"+");
+    }
+    if op == 21 {
+        return put(out, b"@");
+    }
+    if op == 22 {
+        return put(out, b"=");
+    }
+    if op == 23 {
+        return put(out, b"!=");
+    }
+    if op == 24 {
+        return put(out, b"=");
+    }
+    put(out, b"!=")
+}
+
+// The name or sign of an operation on terms.
+pub fn put_sign(out: &mut [u8], op: u32) -> usize
+    requires { ⌜ op < 26 ⌝ }
+    ensures { λ r. ⌜ Puts (signOf op) (now (out .entry)) (now (out .exit)) r ⌝ }
+{
+    if op < 9 {
+        return put_base(out, op);
+    }
+    if op < 18 {
+        return put_call(out, op);
+    }
+    put_between(out, op)
+}
+
+// A comparison of counts, by its number 0 to 5.
+pub fn put_cmp(out: &mut [u8], c: u32) -> usize
+    requires { ⌜ c < 6 ⌝ }
+    ensures { λ r. ⌜ Puts (cmpSignOf c) (now (out .entry)) (now (out .exit)) r ⌝ }
+{
+    if c == 0 {
+        return put(out, b"<");
+    }
+    if c == 1 {
+        return put(out, b"<=");
+    }
+    if c == 2 {
+        return put(out, b">");
+    }
+    if c == 3 {
+        return put(out, b">=");
+    }
+    if c == 4 {
+        return put(out, b"=");
+    }
+    put(out, b"!=")
+}
+
+// The digit of the choice of index `d`: 1 for the first.
+pub fn put_digit(out: &mut [u8], d: usize) -> usize
+    requires { ⌜ d < 8 ⌝ }
+    ensures { λ r. ⌜ Puts ((49 + d) ∷ []) (now (out .entry)) (now (out .exit)) r ⌝ }
+{
+    let text = [49 + d as u8];
+    put(out, &text)
+}
+
+// A number below 100 without leading zero; of a larger one its last two digits.
+pub fn put_number(out: &mut [u8], m: usize) -> usize
+    ensures { λ r. ⌜ Puts (digits (m % 100)) (now (out .entry)) (now (out .exit)) r ⌝ }
+{
+    let n = m % 100;
+    if n < 10 {
+        let one = [48 + n as u8];
+        return put(out, &one);
+    }
+    let two = [48 + (n / 10) as u8, 48 + (n % 10) as u8];
+    put(out, &two)
+}
+
+// What opens a term of two terms.
+pub fn put_open(out: &mut [u8], op: u32) -> usize
+    ensures { λ r. ⌜ Puts (openOf op) (now (out .entry)) (now (out .exit)) r ⌝ }
+{
+    if op == 18 {
+        return put(out, b"operations(");
+    }
+    put(out, b"(")
+}
+
+// The variable of index `d`.
+pub fn put_choice(out: &mut [u8], d: usize) -> usize
+    requires { ⌜ d < 8 ⌝ }
+    ensures { λ r. ⌜ Puts (spell isChoice ++ ((49 + d) ∷ [])) (now (out .entry)) (now (out .exit)) r ⌝ }
+{
+    let at = put(out, b"v");
+    at + put_digit(&mut out[at..], d)
+}
+
+// The beginning of the quantifier of the variable of index `d`.
+pub fn put_bound(out: &mut [u8], d: usize) -> usize
+    requires { ⌜ d < 8 ⌝ }
+    ensures { λ r. ⌜ Puts ((ascii "[v" ++ ((49 + d) ∷ [])) ++ ascii "@") (now (out .entry)) (now (out .exit)) r ⌝ }
+{
+    let mut at = put(out, b"[v");
+    at += put_digit(&mut out[at..], d);
+    at + put(&mut out[at..], b"@")
+}

@@ -1,0 +1,151 @@
+// The writers of tests, clauses, rules and formulas.
+// A rule's text is written with no choices, a formula with those of its rule.
+ghost use mathlib.Core.Path.{_≡_};
+ghost use mathlib.Core.List.{_++_};
+ghost use Prim.Native.Nat.{_%_, _<_, _≤_};
+ghost use lib.ListN.{length, getD, take};
+ghost use Rattle.syntax.specs.Bytes.{ascii};
+ghost use Rattle.syntax.specs.Term.{text};
+ghost use Rattle.syntax.specs.Rule.{testText, clauseText, ruleText};
+ghost use Rattle.syntax.specs.Arena.{Holds, HoldsTest, HoldsClause, HoldsRule};
+ghost use Rattle.printer.specs.Printed.{Prints, Ready, quantifier, quantifiersFrom, formulaIn, Any};
+use crate::names::put_bound;
+use crate::names::put_cmp;
+use crate::names::put_number;
+use crate::names::put_sign;
+use crate::nodes::left_at;
+use crate::nodes::op_at;
+use crate::nodes::right_at;
+use crate::sheet::put;
+use crate::terms::write_term;
+
+// Two terms with a sign between them.
+fn write_compared(nodes: &[u32], k: usize, vars: &[u32], out: &mut [u8]) -> usize
+    requires { ⌜ Ready (now nodes) k (now vars) ⌝ }
+    requires { ⌜ (21 ≤ getD (now nodes) k 0 % 256) × (getD (now nodes) k 0 % 256 < 24) ⌝ }
+    ensures { λ r. ⌜ Prints (now (nodes .entry)) (now (vars .entry)) (HoldsTest (now (nodes .entry)) k) testText (now (out .entry)) (now (out .exit)) r ⌝ }
+{
+    let op = op_at(nodes, k);
+    let mut at = write_term(nodes, left_at(nodes, k), vars, out);
+    at += put_sign(&mut out[at..], op);
+    at + write_term(nodes, right_at(nodes, k), vars, &mut out[at..])
+}
+
+// A term compared with the empty set.
+fn write_empty(nodes: &[u32], k: usize, vars: &[u32], out: &mut [u8]) -> usize
+    requires { ⌜ Ready (now nodes) k (now vars) ⌝ }
+    requires { ⌜ (24 ≤ getD (now nodes) k 0 % 256) × (getD (now nodes) k 0 % 256 < 26) ⌝ }
+    ensures { λ r. ⌜ Prints (now (nodes .entry)) (now (vars .entry)) (HoldsTest (now (nodes .entry)) k) testText (now (out .entry)) (now (out .exit)) r ⌝ }
+{
+    let op = op_at(nodes, k);
+    let mut at = write_term(nodes, left_at(nodes, k), vars, out);
+    at += put_sign(&mut out[at..], op);
+    at + put(&mut out[at..], b"{}")
+}
+
+// The count of a term.
+fn write_count(nodes: &[u32], i: usize, vars: &[u32], out: &mut [u8]) -> usize
+    requires { ⌜ Ready (now nodes) i (now vars) ⌝ }
+    ensures { λ r. ⌜ Prints (now (nodes .entry)) (now (vars .entry)) (Holds (now (nodes .entry)) i) (λ σ a. ascii "|" ++ (text σ a ++ ascii "|")) (now (out .entry)) (now (out .exit)) r ⌝ }
+{
+    let mut at = put(out, b"|");
+    at += write_term(nodes, i, vars, &mut out[at..]);
+    at + put(&mut out[at..], b"|")
+}
+
+// A count compared with a number or a count.
+fn write_sized(nodes: &[u32], k: usize, vars: &[u32], out: &mut [u8]) -> usize
+    requires { ⌜ Ready (now nodes) k (now vars) ⌝ }
+    requires { ⌜ (26 ≤ getD (now nodes) k 0 % 256) × (getD (now nodes) k 0 % 256 < 38) ⌝ }
+    ensures { λ r. ⌜ Prints (now (nodes .entry)) (now (vars .entry)) (HoldsTest (now (nodes .entry)) k) testText (now (out .entry)) (now (out .exit)) r ⌝ }
+{
+    let op = op_at(nodes, k);
+    let mut at = write_count(nodes, left_at(nodes, k), vars, out);
+    at += put_cmp(&mut out[at..], (op - 26) % 6);
+    let m = right_at(nodes, k);
+    if op < 32 {
+        return at + put_number(&mut out[at..], m);
+    }
+    at + write_count(nodes, m, vars, &mut out[at..])
+}
+
+// The test at node `k`.
+fn write_test(nodes: &[u32], k: usize, vars: &[u32], out: &mut [u8]) -> usize
+    requires { ⌜ Ready (now nodes) k (now vars) ⌝ }
+    ensures { λ r. ⌜ Prints (now (nodes .entry)) (now (vars .entry)) (HoldsTest (now (nodes .entry)) k) testText (now (out .entry)) (now (out .exit)) r ⌝ }
+{
+    let op = op_at(nodes, k);
+    if op < 21 {
+        return 0;
+    }
+    if op < 24 {
+        return write_compared(nodes, k, vars, out);
+    }
+    if op < 26 {
+        return write_empty(nodes, k, vars, out);
+    }
+    if op < 38 {
+        return write_sized(nodes, k, vars, out);
+    }
+    0
+}
+
+// The clause at node `k`: a test, or two with `=>` between them.
+fn write_clause(nodes: &[u32], k: usize, vars: &[u32], out: &mut [u8]) -> usize
+    requires { ⌜ Ready (now nodes) k (now vars) ⌝ }
+    ensures { λ r. ⌜ Prints (now (nodes .entry)) (now (vars .entry)) (HoldsClause (now (nodes .entry)) k) clauseText (now (out .entry)) (now (out .exit)) r ⌝ }
+{
+    if op_at(nodes, k) != 38 {
+        return write_test(nodes, k, vars, out);
+    }
+    let mut at = write_test(nodes, left_at(nodes, k), vars, out);
+    at += put(&mut out[at..], b"=>");
+    at + write_test(nodes, right_at(nodes, k), vars, &mut out[at..])
+}
+
+// The rule at node `k`: a clause, or a clause, `^` and a rule.
+pub fn write_rule(nodes: &[u32], k: usize, vars: &[u32], out: &mut [u8]) -> usize
+    requires { ⌜ Ready (now nodes) k (now vars) ⌝ }
+    ensures { λ r. ⌜ Prints (now (nodes .entry)) (now (vars .entry)) (HoldsRule (now (nodes .entry)) k) ruleText (now (out .entry)) (now (out .exit)) r ⌝ }
+{
+    if op_at(nodes, k) != 39 {
+        return write_clause(nodes, k, vars, out);
+    }
+    let mut at = write_clause(nodes, left_at(nodes, k), vars, out);
+    at += put(&mut out[at..], b"^");
+    at + write_rule(nodes, right_at(nodes, k), vars, &mut out[at..])
+}
+
+// The quantifier of the choice of index `d`, whose set names only choices before it.
+fn write_quantifier(nodes: &[u32], vars: &[u32], d: usize, out: &mut [u8]) -> usize
+    requires { ⌜ (d < length (now vars)) × (d < 8) ⌝ }
+    requires { ⌜ Ready (now nodes) (getD (now vars) d 0) (take d (now vars)) ⌝ }
+    ensures { λ r. ⌜ Prints (now (nodes .entry)) (take d (now (vars .entry))) (Holds (now (nodes .entry)) (getD (now (vars .entry)) d 0)) quantifier (now (out .entry)) (now (out .exit)) r ⌝ }
+{
+    let mut at = put_bound(out, d);
+    let k = vars[d] as usize;
+    at += write_term(nodes, k, &vars[..d], &mut out[at..]);
+    at + put(&mut out[at..], b"]")
+}
+
+// The quantifiers from index `d` on, each straight after the one before it: the rest of the sheet is lent, from its middle.
+fn write_quantifiers(nodes: &[u32], k: usize, vars: &[u32], d: usize, out: &mut [u8]) -> usize
+    requires { ⌜ Ready (now nodes) k (now vars) ⌝ }
+    ensures { λ r. ⌜ Prints (now (nodes .entry)) (now (vars .entry)) Any (λ σ u. quantifiersFrom d σ) (now (out .entry)) (now (out .exit)) r ⌝ }
+{
+    if vars.len() <= d {
+        return 0;
+    }
+    let at = write_quantifier(nodes, vars, d, out);
+    at + write_quantifiers(nodes, k, vars, d + 1, &mut out[at..])
+}
+
+// The formula of the rule at node `k`, whose choices are `vars`.
+pub fn write_formula(nodes: &[u32], k: usize, vars: &[u32], out: &mut [u8]) -> usize
+    requires { ⌜ Ready (now nodes) k (now vars) ⌝ }
+    ensures { λ r. ⌜ Prints (now (nodes .entry)) (now (vars .entry)) (HoldsRule (now (nodes .entry)) k) formulaIn (now (out .entry)) (now (out .exit)) r ⌝ }
+{
+    let mut at = write_quantifiers(nodes, k, vars, 0, out);
+    at += put(&mut out[at..], b":");
+    at + write_rule(nodes, k, vars, &mut out[at..])
+}
