@@ -1,0 +1,135 @@
+-- The leaves of an evaluation, by number: what the tables have at a place, what a kind's number says, where a variable stands.
+-- Assumes nothing.
+use mathlib.Core.Path.{_≡_, refl, sym, ap, subst, _∙_}
+use mathlib.Core.Bool.{Bool, true, false, not, _&&_, cond}
+use mathlib.Core.List.{List, [], _∷_}
+use mathlib.Core.Logic.{⊎-elim}
+use Prim.Native.Nat.{ℕ, zero, suc, _+_, _*_, _-_, _%_, _<_, _≤_}
+use native.Mathlib.Nat.{eq-or-lt-of-le}
+use native.Mathlib.Numerals.{add-one}
+use native.Mathlib.Omega.{arith}
+use lib.Dec.{T, eqb, ltb, lit<}
+use lib.ListN.{length, getD, drop, drop-of-length-le, List·getD-eq-default}
+use lib.Seq.{drop-cons}
+use borrow.Author.Tests.{eq-eqb, ne-eqb, lt-ltb, le-ltb}
+use Rattle.words.specs.Words.{itemOf}
+use Rattle.tables.specs.Tables.{Tables}
+use Rattle.tables.specs.Flat.{Fits, counts, sections, flat}
+use Rattle.tables.proofs.FlatLaws.{flat-at}
+use Rattle.rules.specs.Numbers.{kindList, kindOf}
+use Rattle.rules.proofs.TableLaws.{pair}
+use Rattle.values.specs.Values.{baseCount, ofSort, oneValue}
+use Rattle.values.specs.Nodes.{baseAt, sortAt, placeIn}
+
+-- What holds of each number below n.
+abbrev Each : (ℕ → Type 0) → ℕ → Type 0
+Each P zero = Unit {0}
+Each P (suc n) = Each P n × P n
+
+each : (P : ℕ → Type 0) (n : ℕ) → Each P n → (k : ℕ) → k < n → P k
+each P zero h k l = absurd (omega arith)
+each P (suc n) h k l = ⊎-elim (λ (e : k ≡ n). subst P (sym e) (h .1)) (λ (m : k < n). each P n (h .0) k m) (eq-or-lt-of-le (at-most l))
+  where
+    at-most : k < suc n → k ≤ n
+    at-most l = omega arith
+
+-- Where the tables count users, roles, operations, objects, permissions, sessions, and the words of CR, CP, CU.
+abbrev pub countPlaces : List ℕ
+countPlaces = 1 ∷ 0 ∷ 3 ∷ 4 ∷ 5 ∷ 2 ∷ 6 ∷ 8 ∷ 7 ∷ []
+
+pub count-place : (o : ℕ) → o < 9 → getD countPlaces o 0 < 9
+count-place o h =
+    each (λ o. getD countPlaces o 0 < 9) 9
+    (((((((((tt, lit< tt), lit< tt), lit< tt), lit< tt), lit< tt), lit< tt), lit< tt), lit< tt), lit< tt) o h
+
+pub base-count : (T : Tables) (o : ℕ) → o < 9 → getD (flat T) (getD countPlaces o 0) 0 ≡ baseCount T (baseAt o)
+unfolding sections counts baseCount baseAt
+base-count T o h =
+    each (λ o. getD (flat T) (getD countPlaces o 0) 0 ≡ baseCount T (baseAt o)) 9
+    (((((((((tt, at 1 (lit< tt)), at 0 (lit< tt)), at 3 (lit< tt)), at 4 (lit< tt)), at 5 (lit< tt)), at 2 (lit< tt)), at 6 (lit< tt)), at 8 (lit< tt)), at 7 (lit< tt))
+    o h
+  where
+    at : (i : ℕ) → i < 64 → getD (flat T) (64 * 0 + i) 0 ≡ getD (counts T) i 0
+    at i l = flat-at T 0 i l
+
+-- Where the words of CR, CP, CU start.
+abbrev pub collectionPlaces : List ℕ
+collectionPlaces = 384 ∷ 512 ∷ 448 ∷ []
+
+pub collection-place : (j : ℕ) → j < 3 → getD collectionPlaces j 0 ≤ 512
+collection-place j h = each (λ j. getD collectionPlaces j 0 ≤ 512) 3 (((tt, omega arith), omega arith), omega arith) j h
+
+-- The item x of a set is itself;
+pub one-item : (T : Tables) (x k : ℕ) → k < 12 → itemOf x ≡ oneValue T (kindOf k) x
+unfolding oneValue kindOf kindList
+one-item T x k h =
+    each (λ k. itemOf x ≡ oneValue T (kindOf k) x) 12
+    ((((((((((((tt, refl), refl), refl), refl), refl), refl), refl), refl), refl), refl), refl), refl) k h
+
+-- of no kind it is nothing;
+pub one-none : (T : Tables) (x k : ℕ) → k ≡ 15 → 0 ≡ oneValue T (kindOf k) x
+unfolding oneValue kindOf kindList
+one-none T x k e = rw e
+
+-- of a collection it is the word there.
+module _ (T : Tables) (x : ℕ) (k : ℕ) (l : 12 ≤ k) (h : k ≤ 14) where
+  pub one-word : x ≤ 63 → getD (flat T) (getD collectionPlaces (k - 12) 0 + x) 0 ≡ oneValue T (kindOf k) x
+  unfolding sections oneValue kindOf kindList
+  one-word m =
+      let up : 12 + (k - 12) ≡ k = omega arith in
+      each (λ j. getD (flat T) (getD collectionPlaces j 0 + x) 0 ≡ oneValue T (kindOf (12 + j)) x) 3
+      (((tt, flat-at T 6 x (omega arith)), flat-at T 8 x (omega arith)), flat-at T 7 x (omega arith)) (k - 12) (omega arith)
+      ∙ ap (λ (j : ℕ). oneValue T (kindOf j) x) up
+
+  pub one-far : Fits T → 63 < x → 0 ≡ oneValue T (kindOf k) x
+  unfolding oneValue kindOf kindList
+  one-far f m =
+      let up : 12 + (k - 12) ≡ k = omega arith in
+      each (λ j. 0 ≡ oneValue T (kindOf (12 + j)) x) 3
+      (((tt, past (T .cr) (omega (arith, f .crs))), past (T .cp) (omega (arith, f .cps))), past (T .cu) (omega (arith, f .cus))) (k - 12) (omega arith)
+      ∙ ap (λ (j : ℕ). oneValue T (kindOf j) x) up
+    where
+      past : (ws : List ℕ) → length ws ≤ x → 0 ≡ getD ws x 0
+      past ws q = sym (List·getD-eq-default ws 0 q)
+
+-- Whether a kind is an element or a set of a sort, by their numbers.
+sameB : Bool → Bool → Bool
+sameB true b = b
+sameB false b = not b
+
+same-eq : (a b : Bool) → T (sameB a b) → a ≡ b
+unfolding sameB
+same-eq true true t = refl
+same-eq true false t = absurd t
+same-eq false true t = absurd t
+same-eq false false t = refl
+
+sortTest : ℕ → ℕ → Bool
+sortTest s k = cond (ltb s 6) (sameB (ltb k 12 && eqb (k % 6) s) (ofSort (sortAt s) (kindOf k))) true
+
+is-sort : (s k : ℕ) → s < 6 → k < 16 → (ltb k 12 && eqb (k % 6) s) ≡ ofSort (sortAt s) (kindOf k)
+unfolding sortTest sameB ofSort sortAt kindOf kindList
+is-sort s k h l = same-eq (ltb k 12 && eqb (k % 6) s) (ofSort (sortAt s) (kindOf k)) (rw (lt-ltb s 6 h) at (pair sortTest 16 tt s k (omega arith) l))
+
+pub sort-yes : (s k : ℕ) → s < 6 → k < 12 → eqb (k % 6) s ≡ ofSort (sortAt s) (kindOf k)
+sort-yes s k h l = ap (λ (b : Bool). b && eqb (k % 6) s) (sym (lt-ltb k 12 l)) ∙ is-sort s k h (omega arith)
+
+pub sort-no : (s k : ℕ) → s < 6 → 12 ≤ k → k < 16 → false ≡ ofSort (sortAt s) (kindOf k)
+sort-no s k h l m = ap (λ (b : Bool). b && eqb (k % 6) s) (sym (le-ltb k 12 l)) ∙ is-sort s k h m
+
+-- The place of k in a list, from i on.
+module _ (s : List ℕ) (k i : ℕ) where
+  next : i < length s → drop i s ≡ getD s i 0 ∷ drop (i + 1) s
+  next h = rw (add-one, drop-cons s i 0)
+
+  pub place-end : length s ≤ i → placeIn k (drop i s) ≡ 0
+  unfolding placeIn
+  place-end h = rw (drop-of-length-le s h)
+
+  pub place-hit : i < length s → getD s i 0 ≡ k → placeIn k (drop i s) ≡ 0
+  unfolding placeIn
+  place-hit h e = rw (next h, eq-eqb (getD s i 0) k e)
+
+  pub place-miss : i < length s → (getD s i 0 ≡ k → ⊥) → placeIn k (drop i s) ≡ suc (placeIn k (drop (i + 1) s))
+  unfolding placeIn
+  place-miss h e = rw (next h, ne-eqb (getD s i 0) k e)

@@ -1,0 +1,70 @@
+-- The levels of nodes, and how long what a cache has of them stays right.
+-- Assumes nothing.
+use mathlib.Core.Path.{_≡_, refl, sym, ap, _∙_}
+use mathlib.Core.Bool.{Bool, true, false}
+use mathlib.Core.List.{List}
+use mathlib.Core.Logic.{⊎-elim}
+use Prim.Native.Nat.{ℕ, _+_, _-_, _<_, _≤_}
+use native.Mathlib.Decide.{ℕ-discrete}
+use native.Mathlib.Nat.{eq-or-lt-of-le}
+use native.Mathlib.Omega.{arith}
+use lib.ListN.{length, getD, set}
+use lib.Seq.{getD-set-same, getD-set-other}
+use Rattle.words.specs.Words.{has}
+use Rattle.syntax.specs.Term.{Term, Choices}
+use Rattle.rules.proofs.NodeLaws.{lt-or-le}
+use Rattle.values.specs.Values.{value}
+use Rattle.values.specs.Sets.{namesIn}
+use Rattle.values.specs.Nodes.{LevelOf, LevelAt, NamesAt, Stored}
+use Rattle.values.proofs.ReadsLaws.{value-reads}
+
+-- The word has no variable of the order from i on.
+abbrev pub Beyond : List ℕ → ℕ → ℕ → Type 0
+Beyond order word i = (j : ℕ) → i ≤ j → j < length order → has word (getD order j 0) ≡ true → ⊥
+
+pub level-here : (order : List ℕ) (word i r : ℕ) → Beyond order word i → i ≡ r → LevelOf order word r
+level-here order word i r h e j l q =
+    ⊎-elim (λ (m : j < i). omega arith) (λ (m : i ≤ j). absurd (h j m l q)) (lt-or-le j i)
+
+pub level-next : (order : List ℕ) (word i : ℕ) → 0 < i → Beyond order word i → (f : Bool) → f ≡ has word (getD order (i - 1) 0) → f ≡ false
+    → Beyond order word (i - 1)
+level-next order word i pos h f e n j m l q =
+    ⊎-elim
+    (λ (s : i - 1 ≡ j). let z : true ≡ false = sym (rw (← s) at q) ∙ sym e ∙ n in no z)
+    (λ (s : i - 1 < j). h j (omega arith) l q)
+    (eq-or-lt-of-le m)
+  where
+    no : true ≡ false → ⊥
+    no z = let o : _≡_ {A = ℕ} 0 1 = cc in absurd (omega arith)
+
+pub level-at : (ns : List ℕ) (n : ℕ) (vs order : List ℕ) (k word r : ℕ) → ((i : ℕ) → i < length order → getD order i 0 < 64) → NamesAt ns n vs k word
+    → LevelOf order word r → LevelAt ns n vs order k r
+level-at ns n vs order k word r small named lev σ w t x i l e = lev i l (named σ w t x (getD order i 0) (small i l) ∙ e)
+
+-- One more place of a list is filled.
+pub more-at : (P : ℕ → ℕ → Type 0) (found : List ℕ) (k r : ℕ) → k < length found → ((j : ℕ) → j < k → P j (getD found j 0)) → P k r
+    → (j : ℕ) → j < k + 1 → P j (getD (set found k r) j 0)
+more-at P found k r l h p j m =
+    ⊎-elim
+    (λ (q : j ≡ k). rw (q, getD-set-same found k r 0 l) p)
+    (λ (q : j < k). rw (getD-set-other found k j r 0 (omega arith)) (h j q))
+    (eq-or-lt-of-le (at-most m))
+  where
+    at-most : j < k + 1 → j ≤ k
+    at-most q = omega arith
+
+-- What is chosen for the variable after the first l of the order leaves the values of the levels up to l.
+pub stored-chosen : {ts ns : List ℕ} {n : ℕ} {ks vs c cache levels : List ℕ} (order : List ℕ) (l v x : ℕ) → l < length order → getD order l 0 ≡ v
+    → ((k : ℕ) → k < n → LevelAt ns n vs order k (getD levels k 0)) → Stored ts ns n ks vs c cache levels (l + 1)
+    → Stored ts ns n ks vs (set c v x) cache levels (l + 1)
+stored-chosen {c = c} {levels = levels} order l v x m is lev F = record {
+  long = F .long;
+  levelled = F .levelled;
+  holds = λ k h low T σ w a y.
+      F .holds k h low T σ w a y
+      ∙ value-reads T σ c (set c v x) a
+      (λ u e. agree u (λ same. let z = lev k h σ (w .variables) a y l m (ap (namesIn σ a) (is ∙ sym same) ∙ e) in absurd (omega (arith, z, low))));
+}
+  where
+    agree : (u : ℕ) → (u ≡ v → ⊥) → getD c u 0 ≡ getD (set c v x) u 0
+    agree u ne = sym (getD-set-other c v u x 0 ne)

@@ -1,0 +1,37 @@
+-- `values::calls::two` meets its contract: each arm is the operator of its number.
+-- Assumes nothing.
+use mathlib.Core.Path.{_≡_}
+use native.Mathlib.Omega.{arith}
+use Rattle.values.specs.Values.{twoValue}
+use Rattle.values.specs.Nodes.{opAt}
+use borrow.Author.Needs.{needs}
+use Rattle.values.proofs.calls.two.Statement.{statement}
+use Rattle.values.proofs.calls.two.Tie as tie
+
+operations-on-requires : tie.Need-operations-on-requires
+operations-on-requires c κs = search needs
+
+returns : tie.Need-returns
+unfolding opAt twoValue
+returns c = λ T f e. rw (c .before .if1 .taken) (c .operations-on .ensures T f e)
+
+meet-requires : tie.Need-meet-requires
+meet-requires c κs = search needs
+
+returns-2 : tie.Need-returns-2
+unfolding opAt twoValue
+returns-2 c = λ T f e. rw (c .before .if2 .taken) (c .meet .ensures)
+
+join-requires : tie.Need-join-requires
+join-requires c κs = search needs
+
+returns-3 : tie.Need-returns-3
+unfolding opAt twoValue
+returns-3 c = λ T f e.
+    let last : c .before .before .before .before .args .op ≡ 20 = omega (arith, c .before .before .before .before .pre .1, c .before .before .before .before .pre .2, c .before .before .if1 .left, c .before .if2 .left) in
+    rw last (c .join .ensures)
+
+pub two-spec : {M : Type 1} → statement M
+two-spec =
+    tie.close
+    (tie.spec operations-on-requires returns meet-requires returns-2 join-requires returns-3)

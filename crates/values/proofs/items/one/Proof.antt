@@ -1,0 +1,63 @@
+-- `values::items::one` meets its contract: below 12 are elements and sets, 12 to 14 the collections.
+-- Assumes nothing.
+use mathlib.Core.Path.{ap, _∙_}
+use mathlib.Core.List.{List}
+use Prim.Native.Nat.{ℕ, _-_}
+use native.Mathlib.Omega.{arith}
+use lib.ListN.{getD}
+use Prim.Native.Nat.{_+_}
+use Rattle.values.proofs.ItemLaws.{collectionPlaces, collection-place, one-item, one-none, one-word, one-far}
+use borrow.Author.Needs.{needs}
+use Rattle.values.proofs.items.one.Statement.{statement}
+use Rattle.values.proofs.items.one.Tie as tie
+
+item-requires : tie.Need-item-requires
+item-requires c κs = search needs
+
+returns : tie.Need-returns
+returns c = λ T f e l. c .item .ensures ∙ one-item T (c .before .before .before .args .x) (c .before .before .before .args .kind) (c .before .if1 .taken)
+
+returns-2 : tie.Need-returns-2
+returns-2 c = λ T f e l. one-none T (c .before .before .before .args .x) (c .before .before .before .args .kind) (omega (arith, c .if2 .taken))
+
+returns-3 : tie.Need-returns-3
+returns-3 c = λ T f e l. one-far T (c .before .before .before .before .args .x) (c .before .before .before .before .args .kind) (c .before .before .if1 .left) (c .before .if2 .left) f (c .if3 .taken)
+
+cast-k : tie.Need-cast-k
+cast-k c = search needs
+
+mul-at : tie.Need-mul-at
+mul-at c = search needs
+
+array-read-at : tie.Need-array-read-at
+array-read-at c = search needs
+
+add-at : tie.Need-add-at
+add-at c = let low = collection-place (c .before .before .before .before .args .kind - 12) (omega arith) in search needs
+
+mul-result : tie.Need-mul-result
+mul-result c = let low = collection-place (c .before .before .before .before .args .kind - 12) (omega arith) in search needs
+
+shared-slice-read-result : tie.Need-shared-slice-read-result
+shared-slice-read-result c = let low = collection-place (c .before .before .before .before .before .args .kind - 12) (omega arith) in omega (arith, c .before .before .before .before .before .pre)
+
+returns-4 : tie.Need-returns-4
+returns-4 c = λ T f e l.
+    ap (λ (ts : List ℕ). getD ts (getD collectionPlaces (c .before .before .before .before .before .args .kind - 12) 0 + c .before .before .before .before .before .args .x) 0) e
+    ∙ one-word T (c .before .before .before .before .before .args .x) (c .before .before .before .before .before .args .kind) (c .before .before .before .if1 .left) (c .before .before .if2 .left) (c .before .if3 .left)
+
+pub one-spec : {M : Type 1} → statement M
+one-spec =
+    tie.close
+    (tie.spec
+    item-requires
+    returns
+    returns-2
+    returns-3
+    cast-k
+    mul-at
+    array-read-at
+    add-at
+    mul-result
+    shared-slice-read-result
+    returns-4)

@@ -1,0 +1,104 @@
+-- How the code names operations by number, and what the slices that it is lent hold.
+-- Internal: contracts of entry points do not speak of it. Assumes nothing.
+use mathlib.Core.Path.{_≡_}
+use mathlib.Core.Bool.{Bool, true, cond, not}
+use mathlib.Core.List.{List, [], _∷_}
+use Prim.Native.Nat.{ℕ, suc, _-_, _<_, _≤_}
+use lib.Dec.{eqb}
+use lib.ListN.{length, getD}
+use Rattle.tables.specs.Tables.{Tables}
+use Rattle.tables.specs.Flat.{Fits, flat}
+use Rattle.syntax.specs.Term.{Base, bU, bR, bOP, bOBJ, bP, bS, bCR, bCP, bCU, Fn, user, roles, roles*, sessions, permissions}
+use Rattle.syntax.specs.Term.{permissions*, object, Op, operations, meet, join, Term, Choices}
+use Rattle.syntax.specs.Rule.{Cmp, lt, le, gt, ge, eq, ne, Test, Clause, Rule}
+use Rattle.syntax.specs.Arena.{Holds, HoldsTest, HoldsClause, HoldsRule, Tidy}
+use Rattle.syntax.specs.Reading.{mk, Knows}
+use Rattle.rules.specs.Kind.{Sort, sU, sR, sOP, sOBJ, sP, sS}
+use Rattle.rules.specs.Numbers.{Kinded}
+use Rattle.words.specs.Words.{has, meetOf}
+use Rattle.values.specs.Values.{value}
+use Rattle.values.specs.Truth.{testTrue, clauseTrue, ruleTrue}
+use Rattle.values.specs.Sets.{namesIn, names}
+
+-- The base, the function, the operator, the comparison and the sort of a number.
+unfoldable pub baseAt : ℕ → Base
+baseAt o = getD (bU ∷ bR ∷ bOP ∷ bOBJ ∷ bP ∷ bS ∷ bCR ∷ bCP ∷ bCU ∷ []) o bU
+
+unfoldable pub fnAt : ℕ → Fn
+fnAt o = getD (user ∷ roles ∷ roles* ∷ sessions ∷ permissions ∷ permissions* ∷ object ∷ []) (o - 9) user
+
+unfoldable pub opAt : ℕ → Op
+opAt o = getD (operations ∷ meet ∷ join ∷ []) (o - 18) operations
+
+unfoldable pub cmpAt : ℕ → Cmp
+cmpAt d = getD (lt ∷ le ∷ gt ∷ ge ∷ eq ∷ ne ∷ []) d lt
+
+unfoldable pub sortAt : ℕ → Sort
+sortAt s = getD (sU ∷ sR ∷ sOP ∷ sOBJ ∷ sP ∷ sS ∷ []) s sU
+
+-- The first place of k in the list, or its length.
+unfoldable pub placeIn : ℕ → List ℕ → ℕ
+placeIn k [] = 0
+placeIn k (v ∷ vs) = cond (eqb v k) 0 (suc (placeIn k vs))
+
+-- What a walk over nodes needs to stay within its slices: the tables are whole, node k is one of the first n, which are tidy and have kinds.
+pub record Ready (ts ns : List ℕ) (n : ℕ) (ks : List ℕ) (k : ℕ) : Type 0 where
+  pub whole : length ts ≡ 704
+  pub tidy : Tidy ns n
+  pub kinded : n ≤ length ks
+  pub below : k < n
+
+-- The nodes vs are those of the arguments σ.
+abbrev pub Variables : List ℕ → ℕ → List ℕ → Choices → Type 0
+Variables ns n vs σ = Knows (mk ns n) vs σ
+
+-- The slices hold the tables T, the kinds of the nodes, and the arguments σ.
+pub record World (ts ns : List ℕ) (n : ℕ) (ks vs : List ℕ) (T : Tables) (σ : Choices) : Type 0 where
+  pub fits : Fits T
+  pub words : ts ≡ flat T
+  pub kinds : Kinded ns n ks
+  pub variables : Variables ns n vs σ
+
+-- What is shown of a node, whatever the slices hold: r is the value of its term, or says whether its test, clause or rule is true.
+module _ (ts ns : List ℕ) (n : ℕ) (ks vs c : List ℕ) (k : ℕ) where
+  abbrev pub ValueAt : ℕ → Type 0
+  ValueAt r = (T : Tables) (σ : Choices) → World ts ns n ks vs T σ → (a : Term) → Holds ns k a → r ≡ value T σ c a
+
+  abbrev pub TestAt : Bool → Type 0
+  TestAt r = (T : Tables) (σ : Choices) → World ts ns n ks vs T σ → (p : Test) → HoldsTest ns k p → r ≡ testTrue T σ c p
+
+  abbrev pub ClauseAt : Bool → Type 0
+  ClauseAt r = (T : Tables) (σ : Choices) → World ts ns n ks vs T σ → (q : Clause) → HoldsClause ns k q → r ≡ clauseTrue T σ c q
+
+  abbrev pub TruthAt : Bool → Type 0
+  TruthAt r = (T : Tables) (σ : Choices) → World ts ns n ks vs T σ → (ρ : Rule) → HoldsRule ns k ρ → r ≡ ruleTrue T σ c ρ
+
+-- The cache has, under the choice c, the value of each node's term whose level is below the depth.
+pub record Stored (ts ns : List ℕ) (n : ℕ) (ks vs c cache levels : List ℕ) (depth : ℕ) : Type 0 where
+  pub long : n ≤ length cache
+  pub levelled : n ≤ length levels
+  pub holds : (k : ℕ) → k < n → getD levels k 0 < depth → ValueAt ts ns n ks vs c k (getD cache k 0)
+
+-- The word r has the variables that the term of node k names.
+abbrev pub NamesAt : List ℕ → ℕ → List ℕ → ℕ → ℕ → Type 0
+NamesAt ns n vs k r = (σ : Choices) → Variables ns n vs σ → (t : Term) → Holds ns k t → (u : ℕ) → u < 64 → has r u ≡ namesIn σ t u
+
+-- A variable of the order that the word has stands below the level r in it.
+abbrev pub LevelOf : List ℕ → ℕ → ℕ → Type 0
+LevelOf order word r = (i : ℕ) → i < length order → has word (getD order i 0) ≡ true → i < r
+
+-- A variable of the order that the term of node k names stands below the level r in it.
+abbrev pub LevelAt : List ℕ → ℕ → List ℕ → List ℕ → ℕ → ℕ → Type 0
+LevelAt ns n vs order k r =
+    (σ : Choices) → Variables ns n vs σ → (t : Term) → Holds ns k t → (i : ℕ) → i < length order → namesIn σ t (getD order i 0) ≡ true → i < r
+
+-- The word of each of the first n variables has the variables that its set names.
+unfoldable pub Named : ℕ → List ℕ → Choices → Type 0
+Named n words σ = (v u : ℕ) → v < n → u < 64 → has (getD words v 0) u ≡ names σ v u
+
+-- The tests 21 to 23 of two values, `@`, `=`, `!=`; and 24, 25 of one, `={}` and `!={}`.
+unfoldable pub relatedAt : ℕ → ℕ → ℕ → Bool
+relatedAt o a b = cond (eqb o 21) (not (eqb (meetOf a b) 0)) (cond (eqb o 22) (eqb a b) (not (eqb a b)))
+
+unfoldable pub emptyAt : ℕ → ℕ → Bool
+emptyAt o a = cond (eqb o 24) (eqb a 0) (not (eqb a 0))

@@ -1,0 +1,36 @@
+-- The sets of a rule's variables, what they name, and which choices break the rule (document 01, "Formula" and "Verdict").
+-- Assumes nothing.
+use mathlib.Core.Bool.{Bool, false, not, _||_}
+use mathlib.Core.List.{List}
+use Prim.Native.Nat.{ℕ}
+use lib.Dec.{eqb}
+use lib.ListN.{getD}
+use Rattle.words.specs.Words.{has}
+use Rattle.tables.specs.Tables.{Tables}
+use Rattle.syntax.specs.Term.{bU, Term, base, call, oe, ao, two, Choices}
+use Rattle.syntax.specs.Rule.{Rule}
+use Rattle.values.specs.Values.{variableOf, value}
+use Rattle.values.specs.Truth.{ruleTrue}
+
+-- "Xi is the set of vi": σ has X1, X2, .. in order, and v counts from 0.
+abbrev pub setOf : Choices → ℕ → Term
+setOf σ v = getD σ v (base bU)
+
+-- The item x lies in the set of v, in which "each variable is read as its item" under the choice c.
+abbrev pub inSet : Tables → Choices → ℕ → List ℕ → ℕ → Bool
+inSet T σ v c x = has (value T σ c (setOf σ v)) x
+
+-- "it names the variables written in it": `OE(X)` is written as its variable, `AO(X)` as X without its variable.
+unfoldable pub namesIn : Choices → Term → ℕ → Bool
+namesIn σ (base b) u = false
+namesIn σ (call f a) u = namesIn σ a u
+namesIn σ (oe a) u = eqb (variableOf σ a) u
+namesIn σ (ao a) u = eqb (variableOf σ a) u || namesIn σ a u
+namesIn σ (two o a b) u = namesIn σ a u || namesIn σ b u
+
+abbrev pub names : Choices → ℕ → ℕ → Bool
+names σ v u = namesIn σ (setOf σ v) u
+
+-- "breaking (full choices that make the rule false)"
+abbrev pub breaks : Tables → Choices → Rule → List ℕ → Bool
+breaks T σ ρ c = not (ruleTrue T σ c ρ)

@@ -1,0 +1,98 @@
+// The leaves of an evaluation: all items of a sort, the chosen item, comparisons.
+ghost use mathlib.Core.Path.{_≡_};
+ghost use Prim.Native.Nat.{_<_};
+ghost use lib.ListN.{length, getD};
+ghost use Rattle.words.specs.Words.{allOf};
+ghost use Rattle.tables.specs.Tables.{Tables};
+ghost use Rattle.tables.specs.Flat.{Fits, flat};
+ghost use Rattle.rules.specs.Kind.{Sort};
+ghost use Rattle.rules.specs.Numbers.{kindOf};
+ghost use Rattle.values.specs.Values.{baseCount, ofSort, oneValue};
+ghost use Rattle.values.specs.Truth.{compared};
+ghost use Rattle.values.specs.Nodes.{baseAt, cmpAt, sortAt, placeIn};
+
+// Where the tables count users, roles, operations, objects, permissions, sessions, and the words of CR, CP, CU.
+const COUNTS: [usize; 9] = [1, 0, 3, 4, 5, 2, 6, 8, 7];
+
+// Where the words of CR, CP, CU start.
+const COLLECTIONS: [usize; 3] = [384, 512, 448];
+
+// All items of `U R OP OBJ P S`, all positions of `CR CP CU`.
+pub fn base(t: &[u64], op: usize) -> u64
+    requires { ⌜ (length (now t) ≡ 704) × (op < 9) ⌝ }
+    ensures { λ r. ⌜ ((T : Tables) → now (t .entry) ≡ flat T → r ≡ allOf (baseCount T (baseAt op))) ⌝ }
+{
+    let at = COUNTS[op];
+    words::all(t[at] as usize)
+}
+
+// The item x of a set or a collection of that kind.
+pub fn one(t: &[u64], kind: u8, x: usize) -> u64
+    requires { ⌜ length (now t) ≡ 704 ⌝ }
+    ensures { λ r. ⌜ ((T : Tables) → Fits T → now (t .entry) ≡ flat T → kind < 16 → r ≡ oneValue T (kindOf kind) x) ⌝ }
+{
+    if kind < 12 {
+        return words::item(x);
+    }
+    if 14 < kind {
+        return 0;
+    }
+    if 63 < x {
+        return 0;
+    }
+    let k = (kind - 12) as usize;
+    let at = COLLECTIONS[k] + x;
+    t[at]
+}
+
+// The place of node k among the variables' nodes, or their number.
+pub fn variable(vars: &[u32], k: usize) -> usize
+    ensures { λ r. ⌜ r ≡ placeIn k (now (vars .entry)) ⌝ }
+{
+    let mut i = 0;
+    while i < vars.len() {
+        if vars[i] as usize == k {
+            return i;
+        }
+        i += 1;
+    }
+    i
+}
+
+// The item chosen for the variable u.
+pub fn chosen(choice: [u8; 8], u: usize) -> usize
+    ensures { λ r. ⌜ r ≡ getD choice u 0 ⌝ }
+{
+    if u < 8 { choice[u] as usize } else { 0 }
+}
+
+// Whether the kind is an element or a set of the sort, 0 to 5 for U, R, OP, OBJ, P, S.
+pub fn is_sort(kind: u8, sort: u8) -> bool
+    requires { ⌜ sort < 6 ⌝ }
+    ensures { λ r. ⌜ (kind < 16 → r ≡ ofSort (sortAt sort) (kindOf kind)) ⌝ }
+{
+    if kind < 12 { kind % 6 == sort } else { false }
+}
+
+// `<` `<=` `>` `>=` `=` `!=` by number.
+pub fn compare(d: usize, a: usize, b: usize) -> bool
+    requires { ⌜ d < 6 ⌝ }
+    ensures { λ r. ⌜ r ≡ compared (cmpAt d) a b ⌝ }
+{
+    if d == 0 {
+        return a < b;
+    }
+    if d == 1 {
+        return a <= b;
+    }
+    if d == 2 {
+        return b < a;
+    }
+    if d == 3 {
+        return b <= a;
+    }
+    if d == 4 {
+        return a == b;
+    }
+    a != b
+}

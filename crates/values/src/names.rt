@@ -1,0 +1,80 @@
+// What the sets of the variables name, as words of variables.
+use crate::items;
+ghost use Prim.Native.Nat.{ℕ, _<_, _≤_};
+ghost use lib.ListN.{length, getD};
+ghost use Rattle.syntax.specs.Term.{Choices};
+ghost use Rattle.syntax.specs.Arena.{Tidy};
+ghost use Rattle.values.specs.Nodes.{NamesAt, LevelOf, LevelAt, Variables, Named};
+
+// The word of the variables that the term of node k names.
+fn named(nodes: &[u32], n: usize, vars: &[u32], k: usize) -> u64
+    requires { ⌜ Tidy (now nodes) n × (k < n) ⌝ }
+    ensures { λ r. ⌜ NamesAt (now (nodes .entry)) n (now (vars .entry)) k r ⌝ }
+{
+    let node = nodes[k];
+    let op = node % 256;
+    if op < 9 {
+        return 0;
+    }
+    if 20 < op {
+        return 0;
+    }
+    let left = (node / 256 % 4096) as usize;
+    if op == 16 {
+        return words::item(items::variable(vars, left));
+    }
+    let a = named(nodes, n, vars, left);
+    if op < 16 {
+        return a;
+    }
+    if op == 17 {
+        return words::join(words::item(items::variable(vars, left)), a);
+    }
+    let right = (node / 1048576) as usize;
+    let b = named(nodes, n, vars, right);
+    words::join(a, b)
+}
+
+// For each variable the word of those that its set names.
+pub fn names(nodes: &[u32], n: usize, vars: &[u32]) -> [u64; 8]
+    requires { ⌜ Tidy (now nodes) n × (length (now vars) ≤ 8) × ((i : ℕ) → i < length (now vars) → getD (now vars) i 0 < n) ⌝ }
+    ensures { λ r. ⌜ ((σ : Choices) → Variables (now (nodes .entry)) n (now (vars .entry)) σ → Named (length (now (vars .entry))) r σ) ⌝ }
+{
+    let mut words = [0u64; 8];
+    let mut v = 0;
+    while v < vars.len() {
+        words[v] = named(nodes, n, vars, vars[v] as usize);
+        v += 1;
+    }
+    words
+}
+
+// How many variables of the order stand up to the last one that the word has.
+fn level(word: u64, order: &[u8]) -> u8
+    requires { ⌜ (length (now order) ≤ 8) × ((i : ℕ) → i < length (now order) → getD (now order) i 0 < 64) ⌝ }
+    ensures { λ r. ⌜ LevelOf (now (order .entry)) word r ⌝ }
+{
+    let mut i = order.len();
+    while 0 < i {
+        let v = order[i - 1] as usize;
+        if words::contains(word, v) {
+            return i as u8;
+        }
+        i -= 1;
+    }
+    0
+}
+
+// For each node the level of what its term names.
+pub fn levels(nodes: &[u32], n: usize, vars: &[u32], order: &[u8]) -> [u8; 256]
+    requires { ⌜ Tidy (now nodes) n × (n ≤ 256) × (length (now order) ≤ 8) × ((i : ℕ) → i < length (now order) → getD (now order) i 0 < 64) ⌝ }
+    ensures { λ r. ⌜ ((k : ℕ) → k < n → LevelAt (now (nodes .entry)) n (now (vars .entry)) (now (order .entry)) k (getD r k 0)) ⌝ }
+{
+    let mut found = [0u8; 256];
+    let mut k = 0;
+    while k < n {
+        found[k] = level(named(nodes, n, vars, k), order);
+        k += 1;
+    }
+    found
+}

@@ -1,0 +1,121 @@
+-- From parsed rules and loaded tables to what judging answers.
+-- Assumes nothing.
+use mathlib.Core.Path.{_≡_, refl, sym, ap, _∙_}
+use mathlib.Core.Bool.{true, false}
+use mathlib.Core.List.{List, [], _∷_, _++_}
+use mathlib.Core.Option.{Option, none, some}
+use Prim.Native.Nat.{ℕ, _<_, _≤_}
+use native.Mathlib.Omega.{arith}
+use lib.Dec.{leb}
+use lib.ListN.{length, take, drop, length-append}
+use lib.Seq.{length-take-le}
+use borrow.Author.Tests.{le-leb, lt-leb}
+use Rattle.answers.specs.Answer.{refused, lent, outputAfter}
+use Rattle.answers.specs.declared.Refusal.{Refusal}
+use Rattle.answers.specs.declared.Refusal.the-variants.{ShortSheet}
+use Rattle.tables.specs.Tables.{Tables}
+use Rattle.tables.specs.Flat.{flat}
+use Rattle.tables.specs.Reading.{Reading, turned, taken, tablesOf, outcomeOf, wordsOf}
+use Rattle.tables.specs.declared.Outcome.the-variants.{Refused as Turned, Accepted as Taken}
+use Rattle.tables.proofs.FlatLaws.{length-flat}
+use Rattle.tables.proofs.FitsLaws.{Sound, accepted-sound}
+use Rattle.syntax.specs.Bytes.{Bytes}
+use Rattle.rules.specs.declared.Checked.the-variants.{Refused as Unfit, Accepted}
+use Rattle.rules.specs.Accept.{refusal}
+use Rattle.rules.specs.Checked.{checkedOf}
+use Rattle.rules.specs.Parsed.{RuleAt}
+use Rattle.verdicts.specs.declared.Outcome.{Outcome}
+use Rattle.verdicts.specs.declared.Verdict.{Verdict}
+use Rattle.answers.specs.declared.Written.the-variants.{Refused as WasRefused, Wrote}
+use Rattle.verdicts.specs.Verdict.{refusedBy, orderVerdict, treeVerdict, acceptedVerdict, tablesVerdict, verdictOf, lowestFirst, written}
+use Rattle.verdicts.specs.Verdict.{answerBy, judged}
+use Rattle.verdicts.specs.Judging.{Case, Lent, Loaded}
+use Rattle.answers.proofs.AnswerLaws.{kept-short}
+use Rattle.verdicts.specs.Writing.{Puts}
+
+-- What the check of a rule said.
+pub checked-none : (q : Option Refusal) → checkedOf q ≡ Accepted → q ≡ none
+checked-none none e = refl
+checked-none (some r) e = let z : _≡_ {A = ℕ} 0 1 = cc in absurd (omega arith)
+
+pub checked-some : (q : Option Refusal) (r : Refusal) → checkedOf q ≡ Unfit r → q ≡ some r
+checked-some none r e = let z : _≡_ {A = ℕ} 0 1 = cc in absurd (omega arith)
+checked-some (some p) r e = cc
+
+pub rule-refused : (T : Tables) (s order : Bytes) (e : Refusal) → refusal s ≡ some e → refusedBy e ≡ acceptedVerdict T (refusal s) s order
+unfolding acceptedVerdict
+rule-refused T s order e h = rw h
+
+-- The slices of an accepted rule hold it.
+module _ {s : Bytes} {ns : List ℕ} {n root : ℕ} {ks vs : List ℕ} {count : ℕ} (P : RuleAt s ns n root ks vs count) where
+  pub rule-case : {ts : List ℕ} {T : Tables} → Sound T → ts ≡ flat T → Case ts ns n ks (take count vs) root T (P .tree)
+  rule-case sound e = record { world = record { fits = sound .fits; words = e; kinds = P .kinds; variables = P .knows }; holds = P .holds }
+
+  pub rule-long : length vs ≡ 8 → length (take count vs) ≡ count
+  rule-long l = length-take-le count vs (omega (arith, P .few))
+
+  pub rule-lent : {ts : List ℕ} → Loaded ts → length ns ≡ 256 → length ks ≡ 256 → length vs ≡ 8 → Lent ts ns n ks (take count vs) root
+  rule-lent L ln lk lv = record {
+    ready = record { whole = ap length (L .words) ∙ length-flat (L .tables); tidy = P .tidy; kinded = omega (arith, P .tidy .fits); below = P .within };
+    small = omega (arith, P .tidy .fits);
+    few = omega (arith, rule-long lv, P .few);
+    nodes = P .knows .below;
+    tables = L .tables;
+    rule = P .tree;
+    isCase = rule-case (L .sound) (L .words);
+  }
+
+  pub rule-accepted : (T : Tables) (order : Bytes) (r : Verdict) → refusal s ≡ none → r ≡ orderVerdict T (P .tree) order → r ≡ acceptedVerdict T (refusal s) s order
+  unfolding acceptedVerdict treeVerdict
+  rule-accepted T order r h e = rw (h, P .reads) e
+
+-- What reading the tables said.
+pub tables-refused : (b s order : Bytes) (e : Refusal) → outcomeOf (tablesOf b) ≡ Turned e → refusedBy e ≡ verdictOf b s order
+unfolding verdictOf tablesVerdict
+tables-refused b s order e h = go (tablesOf b) h
+  where
+    go : (q : Reading) → outcomeOf q ≡ Turned e → refusedBy e ≡ tablesVerdict q s order
+    go (turned p) k = let same : e ≡ p = cc in ap refusedBy same
+    go (taken T) k = let z : _≡_ {A = ℕ} 0 1 = cc in absurd (omega arith)
+
+pub record Took (b : Bytes) : Type 0 where
+  pub tables : Tables
+  pub is : tablesOf b ≡ taken tables
+
+pub tables-taken : (b : Bytes) → outcomeOf (tablesOf b) ≡ Taken → Took b
+tables-taken b h = go (tablesOf b) refl h
+  where
+    go : (q : Reading) → tablesOf b ≡ q → outcomeOf q ≡ Taken → Took b
+    go (turned p) e k = let z : _≡_ {A = ℕ} 0 1 = cc in absurd (omega arith)
+    go (taken T) e k = record { tables = T; is = e }
+
+pub took-words : (b ts : List ℕ) (q : Took b) → ts ≡ wordsOf (tablesOf b) → ts ≡ flat (q .tables)
+took-words b ts q e = e ∙ ap wordsOf (q .is)
+
+pub took-loaded : (b ts : List ℕ) (q : Took b) → ts ≡ wordsOf (tablesOf b) → Loaded ts
+took-loaded b ts q e = record { tables = q .tables; sound = accepted-sound b (q .is); words = took-words b ts q e }
+
+pub took-verdict : (b s order : Bytes) (q : Took b) (r : Verdict) → r ≡ acceptedVerdict (q .tables) (refusal s) s order → r ≡ verdictOf b s order
+unfolding verdictOf tablesVerdict
+took-verdict b s order q r e = rw (q .is) e
+
+-- Lent bytes that are too few are kept; enough of them have the verdict in front.
+pub length-written : (word : ℕ) (v : Verdict) → length (v .first) ≡ 8 → length (written word v) ≡ 26
+unfolding written lowestFirst
+length-written word v e = rw (length-append (v .first) (v .share ∷ []), e)
+
+pub put-short : (old : List ℕ) (word : ℕ) (v : Verdict) → length (v .first) ≡ 8 → length old < 26 → Puts old old word v (WasRefused ShortSheet)
+put-short old word v e l = kept-short (written word v) old (omega (arith, length-written word v e))
+
+pub put-whole : (old new : List ℕ) (word : ℕ) (v : Verdict) → length (v .first) ≡ 8 → 26 ≤ length old → new ≡ written word v ++ drop 26 old
+    → Puts old new word v (Wrote 26)
+unfolding lent outputAfter
+put-whole old new word v e l h =
+    let long : length (written word v) ≡ 26 = length-written word v e in
+    let yes′ : leb (length (written word v)) (length old) ≡ true = le-leb (length (written word v)) (length old) (omega arith) in
+    rw yes′ (record { result = ap Wrote (sym long); output = h ∙ ap (λ (k : ℕ). written word v ++ drop k old) (sym long) })
+
+-- What judging answers, by the verdict's word.
+pub judged-by : (b s order : Bytes) (v : Verdict) (o : Outcome) → v ≡ verdictOf b s order → v .outcome ≡ o → answerBy o v ≡ judged b s order
+unfolding judged
+judged-by b s order v o is h = rw (← is, h)

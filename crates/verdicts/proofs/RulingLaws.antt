@@ -1,0 +1,114 @@
+-- From the walk along an order to the verdict of the definition.
+-- Assumes nothing.
+use mathlib.Core.Path.{_≡_, refl, sym, ap, _∙_}
+use mathlib.Core.Bool.{Bool, true, false}
+use mathlib.Core.List.{List, [], _∷_}
+use Prim.Native.Nat.{ℕ, suc, _-_, _≤_, _^_}
+use native.Mathlib.Omega.{arith}
+use lib.ListN.{length, drop}
+use Rattle.answers.specs.declared.Refusal.the-variants.{Disordered}
+use Rattle.tables.specs.Tables.{Tables}
+use Rattle.syntax.specs.Term.{Choices}
+use Rattle.syntax.specs.Rule.{Rule, ruleVars}
+use Rattle.syntax.specs.Arena.{HoldsAll}
+use Rattle.walks.specs.Choices.{nothingChosen}
+use Rattle.walks.specs.Order.{variablesOf, isOrder, namedBy}
+use Rattle.walks.specs.declared.Tally.{Tally}
+use Rattle.walks.proofs.OrderLaws.{order-length, order-agree, length-variables-of}
+use Rattle.values.specs.Sets.{names}
+use Rattle.values.specs.Nodes.{Named}
+use Rattle.verdicts.specs.declared.Verdict.{Verdict}
+use Rattle.verdicts.specs.Verdict.{fullCount, breakingCount, firstBreaking, verdictAlong, refusedBy, orderVerdict}
+use Rattle.verdicts.specs.Judging.{Case, WalkedFrom, ruledBy}
+use Rattle.verdicts.proofs.VerdictLaws.{walk-full, walk-breaking, breaking-le-full, full-fits}
+
+-- As many nodes as arguments.
+pub held-length : (ns vs : List ℕ) (σ : Choices) → HoldsAll ns vs σ → length vs ≡ length σ
+held-length ns [] [] x = refl
+held-length ns [] (a ∷ σ) x = absurd x
+held-length ns (v ∷ vs) [] x = absurd x
+held-length ns (v ∷ vs) (a ∷ σ) x = ap suc (held-length ns vs σ (x .1))
+
+-- The words of what the sets name serve the test of an order.
+pub named-order : (n : ℕ) (words vs : List ℕ) (σ : Choices) → n ≤ 8 → Named n words σ → isOrder (namedBy words) n vs ≡ isOrder (names σ) n vs
+unfolding Named
+named-order n words vs σ few h = order-agree (namedBy words) (names σ) n (λ v u l m. h v u l (omega arith)) vs
+
+module _ (T : Tables) (ρ : Rule) where
+  not-ordered : (order : List ℕ) → isOrder (names (ruleVars [] ρ)) (length (ruleVars [] ρ)) (variablesOf order) ≡ false → refusedBy Disordered ≡ orderVerdict T ρ order
+  unfolding orderVerdict
+  not-ordered order e = rw e
+
+  -- A list of another length is no order;
+  pub wrong-length : (order : List ℕ) → (length order ≡ length (ruleVars [] ρ) → ⊥) → refusedBy Disordered ≡ orderVerdict T ρ order
+  wrong-length order ne = not-ordered order (go (isOrder (names (ruleVars [] ρ)) (length (ruleVars [] ρ)) (variablesOf order)) refl)
+    where
+      go : (b : Bool) → isOrder (names (ruleVars [] ρ)) (length (ruleVars [] ρ)) (variablesOf order) ≡ b → b ≡ false
+      go true e = absurd (ne (sym (length-variables-of order) ∙ order-length (names (ruleVars [] ρ)) (length (ruleVars [] ρ)) (variablesOf order) e))
+      go false e = refl
+
+  -- nor is one that the test refuses.
+  pub wrong-order : (order : List ℕ) {f : Bool} → f ≡ isOrder (names (ruleVars [] ρ)) (length (ruleVars [] ρ)) (variablesOf order) → f ≡ false
+      → refusedBy Disordered ≡ orderVerdict T ρ order
+  wrong-order order e h = not-ordered order (sym e ∙ h)
+
+  -- Along an order the walk's tally has the verdict's numbers.
+  module _ (few : length (ruleVars [] ρ) ≤ 8) (order : List ℕ) (tally : Tally)
+      (ok : isOrder (names (ruleVars [] ρ)) (length (ruleVars [] ρ)) order ≡ true)
+      (w : WalkedFrom T ρ order (length order) nothingChosen tally) where
+    all-left : drop (length order - length order) order ≡ order
+    all-left = let none : length order - length order ≡ 0 = omega arith in rw none
+
+    tally-full : tally .full ≡ fullCount T ρ
+    tally-full = (rw all-left at (w .fulls)) ∙ walk-full T ρ few order ok
+
+    tally-breaking : tally .breaking ≡ breakingCount T ρ
+    tally-breaking = (rw all-left at (w .breakings)) ∙ walk-breaking T ρ few order ok
+
+    pub tally-fits : (tally .breaking ≤ tally .full) × (tally .full ≤ 64 ^ 8)
+    tally-fits = (
+      omega (arith, tally-full, tally-breaking, breaking-le-full T ρ few),
+      omega (arith, tally-full, full-fits T ρ few),
+    )
+
+    pub tally-verdict : ruledBy tally ≡ verdictAlong T ρ order
+    unfolding verdictAlong firstBreaking
+    tally-verdict = rw (tally-full, tally-breaking, rw all-left at (w .firsts))
+
+  pub right-order : (order : List ℕ) (v : Verdict) {f : Bool} → f ≡ isOrder (names (ruleVars [] ρ)) (length (ruleVars [] ρ)) (variablesOf order) → f ≡ true
+      → v ≡ verdictAlong T ρ (variablesOf order) → v ≡ orderVerdict T ρ order
+  unfolding orderVerdict
+  right-order order v e h q = rw (← e, h) q
+
+-- What the code's test of the order says, where the slices hold the case.
+module _ {ts ns : List ℕ} {n : ℕ} {ks vs : List ℕ} {root : ℕ} {T : Tables} {ρ : Rule} (C : Case ts ns n ks vs root T ρ) (few : length vs ≤ 8) where
+  as-many : length vs ≡ length (ruleVars [] ρ)
+  as-many = held-length ns vs (ruleVars [] ρ) (C .world .variables .holds)
+
+  pub few-variables : length (ruleVars [] ρ) ≤ 8
+  few-variables = omega (arith, as-many)
+
+  pub other-length : (order : List ℕ) → (length order ≡ length vs → ⊥) → refusedBy Disordered ≡ orderVerdict T ρ order
+  other-length order ne = wrong-length T ρ order (λ e. ne (e ∙ sym as-many))
+
+  module _ (words order listed : List ℕ) (f : Bool) (named : Named (length vs) words (ruleVars [] ρ)) (same : listed ≡ variablesOf order)
+      (test : f ≡ isOrder (namedBy words) (length vs) listed) where
+    told : f ≡ isOrder (names (ruleVars [] ρ)) (length (ruleVars [] ρ)) listed
+    told = test ∙ named-order (length vs) words listed (ruleVars [] ρ) few named ∙ ap (λ (k : ℕ). isOrder (names (ruleVars [] ρ)) k listed) as-many
+
+    pub no-order : f ≡ false → refusedBy Disordered ≡ orderVerdict T ρ order
+    no-order h = wrong-order T ρ order (told ∙ ap (isOrder (names (ruleVars [] ρ)) (length (ruleVars [] ρ))) same) h
+
+    module _ (h : f ≡ true) (tally : Tally) (w : WalkedFrom T ρ listed (length vs) nothingChosen tally) where
+      from-all : WalkedFrom T ρ listed (length listed) nothingChosen tally
+      from-all =
+          let long : length vs ≡ length listed = as-many ∙ sym (order-length (names (ruleVars [] ρ)) (length (ruleVars [] ρ)) listed (sym told ∙ h)) in
+          rw long at w
+
+      pub counts-fit : (tally .breaking ≤ tally .full) × (tally .full ≤ 64 ^ 8)
+      counts-fit = tally-fits T ρ few-variables listed tally (sym told ∙ h) from-all
+
+      pub order-ruled : ruledBy tally ≡ orderVerdict T ρ order
+      order-ruled =
+          right-order T ρ order (ruledBy tally) (told ∙ ap (isOrder (names (ruleVars [] ρ)) (length (ruleVars [] ρ))) same) h
+          (tally-verdict T ρ few-variables listed tally (sym told ∙ h) from-all ∙ ap (verdictAlong T ρ) same)

@@ -1,0 +1,98 @@
+-- What the slices hold that judging is lent: a rule's tree with its kinds and variables, and an order of them.
+-- Internal: contracts of entry points do not speak of it. Assumes nothing.
+use mathlib.Core.Path.{_≡_}
+use mathlib.Core.Bool.{Bool, true, false}
+use mathlib.Core.List.{List, []}
+use mathlib.Core.Option.{some}
+use Prim.Native.Nat.{ℕ, _+_, _-_, _<_, _≤_}
+use lib.ListN.{length, getD, drop}
+use Rattle.words.specs.Words.{has, gate}
+use Rattle.tables.specs.Tables.{Tables}
+use Rattle.tables.specs.Flat.{flat}
+use Rattle.tables.proofs.FitsLaws.{Sound}
+use Rattle.syntax.specs.Rule.{Rule, ruleVars}
+use Rattle.syntax.specs.Arena.{HoldsRule}
+use Rattle.rules.specs.Accept.{refusal}
+use Rattle.walks.specs.declared.Tally.{Tally}
+use Rattle.walks.specs.Walk.{gateO, bytesOf}
+use Rattle.walks.specs.Tally.{Walked, Upto}
+use Rattle.walks.specs.Share.{shareOf}
+use Rattle.verdicts.specs.Verdict.{outcomeOf, orderVerdict, acceptedVerdict}
+use Rattle.verdicts.specs.declared.Verdict.{Verdict}
+use Rattle.values.specs.Sets.{inSet, breaks}
+use Rattle.values.specs.Nodes.{Ready, World, LevelAt, Stored}
+
+-- The tables T and the rule ρ are what the slices hold.
+pub record Case (ts ns : List ℕ) (n : ℕ) (ks vs : List ℕ) (root : ℕ) (T : Tables) (ρ : Rule) : Type 0 where
+  pub world : World ts ns n ks vs T (ruleVars [] ρ)
+  pub holds : HoldsRule ns root ρ
+
+-- The slices hold some tables and some rule with at most 8 variables, whose nodes are among the first n.
+pub record Lent (ts ns : List ℕ) (n : ℕ) (ks vs : List ℕ) (root : ℕ) : Type 0 where
+  pub ready : Ready ts ns n ks root
+  pub small : n ≤ 256
+  pub few : length vs ≤ 8
+  pub nodes : (i : ℕ) → i < length vs → getD vs i 0 < n
+  pub tables : Tables
+  pub rule : Rule
+  pub isCase : Case ts ns n ks vs root tables rule
+
+-- The order lists variables, each fewer than there are nodes of variables.
+pub record Listed (vs order : List ℕ) : Type 0 where
+  pub short : length order ≤ 8
+  pub small : (i : ℕ) → i < length order → getD order i 0 < length vs
+
+-- The levels are those of the order, and the cache has what all but its last m variables settle.
+pub record Settled (ts ns : List ℕ) (n : ℕ) (ks vs order c cache levels : List ℕ) (m : ℕ) : Type 0 where
+  pub level : (k : ℕ) → k < n → LevelAt ns n vs order k (getD levels k 0)
+  pub stored : Stored ts ns n ks vs c cache levels (length order - m)
+
+-- r is what the walk along the last m variables of the order gives, from the choice c.
+abbrev pub WalkedFrom : Tables → Rule → List ℕ → ℕ → List ℕ → Tally → Type 0
+WalkedFrom T ρ order m c r = Walked (inSet T (ruleVars [] ρ)) (breaks T (ruleVars [] ρ) ρ) (drop (length order - m) order) c r
+
+-- r is the smallest item of the word from x on, or 64.
+pub record Next (w x r : ℕ) : Type 0 where
+  pub from : x ≤ r
+  pub within : r ≤ 64
+  pub least : (i : ℕ) → x ≤ i → i < r → has w i ≡ false
+  pub found : r < 64 → has w r ≡ true
+
+-- r is what a whole choice gives.
+pub record Leaf (b : Bool) (c : List ℕ) (r : Tally) : Type 0 where
+  pub full : r .full ≡ 1
+  pub breaking : r .breaking ≡ gate b 1
+  pub first : r .first ≡ bytesOf (gateO b (some c))
+
+-- r is what that walk gives of the items below x of its first variable, v.
+abbrev pub UptoFrom : Tables → Rule → List ℕ → ℕ → List ℕ → ℕ → ℕ → Tally → Type 0
+UptoFrom T ρ order m c v x r = Upto (inSet T (ruleVars [] ρ)) (breaks T (ruleVars [] ρ) ρ) v (drop (length order - m + 1) order) c x r
+
+-- The verdict of a tally.
+abbrev pub ruledBy : Tally → Verdict
+ruledBy a = record {
+  outcome = outcomeOf (a .full) (a .breaking);
+  full = a .full;
+  breaking = a .breaking;
+  first = a .first;
+  share = shareOf (a .full) (a .breaking);
+}
+
+-- The words hold some sound tables.
+pub record Loaded (ts : List ℕ) : Type 0 where
+  pub tables : Tables
+  pub sound : Sound tables
+  pub words : ts ≡ flat tables
+
+-- What is shown whatever tables and rule the slices hold: r is what the walk along the last m variables of the order gives; the verdict
+-- r is that of the order.
+module _ (ts ns : List ℕ) (n : ℕ) (ks vs : List ℕ) (root : ℕ) (order : List ℕ) where
+  abbrev pub Walks : ℕ → List ℕ → Tally → Type 0
+  Walks m c r = (T : Tables) (ρ : Rule) → Case ts ns n ks vs root T ρ → WalkedFrom T ρ order m c r
+
+  abbrev pub RulesOn : Verdict → Type 0
+  RulesOn r = (T : Tables) (ρ : Rule) → Case ts ns n ks vs root T ρ → r ≡ orderVerdict T ρ order
+
+-- The verdict r is that of the tables that the words hold.
+abbrev pub JudgesOn : List ℕ → List ℕ → List ℕ → Verdict → Type 0
+JudgesOn ts rule order r = (T : Tables) → Sound T → ts ≡ flat T → r ≡ acceptedVerdict T (refusal rule) rule order

@@ -1,0 +1,4 @@
+-- Verdicts: what judging answers.
+pub mod Verdict
+pub mod Judging
+pub mod Writing

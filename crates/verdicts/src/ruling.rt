@@ -1,0 +1,89 @@
+// From a walk to a verdict: the order's test, the verdict's word, the share.
+use crate::Outcome;
+use crate::Verdict;
+use crate::walking;
+use answers::Refusal;
+use walks::Tally;
+ghost use mathlib.Core.Path.{_≡_};
+ghost use Prim.Native.Nat.{_≤_, _^_};
+ghost use Rattle.verdicts.specs.Verdict.{outcomeOf, refusedBy};
+ghost use Rattle.verdicts.specs.Judging.{Lent, RulesOn, ruledBy};
+
+// A refusal has counts 0, share 255 and choice all 255.
+pub fn refused(refusal: Refusal) -> Verdict
+    ensures { λ r. ⌜ r ≡ refusedBy refusal ⌝ }
+{
+    Verdict {
+        outcome: Outcome::Refused(refusal),
+        full: 0,
+        breaking: 0,
+        first: [255u8; 8],
+        share: 255,
+    }
+}
+
+fn outcome(full: u64, breaking: u64) -> Outcome
+    ensures { λ r. ⌜ r ≡ outcomeOf full breaking ⌝ }
+{
+    if 0 < breaking {
+        return Outcome::Broken;
+    }
+    if full == 0 {
+        return Outcome::Idle;
+    }
+    Outcome::Held
+}
+
+fn ruled(tally: Tally) -> Verdict
+    requires { ⌜ (tally .breaking ≤ tally .full) × (tally .full ≤ 64 ^ 8) ⌝ }
+    ensures { λ r. ⌜ r ≡ ruledBy tally ⌝ }
+{
+    let first = tally.first;
+    Verdict {
+        outcome: outcome(tally.full, tally.breaking),
+        full: tally.full,
+        breaking: tally.breaking,
+        first,
+        share: walks::share(tally.full, tally.breaking),
+    }
+}
+
+// The verdict along an order, 18 where it is none.
+pub fn along(
+    t: &[u64],
+    nodes: &[u32],
+    n: usize,
+    kinds: &[u8],
+    vars: &[u32],
+    root: usize,
+    order: &[u8],
+) -> Verdict
+    requires { ⌜ Lent (now t) (now nodes) n (now kinds) (now vars) root ⌝ }
+    ensures { λ r. ⌜ RulesOn (now (t .entry)) (now (nodes .entry)) n (now (kinds .entry)) (now (vars .entry)) root (now (order .entry)) r ⌝ }
+{
+    let count = vars.len();
+    if order.len() != count {
+        return refused(Refusal::Disordered);
+    }
+    let all = walks::variables(order);
+    let listed = &all[..count];
+    let names = values::names::names(nodes, n, vars);
+    if walks::ordered(&names, listed, count) {
+        let levels = values::names::levels(nodes, n, vars, listed);
+        let cache = [0u64; 256];
+        return ruled(walking::walk(
+            t,
+            nodes,
+            n,
+            kinds,
+            vars,
+            root,
+            listed,
+            [255u8; 8],
+            &cache,
+            &levels,
+            count,
+        ));
+    }
+    refused(Refusal::Disordered)
+}

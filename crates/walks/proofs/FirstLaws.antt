@@ -1,0 +1,205 @@
+-- The first breaking choice that the walk meets: it is there exactly where the count is above 0, and it is the least one along the order.
+-- Assumes nothing.
+use mathlib.Core.Path.{_≡_, refl, sym, ap, ap₂, subst, _∙_}
+use mathlib.Core.Bool.{Bool, true, false, _&&_, _||_, true≢false}
+use mathlib.Core.Logic.{_⊎_, inl, inr}
+use mathlib.Core.List.{List, [], _∷_}
+use mathlib.Core.Option.{Option, none, some}
+use Prim.Native.Nat.{ℕ, zero, suc, _+_, _<_, _≤_}
+use native.Mathlib.Omega.{arith}
+use native.Mathlib.Nat.{zero-add}
+use native.Mathlib.Decide.{ℕ-discrete, decLt}
+use lib.Dec.{ltb}
+use lib.ListN.{length, getD, set, length-set}
+use lib.Seq.{getD-set-same, getD-set-other, ext-getD}
+use borrow.Author.Tests.{lt-ltb}
+use Rattle.words.specs.Words.{gate}
+use Rattle.walks.specs.Choices.{Sets, sumTo, fullOn, countFull}
+use Rattle.walks.specs.Walk.{walk, orElse, gateO, firstTo, walkFirst}
+use Rattle.walks.specs.Order.{count}
+use Rattle.walks.specs.Meaning.{Every, Once, After, Reads, NoLater, Choice, FirstBreaking, there}
+use Rattle.walks.proofs.PermLaws.{Perm, none as pnone, keep, swap, then, full-perm}
+use Rattle.walks.proofs.OnceLaws.{Distinct, hit-same, hit-other, absent-back, once-perm, once-count, once-distinct, below, perm-sym}
+use Rattle.walks.proofs.PruneLaws.{every-map, walk-counts}
+
+above-add : (p q : ℕ) → ltb 0 (p + q) ≡ (ltb 0 p || ltb 0 q)
+above-add zero q = ap (ltb 0) (zero-add q)
+above-add (suc p) q = lt-ltb 0 (suc p + q) (omega arith) ∙ sym (ap (λ (b : Bool). b || ltb 0 q) (lt-ltb 0 (suc p) (omega arith)))
+
+there-else : (a b : Option (List ℕ)) → there (orElse a b) ≡ (there a || there b)
+there-else none b = refl
+there-else (some a) b = refl
+
+pub there-first : (m : ℕ) (f : ℕ → Option (List ℕ)) (h : ℕ → ℕ) → ((x : ℕ) → there (f x) ≡ ltb 0 (h x)) → there (firstTo m f) ≡ ltb 0 (sumTo m h)
+unfolding firstTo sumTo
+there-first zero f h e = refl
+there-first (suc m) f h e =
+    there-else (firstTo m f) (f m) ∙ ap₂ (λ (a b : Bool). a || b) (there-first m f h e) (e m) ∙ sym (above-add (sumTo m h) (h m))
+
+there-leaf : (t : Bool) (c : List ℕ) → there (gateO t (some c)) ≡ ltb 0 (gate t 1)
+there-leaf true c = refl
+there-leaf false c = refl
+
+pub there-gate : (t : Bool) (o : Option (List ℕ)) (n : ℕ) → there o ≡ ltb 0 n → there (gateO t o) ≡ ltb 0 (gate t n)
+there-gate true o n e = e
+there-gate false o n e = refl
+
+-- a first breaking choice is there exactly where their number is above 0
+pub there-walk : (m : ℕ) (s : Sets) (b : List ℕ → Bool) (vs c : List ℕ)
+    → there (walkFirst m s b vs c) ≡ ltb 0 (walk m s (λ d. gate (b d) 1) vs c)
+unfolding walkFirst walk
+there-walk m s b [] c = there-leaf (b c) c
+there-walk m s b (v ∷ vs) c =
+    there-first m _ _ (λ x. there-gate (s v c x) _ _ (there-walk m s b vs (set c v x)))
+
+gateO-some : (t : Bool) (o : Option (List ℕ)) (d : List ℕ) → gateO t o ≡ some d → (t ≡ true) × (o ≡ some d)
+gateO-some true o d e = (refl, e)
+gateO-some false o d e = let z : _≡_ {A = ℕ} 0 1 = cc in absurd (omega arith)
+
+first-some : (m : ℕ) (f : ℕ → Option (List ℕ)) (d : List ℕ) → firstTo m f ≡ some d → (x : ℕ) × (x < m) × (f x ≡ some d)
+unfolding firstTo
+first-some zero f d e = let z : _≡_ {A = ℕ} 0 1 = cc in absurd (omega arith)
+first-some (suc m) f d e = go (firstTo m f) refl e (first-some m f d)
+  where
+    go : (o : Option (List ℕ)) → firstTo m f ≡ o → orElse o (f m) ≡ some d → (firstTo m f ≡ some d → (x : ℕ) × (x < m) × (f x ≡ some d)) → (x : ℕ) × (x < suc m) × (f x ≡ some d)
+    go none q h ih = (m, omega arith, h)
+    go (some a) q h ih = let r = ih (q ∙ h) in (r .0, omega (arith, r .1), r .2)
+
+-- where f has something at x, the first is that or an earlier one
+abbrev Hit : ℕ → (ℕ → Option (List ℕ)) → ℕ → List ℕ → Type 0
+Hit m f x a = (e : List ℕ) × (firstTo m f ≡ some e) × ((e ≡ a) ⊎ ((y : ℕ) × (y < x) × (f y ≡ some e)))
+
+first-hit : (m : ℕ) (f : ℕ → Option (List ℕ)) (x : ℕ) (a : List ℕ) → x < m → f x ≡ some a → Hit m f x a
+unfolding firstTo
+first-hit zero f x a l h = absurd (omega arith)
+first-hit (suc m) f x a l h = go (decLt x m) (λ k. first-hit m f x a k h)
+  where
+    last : (o : Option (List ℕ)) → firstTo m f ≡ o → x ≡ m → Hit (suc m) f x a
+    last none q e = (a, ap (λ (t : Option (List ℕ)). orElse t (f m)) q ∙ ap f (sym e) ∙ h, inl refl)
+    last (some b) q e =
+        let r = first-some m f b q in
+        (b, ap (λ (t : Option (List ℕ)). orElse t (f m)) q, inr (r .0, omega (arith, r .1), r .2))
+
+    go : Dec (x < m) → (x < m → Hit m f x a) → Hit (suc m) f x a
+    go (yes k) ih = let r = ih k in (r .0, ap (λ (t : Option (List ℕ)). orElse t (f m)) (r .1), r .2)
+    go (no k) ih = last (firstTo m f) refl (omega arith)
+
+and-both : (a b : Bool) → a ≡ true → b ≡ true → (a && b) ≡ true
+and-both a b p q = ap₂ (λ (x y : Bool). x && y) p q
+
+and-left : (a b : Bool) → (a && b) ≡ true → a ≡ true
+and-left true b e = refl
+and-left false b e = e
+
+and-right : (a b : Bool) → (a && b) ≡ true → b ≡ true
+and-right true b e = e
+and-right false b e = absurd (true≢false (sym e))
+
+-- a whole choice d that agrees with c outside v ∷ vs agrees outside vs with c that has d's item at v
+after-set : (v : ℕ) (vs c d : List ℕ) → v < length c → ((u : ℕ) → count u (v ∷ vs) ≡ 0 → getD d u 0 ≡ getD c u 0)
+    → (u : ℕ) → count u vs ≡ 0 → Dec (u ≡ v) → getD d u 0 ≡ getD (set c v (getD d v 0)) u 0
+unfolding count
+after-set v vs c d l r u h (yes e) =
+    subst (λ (k : ℕ). getD d k 0 ≡ getD (set c v (getD d v 0)) k 0) (sym e) (sym (getD-set-same c v (getD d v 0) 0 l))
+after-set v vs c d l r u h (no ne) = r u (omega (arith, hit-other u v ne)) ∙ sym (getD-set-other c v u (getD d v 0) 0 ne)
+
+nearer : (v : ℕ) (vs d e a : List ℕ) (F : ℕ → Type 0) → getD a v 0 ≡ getD d v 0 → NoLater vs a d
+    → ((y : ℕ) → F y → getD e v 0 ≡ y) → (e ≡ a) ⊎ ((y : ℕ) × (y < getD d v 0) × F y) → NoLater (v ∷ vs) e d
+nearer v vs d e a F p q r (inl t) = inr (ap (λ (k : List ℕ). getD k v 0) t ∙ p, subst (λ (k : List ℕ). NoLater vs k d) (sym t) q)
+nearer v vs d e a F p q r (inr t) = inl (subst (λ (k : ℕ). k < getD d v 0) (sym (r (t .0) (t .2))) (t .1))
+
+module _ (m : ℕ) (s : Sets) (names : ℕ → ℕ → Bool) (law : Reads s names) (b : List ℕ → Bool) (len : ℕ) where
+  -- the set of the next variable is the same under the choice so far and under a whole one
+  agree : (v : ℕ) (vs c d : List ℕ) → Every (λ w. names v w ≡ false) vs → ((u : ℕ) → count u vs ≡ 0 → getD d u 0 ≡ getD c u 0)
+      → (x : ℕ) → s v d x ≡ s v c x
+  agree v vs c d af r x =
+      law v d c (λ u t. r u (absent-back u vs (every-map _ _ (λ w e q. true≢false (sym t ∙ ap (names v) (sym q) ∙ e)) vs af))) x
+
+  abbrev Good : List ℕ → List ℕ → List ℕ → Type 0
+  Good vs c d = Choice m vs c d × (fullOn s vs d ≡ true) × (b d ≡ true)
+
+  gateO-leaf : (t : Bool) (c d : List ℕ) → gateO t (some c) ≡ some d → (t ≡ true) × (c ≡ d)
+  gateO-leaf t c d e = let r = gateO-some t (some c) d e in let p : some c ≡ some d = r .1 in (r .0, cc)
+
+  -- what the walk finds is a choice, full and breaking
+  pub found-good : (vs : List ℕ) → Distinct vs → After names vs → Every (λ w. w < len) vs → (c d : List ℕ) → length c ≡ len
+      → walkFirst m s b vs c ≡ some d → Good vs c d
+  unfolding walkFirst fullOn count
+  found-good [] ds af bs c d l e =
+      let r = gateO-leaf (b c) c d e in
+      (record { long = ap length (sym (r .1)); items = tt; rest = λ u h. ap (λ (k : List ℕ). getD k u 0) (sym (r .1)) }, refl, ap b (sym (r .1)) ∙ r .0)
+  found-good (v ∷ vs) ds af bs c d l e =
+      let r = first-some m _ d e in
+      let x : ℕ = r .0 in
+      let q = gateO-some (s v c x) (walkFirst m s b vs (set c v x)) d (r .2) in
+      let ih = found-good vs (ds .1) (af .1) (bs .1) (set c v x) d (length-set c v x ∙ l) (q .1) in
+      let here : getD d v 0 ≡ x = ih .0 .rest v (absent-back v vs (ds .0)) ∙ getD-set-same c v x 0 (subst (λ (k : ℕ). v < k) (sym l) (bs .0)) in
+      let rest′ : (u : ℕ) → count u (v ∷ vs) ≡ 0 → getD d u 0 ≡ getD c u 0 =
+      λ u h. ih .0 .rest u (omega arith) ∙ getD-set-other c v u x 0 (λ w. omega (arith, hit-same u v w)) in (
+        record { long = ih .0 .long ∙ length-set c v x; items = (subst (λ (k : ℕ). k < m) (sym here) (r .1), ih .0 .items); rest = rest′ },
+        and-both _ _ (agree v (v ∷ vs) c d (af .0) rest′ (getD d v 0) ∙ ap (s v c) here ∙ q .0) (ih .1),
+        ih .2,
+      )
+
+  -- and nothing that is a choice, full and breaking, comes earlier
+  pub found-least : (vs : List ℕ) → Distinct vs → After names vs → Every (λ w. w < len) vs → (c d : List ℕ) → length c ≡ len
+      → Good vs c d → (e : List ℕ) × (walkFirst m s b vs c ≡ some e) × NoLater vs e d
+  unfolding walkFirst fullOn count
+  found-least [] ds af bs c d l g =
+      let same : d ≡ c = ext-getD 0 d c (g .0 .long) (λ i h. g .0 .rest i refl) in
+      (c, ap (λ (t : Bool). gateO t (some c)) (ap b (sym same) ∙ g .2), tt)
+  found-least (v ∷ vs) ds af bs c d l g =
+      let x : ℕ = getD d v 0 in
+      let inside : s v c x ≡ true = sym (agree v (v ∷ vs) c d (af .0) (g .0 .rest) x) ∙ and-left (s v d x) (fullOn s vs d) (g .1) in
+      let below′ : v < length c = subst (λ (k : ℕ). v < k) (sym l) (bs .0) in
+      let next : Choice m vs (set c v x) d =
+      record {
+        long = g .0 .long ∙ sym (length-set c v x);
+        items = g .0 .items .1;
+        rest = λ u h. after-set v vs c d below′ (g .0 .rest) u h (ℕ-discrete u v);
+      } in
+      let ih = found-least vs (ds .1) (af .1) (bs .1) (set c v x) d (length-set c v x ∙ l) (next, and-right (s v d x) (fullOn s vs d) (g .1), g .2) in
+      let f : ℕ → Option (List ℕ) = λ y. gateO (s v c y) (walkFirst m s b vs (set c v y)) in
+      let hit = first-hit m f x (ih .0) (g .0 .items .0) (ap (λ (t : Bool). gateO t (walkFirst m s b vs (set c v x))) inside ∙ ih .1) in
+      -- what the walk finds below the item y has y at v
+      let at-v : (y : ℕ) (e : List ℕ) → walkFirst m s b vs (set c v y) ≡ some e → getD e v 0 ≡ y =
+      λ y e h. found-good vs (ds .1) (af .1) (bs .1) (set c v y) e (length-set c v y ∙ l) h .0 .rest v (absent-back v vs (ds .0)) ∙ getD-set-same c v y 0 below′ in (
+        hit .0,
+        hit .1,
+        nearer v vs d (hit .0) (ih .0) (λ y. f y ≡ some (hit .0)) (at-v x (ih .0) (ih .1)) (ih .2)
+            (λ y h. at-v y (hit .0) (gateO-some (s v c y) (walkFirst m s b vs (set c v y)) (hit .0) h .1))
+            (hit .2),
+      )
+
+every-perm : (P : ℕ → Type 0) {a b : List ℕ} → Perm a b → Every P a → Every P b
+every-perm P pnone h = h
+every-perm P (keep v p) h = (h .0, every-perm P p (h .1))
+every-perm P (swap v w a) h = (h .1 .0, (h .0, h .1 .1))
+every-perm P (then p q) h = every-perm P q (every-perm P p h)
+
+choice-perm : (m : ℕ) {a b : List ℕ} → Perm a b → ((u : ℕ) → count u b ≡ count u a) → (base c : List ℕ) → Choice m a base c → Choice m b base c
+choice-perm m p e base c h = record { long = h .long; items = every-perm _ p (h .items); rest = λ u z. h .rest u (sym (e u) ∙ z) }
+
+some-inj : (a b : List ℕ) → some a ≡ some b → a ≡ b
+some-inj a b p = cc
+
+module _ (m n : ℕ) (s : Sets) (names : ℕ → ℕ → Bool) (law : Reads s names) (b : List ℕ → Bool)
+    (order base : List ℕ) (o : Once n order) (af : After names order) (fits : n ≤ length base) where
+  -- THE THEOREM on the first breaking choice, in two parts
+  pub first-there : there (walkFirst m s b order base) ≡ ltb 0 (countFull m s (λ d. gate (b d) 1) n base)
+  first-there = there-walk m s b order base ∙ ap (ltb 0) (walk-counts m s names law (λ d. gate (b d) 1) (length base) n order o af fits base refl)
+
+  pub first-breaking : (d : List ℕ) → walkFirst m s b order base ≡ some d → FirstBreaking m n s b order base d
+  first-breaking d e =
+      let ds = once-distinct n order o in
+      let bs = every-map (λ w. w < n) (λ w. w < length base) (λ w h. omega arith) order (below n order (λ u. o u .1)) in
+      let p = once-perm n order o in
+      let g = found-good m s names law b (length base) order ds af bs base d refl e in
+      record {
+        choice = choice-perm m p (λ u. sym (once-count n order o u)) base d (g .0);
+        full = sym (full-perm s p d) ∙ g .1;
+        breaks = g .2;
+        least = λ k ck fk bk.
+            let r = found-least m s names law b (length base) order ds af bs base k refl (choice-perm m (perm-sym p) (once-count n order o) base k ck, full-perm s p k ∙ fk, bk) in
+            subst (λ (t : List ℕ). NoLater order t k) (some-inj (r .0) d (sym (r .1) ∙ e)) (r .2);
+      }
