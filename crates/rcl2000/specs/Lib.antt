@@ -1,0 +1,2 @@
+-- The tracker's calls.
+pub mod Reply

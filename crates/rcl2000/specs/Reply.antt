@@ -1,0 +1,10 @@
+-- The tracker's number of what a call has written: "L, or 65,536 × the refusal number".
+-- Internal: the calls' own contracts speak of `reply`. Assumes nothing.
+use Prim.Native.Nat.{ℕ, _*_}
+use Rattle.answers.specs.Refusal.{numberOf}
+use Rattle.answers.specs.declared.Written.{Written}
+use Rattle.answers.specs.declared.Written.the-variants.{Refused, Wrote}
+
+abbrev pub replyOf : Written → ℕ
+replyOf (Refused r) = 65536 * numberOf r
+replyOf (Wrote l) = l
