@@ -1,0 +1,62 @@
+-- Document 01, "Day sheet": everything that the listing program prints, as the list of its lines without byte 10.
+-- Assumes nothing.
+use mathlib.Core.Bool.{Bool, true, false}
+use mathlib.Core.List.{List, [], _∷_}
+use mathlib.Core.Option.{Option, none, some}
+use Prim.Native.Nat.{ℕ, zero, suc}
+use lib.Dec.{leb}
+use lib.ListN.{length, getElem?}
+use Rattle.answers.specs.Refusal.{numberOf}
+use Rattle.syntax.specs.Bytes.{Bytes, ascii}
+use Rattle.syntax.specs.Rule.{Rule, ruleVars, ruleOf}
+use Rattle.rules.specs.Accept.{refusal}
+use Rattle.tables.specs.Tables.{Tables}
+use Rattle.tables.specs.Reading.{Reading, turned, taken, tablesOf}
+use Rattle.texts.specs.Pieces.{lines}
+use Rattle.verdicts.specs.declared.Verdict.{Verdict}
+use Rattle.verdicts.specs.Verdict.{acceptedVerdict}
+use Rattle.sheets.specs.Line.{numbered, lineText}
+
+-- "The order is 1, 2, ..": one byte for each variable; no rule, no variables.
+unfoldable pub countUp : ℕ → ℕ → Bytes
+countUp i zero = []
+countUp i (suc n) = i ∷ countUp (suc i) n
+
+unfoldable pub orderOf : Option Rule → Bytes
+orderOf none = []
+orderOf (some ρ) = countUp 1 (length (ruleVars [] ρ))
+
+-- The verdict on one line of the rules.
+unfoldable pub ruleVerdict : Tables → Bytes → Verdict
+ruleVerdict T rule = acceptedVerdict T (refusal rule) rule (orderOf (ruleOf rule))
+
+-- The lines of the rules from line k on.
+unfoldable pub judgedFrom : ℕ → Tables → List Bytes → List Bytes
+judgedFrom k T [] = []
+judgedFrom k T (w ∷ ws) = lineText k (ruleVerdict T w) ∷ judgedFrom (suc k) T ws
+
+-- A sheet of one line.
+abbrev pub only : Bytes → List Bytes
+only w = w ∷ []
+
+-- "rules.txt (to 32,768 bytes; longer prints only `rules too long`)"
+abbrev pub unlessLong : Bool → Tables → Bytes → List Bytes
+unlessLong true T rules = judgedFrom 1 T (lines rules)
+unlessLong false T rules = only (ascii "rules too long")
+
+-- "Refused tables print only `tables refused N`, before the rules' length is looked at."
+unfoldable pub sheetBy : Reading → Bytes → List Bytes
+sheetBy (turned e) rules = only (numbered (ascii "tables refused ") (numberOf e))
+sheetBy (taken T) rules = unlessLong (leb (length rules) 32768) T rules
+
+unfoldable pub sheetOf : Bytes → Bytes → List Bytes
+sheetOf tables rules = sheetBy (tablesOf tables) rules
+
+-- The line at a place, from 1; no bytes at any other place (no line is empty).
+abbrev pub textOr : Option Bytes → Bytes
+textOr none = []
+textOr (some w) = w
+
+unfoldable pub sheetLine : List Bytes → ℕ → Bytes
+sheetLine ls zero = []
+sheetLine ls (suc k) = textOr (getElem? ls k)

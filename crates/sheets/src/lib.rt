@@ -1,0 +1,119 @@
+// The day sheet: each of its lines, made from tables, rules and the line's place.
+// Nothing here reads files or prints.
+use answers::Refusal;
+use answers::Written;
+use rules::Checked;
+use tables::Outcome;
+use texts::Span;
+
+mod text;
+
+ghost use mathlib.Core.Path.{_≡_};
+ghost use Prim.Native.Nat.{_≤_};
+ghost use lib.Dec.{leb};
+ghost use lib.ListN.{length};
+ghost use Rattle.answers.specs.Refusal.{numberOf};
+ghost use Rattle.syntax.specs.Bytes.{ascii};
+ghost use Rattle.tables.specs.Tables.{Tables};
+ghost use Rattle.tables.specs.Reading.{taken, tablesOf};
+ghost use Rattle.answers.specs.Answer.{lent, wrote};
+ghost use Rattle.answers.specs.Written.{Answers};
+ghost use Rattle.texts.specs.Written.{Written as Puts};
+ghost use Rattle.sheets.specs.Line.{numbered, lineText};
+ghost use Rattle.sheets.specs.Sheet.{only, ruleVerdict, unlessLong, sheetOf, sheetLine};
+ghost use Rattle.sheets.specs.Orders.{Counted};
+
+// The line at a place, from 1, without byte 10; no bytes at any other place.
+pub fn line(tables: &[u8], rules: &[u8], place: usize, out: &mut [u8]) -> Written
+    ensures { λ r. ⌜ Answers (lent (length (now (out .entry))) (wrote (sheetLine (sheetOf (now (tables .entry)) (now (rules .entry))) place))) (now (out .entry)) (now (out .exit)) r ⌝ }
+{
+    let mut text = [0u8; 512];
+    let n = write_line(tables, rules, place, &mut text);
+    lend(&text[..n], out)
+}
+
+// Lends the text w.
+fn lend(w: &[u8], out: &mut [u8]) -> Written
+    ensures { λ r. ⌜ Answers (lent (length (now (out .entry))) (wrote (now (w .entry)))) (now (out .entry)) (now (out .exit)) r ⌝ }
+{
+    if out.len() < w.len() {
+        return Written::Refused(Refusal::ShortSheet);
+    }
+    let n = texts::put(w, out);
+    Written::Wrote(n)
+}
+
+// The sheet of refused tables.
+fn refused_tables(e: Refusal, place: usize, out: &mut [u8]) -> usize
+    requires { ⌜ 512 ≤ length (now out) ⌝ }
+    ensures { λ r. ⌜ Puts (sheetLine (only (numbered (ascii "tables refused ") (numberOf e))) place) (now (out .entry)) (now (out .exit)) r ⌝ }
+{
+    if place != 1 {
+        return 0;
+    }
+    text::numbered_by(b"tables refused ", answers::number(e) as u64, out)
+}
+
+// The sheet of rules that are too long.
+fn long_rules(place: usize, out: &mut [u8]) -> usize
+    requires { ⌜ 512 ≤ length (now out) ⌝ }
+    ensures { λ r. ⌜ Puts (sheetLine (only (ascii "rules too long")) place) (now (out .entry)) (now (out .exit)) r ⌝ }
+{
+    if place != 1 {
+        return 0;
+    }
+    texts::put(b"rules too long", out)
+}
+
+// The line of any tables and rules.
+fn write_line(tables: &[u8], rules: &[u8], place: usize, out: &mut [u8]) -> usize
+    requires { ⌜ 512 ≤ length (now out) ⌝ }
+    ensures { λ r. ⌜ Puts (sheetLine (sheetOf (now (tables .entry)) (now (rules .entry))) place) (now (out .entry)) (now (out .exit)) r ⌝ }
+{
+    let loaded = tables::read(tables);
+    let outcome = loaded.outcome;
+    match outcome {
+        Outcome::Refused(e) => refused_tables(e, place, out),
+        Outcome::Accepted => judged_line(tables, rules, place, out),
+    }
+}
+
+// The line of accepted tables.
+fn judged_line(tables: &[u8], rules: &[u8], place: usize, out: &mut [u8]) -> usize
+    requires { ⌜ 512 ≤ length (now out) ⌝ }
+    ensures { λ r. ⌜ ((T : Tables) → tablesOf (now (tables .entry)) ≡ taken T → Puts (sheetLine (unlessLong (leb (length (now (rules .entry))) 32768) T (now (rules .entry))) place) (now (out .entry)) (now (out .exit)) r) ⌝ }
+{
+    if 32768 < rules.len() {
+        return long_rules(place, out);
+    }
+    if place == 0 {
+        return 0;
+    }
+    let Span::Found { from, to } = texts::line(rules, place - 1) else {
+        return 0;
+    };
+    rule_line(tables, &rules[from..to], place, out)
+}
+
+// The line of one rule on accepted tables.
+fn rule_line(tables: &[u8], rule: &[u8], place: usize, out: &mut [u8]) -> usize
+    requires { ⌜ 512 ≤ length (now out) ⌝ }
+    ensures { λ r. ⌜ ((T : Tables) → tablesOf (now (tables .entry)) ≡ taken T → Puts (lineText place (ruleVerdict T (now (rule .entry)))) (now (out .entry)) (now (out .exit)) r) ⌝ }
+{
+    let n = variables(rule);
+    let order = [1u8, 2, 3, 4, 5, 6, 7, 8];
+    let v = verdicts::decide(tables, rule, &order[..n]);
+    text::line_of(place, v, out)
+}
+
+// How many variables an accepted rule has.
+fn variables(rule: &[u8]) -> usize
+    ensures { λ r. ⌜ Counted (now (rule .entry)) r ⌝ }
+{
+    let parsed = rules::parse(rule);
+    let outcome = parsed.outcome;
+    match outcome {
+        Checked::Accepted => parsed.count,
+        Checked::Refused(_) => 0,
+    }
+}

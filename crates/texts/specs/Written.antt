@@ -1,0 +1,16 @@
+-- Internal: what a function that writes a text over the beginning of its lent bytes leaves there.
+-- Assumes nothing.
+use mathlib.Core.Path.{_≡_}
+use mathlib.Core.List.{List, _++_}
+use Prim.Native.Nat.{ℕ, _≤_}
+use lib.ListN.{length, drop}
+
+-- w, and behind it the old bytes.
+abbrev pub over : List ℕ → List ℕ → List ℕ
+over w old = w ++ drop (length w) old
+
+-- The n bytes w were written over the beginning of old, which gives new.
+pub record Written (w old new : List ℕ) (n : ℕ) : Type 0 where
+  pub count : n ≡ length w
+  pub bytes : new ≡ over w old
+  pub fits : length w ≤ length old
