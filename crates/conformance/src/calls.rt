@@ -1,0 +1,35 @@
+// The tracker's calls: each function makes one and prints its number and what the lent output holds.
+use crate::fields::print_bytes;
+use libc::STDOUT_FILENO;
+ghost use Prim.Native.Nat.{_≤_};
+ghost use lib.ListN.{length};
+
+pub fn reduce(rule: &[u8], output: &mut [u8])
+    requires { ⌜ length (now output) ≤ 65536 ⌝ }
+{
+    let reply = rcl2000::reduce(rule, output);
+    print_reply(reply, output);
+}
+
+pub fn rebuild(formula: &[u8], output: &mut [u8])
+    requires { ⌜ length (now output) ≤ 65536 ⌝ }
+{
+    let reply = rcl2000::rebuild(formula, output);
+    print_reply(reply, output);
+}
+
+pub fn judge(tables: &[u8], rule: &[u8], order: &[u8], output: &mut [u8])
+    requires { ⌜ length (now output) ≤ 65536 ⌝ }
+{
+    let reply = rcl2000::judge(tables, rule, order, output);
+    print_reply(reply, output);
+}
+
+fn print_reply(reply: u32, output: &[u8])
+    requires { ⌜ length (now output) ≤ 65536 ⌝ }
+{
+    io::print_decimal(STDOUT_FILENO, reply as u64);
+    io::write_all(STDOUT_FILENO, b" ");
+    print_bytes(output);
+    io::write_all(STDOUT_FILENO, b"\n");
+}

@@ -1,0 +1,65 @@
+// The fields of a line: reading them, and printing those of an answer.
+// Bytes are in hexadecimal, `-` where there are none.
+use libc::STDOUT_FILENO;
+use protocol::Taken;
+use texts::Span;
+ghost use Rattle.io.specs.Counts.{Counts};
+ghost use Prim.Native.Nat.{_≤_, _*_};
+ghost use lib.ListN.{length};
+
+// Whether the line begins with this name and has no more than this many fields.
+pub fn is_command(line: &[u8], name: &[u8], count: usize) -> bool {
+    let Span::Found { from, to } = texts::field(line, 0) else {
+        return false;
+    };
+    if !check::same(&line[from..to], name) {
+        return false;
+    }
+    let Span::Missing = texts::field(line, count) else {
+        return false;
+    };
+    true
+}
+
+// A field that was read: the first n of the lent bytes, or the number n; 0 where it is malformed.
+pub struct Field {
+    pub good: bool,
+    pub n: usize,
+}
+
+pub fn read_bytes(line: &[u8], k: usize, out: &mut [u8]) -> Field
+    requires { ⌜ length (now line) ≤ 2 * length (now out) ⌝ }
+    ensures { λ r. ⌜ Counts (r .n) (now (out .exit)) ⌝ }
+{
+    let Span::Found { from, to } = texts::field(line, k) else {
+        return Field { good: false, n: 0 };
+    };
+    let Taken::Took(n) = protocol::read_bytes(&line[from..to], out) else {
+        return Field { good: false, n: 0 };
+    };
+    Field { good: true, n }
+}
+
+// A length, of bytes that `room` has.
+pub fn read_length(line: &[u8], k: usize, room: &[u8]) -> Field
+    ensures { λ r. ⌜ Counts (r .n) (now (room .entry)) ⌝ }
+{
+    let Span::Found { from, to } = texts::field(line, k) else {
+        return Field { good: false, n: 0 };
+    };
+    let Taken::Took(n) = protocol::read_length(&line[from..to]) else {
+        return Field { good: false, n: 0 };
+    };
+    if room.len() < n {
+        return Field { good: false, n: 0 };
+    }
+    Field { good: true, n }
+}
+
+pub fn print_bytes(b: &[u8])
+    requires { ⌜ length (now b) ≤ 65536 ⌝ }
+{
+    let mut text = [0u8; 131073];
+    let n = protocol::write_bytes(b, &mut text);
+    io::write_all(STDOUT_FILENO, &text[..n]);
+}

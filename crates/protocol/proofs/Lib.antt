@@ -1,0 +1,3 @@
+-- Laws on fields.
+pub mod HexLaws
+pub mod NumbersLaws

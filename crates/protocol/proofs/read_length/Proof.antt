@@ -1,0 +1,76 @@
+-- `protocol::read_length` gives `lengthOf`. The invariant: the digits passed stand for n.
+-- Assumes nothing.
+use mathlib.Core.Path.{ap, sym}
+use Prim.Native.Nat.{_≤_, _-_}
+use native.Mathlib.Omega.{arith}
+use borrow.Author.Needs.{needs}
+use lib.ListN.{length}
+use Rattle.protocol.specs.Taken.{took}
+use Rattle.protocol.proofs.NumbersLaws.{Valued, value-first, value-none, value-next, too-low, too-high, too-much, value-all}
+use Rattle.protocol.proofs.read_length.Statement.{statement}
+use Rattle.protocol.proofs.read_length.Tie as tie
+
+abbrev Inv-loop : tie.InvT-loop
+Inv-loop field n₀ i₀ n i = (i ≤ length field) × (n ≤ 65536) × Valued field n i
+
+abbrev μ-loop : tie.MeasureT-loop
+μ-loop field n₀ i₀ n i = length field - i
+
+returns : tie.Need-returns Inv-loop μ-loop
+returns c = ap took (sym (value-none _ (c .if1 .taken)))
+
+loop-holds : tie.Need-loop-holds Inv-loop μ-loop
+loop-holds c = (omega arith, omega arith, value-first _ (c .if1 .left))
+
+shared-slice-read-c : tie.Need-shared-slice-read-c Inv-loop μ-loop
+shared-slice-read-c c = search needs
+
+returns-2 : tie.Need-returns-2 Inv-loop μ-loop
+returns-2 c = ap took (sym (too-low (c .before .before .before .loop .inv .2) (c .before .before .loop-test .taken) (c .if2 .taken)))
+
+returns-3 : tie.Need-returns-3 Inv-loop μ-loop
+returns-3 c = ap took (sym (too-high (c .before .before .before .before .loop .inv .2) (c .before .before .before .loop-test .taken) (c .before .if2 .left) (c .if3 .taken)))
+
+mul-more : tie.Need-mul-more Inv-loop μ-loop
+mul-more c = search needs
+
+digit-value-requires : tie.Need-digit-value-requires Inv-loop μ-loop
+digit-value-requires c κs = search needs
+
+add-more : tie.Need-add-more Inv-loop μ-loop
+add-more c = search needs
+
+returns-4 : tie.Need-returns-4 Inv-loop μ-loop
+returns-4 c = ap took (sym (too-much (c .before .before .before .before .before .before .loop .inv .2) _ (c .before .before .before .before .before .loop-test .taken) (c .before .before .before .if2 .left) (c .before .before .if3 .left) (c .before .digit-value .ensures) (c .if4 .taken)))
+
+add-i : tie.Need-add-i Inv-loop μ-loop
+add-i c = search needs
+
+loop-less : tie.Need-loop-less Inv-loop μ-loop
+loop-less c = search needs
+
+loop-again : tie.Need-loop-again Inv-loop μ-loop
+loop-again c = (omega arith, c .if4 .left, value-next (c .before .before .before .before .before .before .loop .inv .2) _ (c .before .before .before .before .before .loop-test .taken) (c .before .before .before .if2 .left) (c .before .before .if3 .left) (c .before .digit-value .ensures) (c .if4 .left))
+
+returns-5 : tie.Need-returns-5 Inv-loop μ-loop
+returns-5 c = ap took (sym (value-all (c .before .loop .inv .2) (c .loop-test .left)))
+
+pub read-length-spec : {M : Type 1} → statement M
+read-length-spec =
+    tie.close
+    (tie.spec
+    Inv-loop
+    μ-loop
+    returns
+    loop-holds
+    shared-slice-read-c
+    returns-2
+    returns-3
+    mul-more
+    digit-value-requires
+    add-more
+    returns-4
+    add-i
+    loop-less
+    loop-again
+    returns-5)

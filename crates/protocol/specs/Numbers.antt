@@ -1,0 +1,20 @@
+-- A length as a field: decimal digits of a number that is at most 65,536.
+-- Assumes nothing.
+use mathlib.Core.Bool.{Bool, true, false, _&&_}
+use mathlib.Core.List.{List, [], _∷_}
+use mathlib.Core.Option.{Option, none, some}
+use Prim.Native.Nat.{ℕ, _+_, _*_, _-_}
+use lib.Dec.{leb}
+
+abbrev pub ifFits : Bool → Option ℕ → Option ℕ
+ifFits true r = r
+ifFits false r = none
+
+-- The digits s, behind digits that stand for n.
+unfoldable pub valueOn : ℕ → List ℕ → Option ℕ
+valueOn n [] = some n
+valueOn n (c ∷ s) = ifFits (leb 48 c && (leb c 57 && leb (10 * n + (c - 48)) 65536)) (valueOn (10 * n + (c - 48)) s)
+
+unfoldable pub lengthOf : List ℕ → Option ℕ
+lengthOf [] = none
+lengthOf (c ∷ s) = valueOn 0 (c ∷ s)
