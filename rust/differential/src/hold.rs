@@ -1,0 +1,121 @@
+//! Calls of the proved library held against an expected answer, byte by byte.
+
+use rcl2000::Refusal;
+use reference::protocol::hex;
+use reference::Answer;
+
+use crate::random::Random;
+
+/// The byte that fills a lent output and its guards before the call.
+const FILL: u8 = 0xa5;
+
+/// One question to the library.
+#[derive(Clone, Debug)]
+pub enum Question {
+    Reduce(Box<[u8]>),
+    Rebuild(Box<[u8]>),
+    Judge(Box<[u8]>, Box<[u8]>, Box<[u8]>),
+}
+
+impl Question {
+    pub fn judge(tables: Vec<u8>, rule: Vec<u8>, order: Vec<u8>) -> Question {
+        Question::Judge(tables.into(), rule.into(), order.into())
+    }
+
+    /// The library's answer into lent bytes.
+    pub fn ask(&self, out: &mut [u8]) -> Result<usize, Refusal> {
+        match self {
+            Question::Reduce(rule) => rcl2000::reduce_into(rule, out),
+            Question::Rebuild(formula) => rcl2000::rebuild_into(formula, out),
+            Question::Judge(tables, rule, order) => rcl2000::judge_into(tables, rule, order, out),
+        }
+    }
+
+    /// The answer of the reference's fast modules.
+    pub fn fast(&self) -> Answer<Vec<u8>> {
+        match self {
+            Question::Reduce(rule) => reference::fast::reduce(rule),
+            Question::Rebuild(formula) => reference::fast::rebuild(formula),
+            Question::Judge(tables, rule, order) => {
+                reference::fast::judge(tables, rule, order).map(|verdict| verdict.bytes())
+            }
+        }
+    }
+
+    /// The answer of the reference's plain modules, which try every choice.
+    pub fn plain(&self) -> Answer<Vec<u8>> {
+        match self {
+            Question::Reduce(rule) => reference::formula::reduce(rule),
+            Question::Rebuild(formula) => reference::formula::rebuild(formula),
+            Question::Judge(tables, rule, order) => {
+                reference::verdict::judge(tables, rule, order).map(|verdict| verdict.bytes())
+            }
+        }
+    }
+
+    /// The command that asks this, as the vectors write it.
+    fn command(&self, length: usize) -> String {
+        match self {
+            Question::Reduce(rule) => format!("reduce {} {length}", hex(rule)),
+            Question::Rebuild(formula) => format!("rebuild {} {length}", hex(formula)),
+            Question::Judge(tables, rule, order) => {
+                let (tables, rule, order) = (hex(tables), hex(rule), hex(order));
+                format!("judge {tables} {rule} {order} {length}")
+            }
+        }
+    }
+
+    /// Asks with one length of output, in an allocation of exactly that length and the guards, and
+    /// compares the reply and the whole allocation with what is expected.
+    pub fn hold(&self, expected: &Answer<Vec<u8>>, length: usize, guard: usize) {
+        let mut lent = vec![FILL; guard + length + guard].into_boxed_slice();
+        let mut after = lent.clone();
+        let reply = self.ask(&mut lent[guard..guard + length]);
+        let wanted = reference::lend(expected.clone(), &mut after[guard..guard + length]);
+        let reply = match reply {
+            Ok(length) => length as u32,
+            Err(refusal) => 65_536 * refusal.number(),
+        };
+        assert!(
+            reply == wanted && lent == after,
+            "{}\nexpected {wanted} {}\ngot      {reply} {}\n{guard} bytes at either end are guards",
+            self.command(length),
+            hex(&after),
+            hex(&lent),
+        );
+    }
+
+    /// Holds the library to an answer with outputs of its length L, of L - 1, of 0 and of more.
+    pub fn hold_all(&self, expected: &Answer<Vec<u8>>, random: &mut Random) {
+        let long = expected
+            .as_ref()
+            .map_or(random.below(64), |bytes| bytes.len());
+        let more = long + 1 + random.below(40);
+        for length in [long, long.saturating_sub(1), 0, more] {
+            let guard = [0, 16][random.below(2)];
+            self.hold(expected, length, guard);
+        }
+    }
+}
+
+/// How often each answer was met: by refusal number, and 0 for acceptance.
+#[derive(Default)]
+pub struct Met([u64; 19]);
+
+impl Met {
+    pub fn note(&mut self, answer: &Answer<Vec<u8>>) {
+        let number = answer.as_ref().err().map_or(0, |&number| number);
+        self.0[number as usize] += 1;
+    }
+
+    /// Fails where one of these was hardly met: then the inputs try too little.
+    pub fn expect(&self, numbers: impl IntoIterator<Item = usize>, times: u64) {
+        for number in numbers {
+            let met = self.0[number];
+            assert!(
+                met >= times,
+                "answer {number} was met {met} times, not {times}"
+            );
+        }
+    }
+}

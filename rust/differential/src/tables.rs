@@ -1,0 +1,214 @@
+//! Tables: accepted ones of any size, and ones with each thing that is refused.
+
+use rcl2000::TablesBuilder;
+
+use crate::damage;
+use crate::random::Random;
+
+/// Tables as plain values; every row's word of items.
+#[derive(Clone, Default)]
+pub struct Plain {
+    pub roles: Vec<u64>,
+    pub users: Vec<u64>,
+    pub sessions: Vec<(u8, u64)>,
+    pub operations: usize,
+    pub objects: usize,
+    pub permissions: Vec<u64>,
+    pub cr: Vec<u64>,
+    pub cu: Vec<u64>,
+    pub cp: Vec<u64>,
+}
+
+/// Accepted tables with at most `most` items in a section (operations and objects: 8).
+pub fn accepted(random: &mut Random, most: usize) -> Plain {
+    let mut size = |limit: usize| random.between(0, limit);
+    let (roles, users, sessions) = (size(most), size(most), size(most));
+    let (operations, objects) = (size(most.min(8)), size(most.min(8)));
+    let (cr, cu, cp) = (size(most), size(most), size(most));
+    with_sizes(
+        random,
+        [roles, users, sessions, operations, objects, cr, cu, cp],
+    )
+}
+
+/// Accepted tables with every section as long as it may be.
+pub fn full(random: &mut Random) -> Plain {
+    with_sizes(random, [64, 64, 64, 8, 8, 64, 64, 64])
+}
+
+fn with_sizes(random: &mut Random, sizes: [usize; 8]) -> Plain {
+    let [roles, users, sessions, operations, objects, cr, cu, cp] = sizes;
+    let permissions = operations * objects;
+    let mut plain = Plain {
+        roles: hierarchy(random, roles),
+        users: (0..users).map(|_| random.items(roles)).collect(),
+        operations,
+        objects,
+        permissions: (0..permissions).map(|_| random.items(roles)).collect(),
+        cr: distinct(random, cr, roles),
+        cu: distinct(random, cu, users),
+        cp: distinct(random, cp, permissions),
+        ..Plain::default()
+    };
+    if users > 0 {
+        plain.sessions = (0..sessions)
+            .map(|_| {
+                let user = random.below(users);
+                (user as u8, plain.users[user] & random.items(64))
+            })
+            .collect();
+    }
+    plain
+}
+
+/// Role rows of a random hierarchy: the juniors of juniors included.
+fn hierarchy(random: &mut Random, count: usize) -> Vec<u64> {
+    let mut rank: Vec<usize> = (0..count).collect();
+    random.shuffle(&mut rank);
+    let sparse = random.between(1, 20);
+    let mut rows = vec![0; count];
+    for (place, &role) in rank.iter().enumerate() {
+        rows[role] = 1 << role;
+        for &junior in &rank[..place] {
+            if random.once_in(sparse + 1) {
+                rows[role] |= rows[junior];
+            }
+        }
+    }
+    rows
+}
+
+/// At most `count` different words.
+fn distinct(random: &mut Random, count: usize, items: usize) -> Vec<u64> {
+    let mut words = Vec::new();
+    for _ in 0..count {
+        let word = random.items(items);
+        if !words.contains(&word) {
+            words.push(word);
+        }
+    }
+    words
+}
+
+impl Plain {
+    pub fn bytes(&self) -> Vec<u8> {
+        let mut out = Vec::new();
+        let words = |out: &mut Vec<u8>, words: &[u64], mark: &[u8]| {
+            out.push(words.len() as u8);
+            for word in words {
+                out.extend_from_slice(mark);
+                out.extend(word.to_le_bytes());
+            }
+        };
+        words(&mut out, &self.roles, &[]);
+        words(&mut out, &self.users, &[1]);
+        out.push(self.sessions.len() as u8);
+        for (user, roles) in &self.sessions {
+            out.push(*user);
+            out.extend(roles.to_le_bytes());
+        }
+        out.extend([self.operations as u8, self.objects as u8]);
+        words(&mut out, &self.permissions, &[1]);
+        words(&mut out, &self.cr, &[]);
+        words(&mut out, &self.cu, &[]);
+        words(&mut out, &self.cp, &[]);
+        out
+    }
+
+    /// The same tables by the crate's builder.
+    pub fn builder(&self) -> TablesBuilder {
+        let mut builder = TablesBuilder::new();
+        for (number, &row) in self.roles.iter().enumerate() {
+            builder.role(items(row & !(1 << number)));
+        }
+        for &roles in &self.users {
+            builder.user(items(roles));
+        }
+        for &(user, roles) in &self.sessions {
+            builder.session(user as usize, items(roles));
+        }
+        builder.permissions(self.operations, self.objects, |operation, object| {
+            items(self.permissions[operation * self.objects + object])
+        });
+        for &word in &self.cr {
+            builder.conflicting_roles(items(word));
+        }
+        for &word in &self.cu {
+            builder.conflicting_users(items(word));
+        }
+        for &word in &self.cp {
+            builder.conflicting_permissions(items(word));
+        }
+        builder
+    }
+
+    /// Makes one thing wrong that a check looks for, where there is a row to do it in.
+    pub fn spoil(&mut self, random: &mut Random) {
+        let stray = 1u64 << random.below(64);
+        let (roles, users) = (self.roles.len(), self.users.len());
+        match random.below(10) {
+            0 => change(random, &mut self.roles, |row| row ^ stray),
+            1 => change(random, &mut self.users, |row| row | stray),
+            2 => change(random, &mut self.permissions, |row| row ^ stray),
+            3 => twin(random, &mut self.cr),
+            4 => twin(random, &mut self.cu),
+            5 => twin(random, &mut self.cp),
+            6 if !self.sessions.is_empty() => {
+                let session = random.below(self.sessions.len());
+                self.sessions[session].1 = random.items(roles);
+            }
+            7 if !self.sessions.is_empty() => {
+                let session = random.below(self.sessions.len());
+                self.sessions[session].0 = random.below(users + 3) as u8;
+            }
+            8 => self.objects = random.below(10),
+            9 => {
+                let lists = [&mut self.roles, &mut self.users, &mut self.cr, &mut self.cu];
+                let list = lists.into_iter().nth(random.below(4)).unwrap();
+                list.resize(random.between(64, 66), 0);
+            }
+            _ => {}
+        }
+    }
+}
+
+fn change(random: &mut Random, rows: &mut [u64], to: impl Fn(u64) -> u64) {
+    if !rows.is_empty() {
+        let row = random.below(rows.len());
+        rows[row] = to(rows[row]);
+    }
+}
+
+fn twin(random: &mut Random, words: &mut Vec<u64>) {
+    if !words.is_empty() {
+        let word = *random.pick(words);
+        let place = random.below(words.len() + 1);
+        words.insert(place, word);
+    }
+}
+
+fn items(word: u64) -> impl Iterator<Item = usize> {
+    (0..64).filter(move |item| word >> item & 1 == 1)
+}
+
+/// Tables of some sort: accepted, spoiled, damaged or full.
+pub fn any(random: &mut Random) -> Vec<u8> {
+    let most = [0, 1, 2, 3, 5, 9, 20, 64][random.below(8)];
+    let mut plain = match random.once_in(20) {
+        true => full(random),
+        false => accepted(random, most),
+    };
+    let wrong = random.below(4);
+    if wrong & 1 == 1 {
+        for _ in 0..random.between(1, 2) {
+            plain.spoil(random);
+        }
+    }
+    let mut bytes = plain.bytes();
+    if wrong & 2 == 2 {
+        for _ in 0..random.between(1, 2) {
+            damage::bytes(random, &mut bytes);
+        }
+    }
+    bytes
+}

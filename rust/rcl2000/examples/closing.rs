@@ -1,0 +1,75 @@
+//! The sample evening: its tables made of plain values, and the verdict on each of its rules.
+//!
+//! It prints what `bin/day-sheet samples/closing` prints.
+
+use std::error::Error;
+use std::path::Path;
+use std::{env, fs};
+
+use rcl2000::{judge, variables, Refusal, TablesBuilder, Unencodable, Verdict};
+
+fn main() -> Result<(), Box<dyn Error>> {
+    let here = Path::new(env!("CARGO_MANIFEST_DIR"));
+    let folder = match env::args_os().nth(1) {
+        Some(folder) => folder.into(),
+        None => here.join("../../samples/closing"),
+    };
+    let tables = evening()?;
+    if fs::read(folder.join("tables.bin"))? != tables {
+        return Err("tables.bin has other tables than this evening's".into());
+    }
+    let rules = fs::read_to_string(folder.join("rules.txt"))?;
+    for (place, rule) in rules.split_terminator('\n').enumerate() {
+        match judged(&tables, rule) {
+            Ok(verdict) => println!("{} {verdict}", place + 1),
+            Err(refusal) => {
+                println!("{} refused {}", place + 1, refusal.number());
+                eprintln!("{rule}: {refusal}");
+            }
+        }
+    }
+    Ok(())
+}
+
+/// The verdict in the order 1, 2, ..
+fn judged(tables: &[u8], rule: &str) -> Result<Verdict, Refusal> {
+    let order: Vec<u8> = (1..=variables(rule.as_bytes())?).collect();
+    judge(tables, rule.as_bytes(), &order)
+}
+
+/// Who works at the mill, in what, and what is to be kept apart.
+fn evening() -> Result<Vec<u8>, Unencodable> {
+    let mut tables = TablesBuilder::new();
+    // The leader is senior to both press hands, who come after him.
+    let leader = tables.role([1, 2]);
+    let north_hand = tables.role([]);
+    let south_hand = tables.role([]);
+    let grader = tables.role([]);
+    let tester = tables.role([]);
+    let weigher = tables.role([]);
+    let blender = tables.role([]);
+    let ana = tables.user([leader]);
+    let berto = tables.user([north_hand]);
+    let clara = tables.user([grader]);
+    let dino = tables.user([tester]);
+    let elsa = tables.user([weigher, blender]);
+    let fabio = tables.user([south_hand]);
+    tables.session(ana, [leader]);
+    tables.session(clara, [grader]);
+    tables.session(dino, [tester]);
+    tables.session(elsa, [weigher]);
+    // Fill, draw, test and grade, at the north and the south tank.
+    let hands = [north_hand, south_hand];
+    let (operations, tanks, test, grade) = (4, 2, 2, 3);
+    tables.permissions(operations, tanks, |operation, tank| {
+        [[hands[tank]], [blender], [tester], [grader]][operation]
+    });
+    tables.conflicting_roles([grader, tester]);
+    tables.conflicting_roles([weigher, blender]);
+    tables.conflicting_users([berto, fabio]);
+    for tank in 0..tanks {
+        let kept_apart = [test, grade].map(|operation| tables.permission(operation, tank));
+        tables.conflicting_permissions(kept_apart);
+    }
+    tables.build()
+}

@@ -1,0 +1,93 @@
+//! Verdicts, and the 26 bytes in which the library writes them.
+
+use std::fmt;
+
+/// What a verdict comes to.
+#[derive(Clone, Copy, PartialEq, Eq, Hash, Debug)]
+pub enum Word {
+    /// Every full choice makes the rule true, and there is one.
+    Held,
+    /// There is no full choice, so the rule says nothing about these tables.
+    Idle,
+    /// Some full choice makes the rule false.
+    Broken,
+}
+
+impl fmt::Display for Word {
+    fn fmt(&self, f: &mut fmt::Formatter) -> fmt::Result {
+        f.write_str(match self {
+            Word::Held => "held",
+            Word::Idle => "idle",
+            Word::Broken => "broken",
+        })
+    }
+}
+
+/// The verdict on a rule.
+///
+/// Its `Display` has the fields of the day sheet, one blank between them.
+#[derive(Clone, Copy, PartialEq, Eq, Hash, Debug)]
+pub struct Verdict {
+    pub word: Word,
+    /// How many choices are full: every variable lies in its set.
+    pub full: u64,
+    /// How many full choices make the rule false.
+    pub breaking: u64,
+    /// The item of each variable, v1 first, in the first breaking choice: a number of its sort, or
+    /// of a word of its collection. `None` where there is no such variable or no such choice.
+    pub first: [Option<u8>; 8],
+    /// 100 × breaking / full to the nearest whole, a half upward; `None` if idle.
+    pub share: Option<u8>,
+}
+
+impl Verdict {
+    /// The length of a verdict as the library writes it.
+    pub const BYTES: usize = 26;
+
+    /// The verdict that is written so, by [`judge_into`](crate::judge_into).
+    ///
+    /// ```
+    /// use rcl2000::Verdict;
+    ///
+    /// let mut bytes = [0; Verdict::BYTES];
+    /// rcl2000::judge_into(&[0; 9], b"|CR|=1", &[], &mut bytes)?;
+    /// let verdict = Verdict::from_bytes(&bytes).unwrap();
+    /// assert_eq!((verdict.full, verdict.breaking, verdict.share), (1, 1, Some(100)));
+    /// assert_eq!(verdict.first, [None; 8]);
+    ///
+    /// assert_eq!(Verdict::from_bytes(&[3; Verdict::BYTES]), None);
+    /// # Ok::<(), rcl2000::Refusal>(())
+    /// ```
+    pub fn from_bytes(bytes: &[u8; Verdict::BYTES]) -> Option<Verdict> {
+        let item = |byte: u8| (byte != 255).then_some(byte);
+        let number = |at: usize| u64::from_le_bytes(std::array::from_fn(|i| bytes[at + i]));
+        Some(Verdict {
+            word: match bytes[0] {
+                0 => Word::Held,
+                1 => Word::Idle,
+                2 => Word::Broken,
+                _ => return None,
+            },
+            full: number(1),
+            breaking: number(9),
+            first: std::array::from_fn(|variable| item(bytes[17 + variable])),
+            share: item(bytes[25]),
+        })
+    }
+}
+
+impl fmt::Display for Verdict {
+    fn fmt(&self, f: &mut fmt::Formatter) -> fmt::Result {
+        write!(f, "{} {} {} ", self.word, self.full, self.breaking)?;
+        match self.share {
+            Some(share) => write!(f, "{share}")?,
+            None => f.write_str("-")?,
+        }
+        for (place, item) in self.first.iter().enumerate() {
+            if let Some(item) = item {
+                write!(f, " v{}={item}", place + 1)?;
+            }
+        }
+        Ok(())
+    }
+}

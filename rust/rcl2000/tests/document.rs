@@ -1,0 +1,146 @@
+//! Document 01's own examples, A to K, its tables T and listing, and the edges that it names.
+
+use rcl2000::{judge, judge_into, rebuild, rebuild_into, reduce, reduce_into, variables};
+use rcl2000::{Refusal, TablesBuilder, Verdict, Word};
+
+const A: &str = "|(roles(OE(U))&OE(CR))|<=1";
+const B: &str = "OE(OE(CR))@roles(OE(U))=>(AO(OE(CR))&roles(OE(U)))={}";
+const C: &str = "AO(U)={}";
+const D: &str = "|CR|=1";
+
+/// Tables T: two roles, two users (the first has both roles), and one set of conflicting roles.
+fn tables() -> Vec<u8> {
+    let mut tables = TablesBuilder::new();
+    tables.role([]);
+    tables.role([]);
+    tables.user([0, 1]);
+    tables.user([0]);
+    tables.conflicting_roles([0, 1]);
+    tables.build().unwrap()
+}
+
+fn in_turn(tables: &[u8], rule: &str) -> Result<Verdict, Refusal> {
+    let order: Vec<u8> = (1..=variables(rule.as_bytes())?).collect();
+    judge(tables, rule.as_bytes(), &order)
+}
+
+#[test]
+fn the_builder_gives_tables_t() {
+    let word = |low: u8| [low, 0, 0, 0, 0, 0, 0, 0];
+    let bytes = [
+        &[2][..],
+        &word(1),
+        &word(2),
+        &[2, 1],
+        &word(3),
+        &[1],
+        &word(1),
+        &[0, 0, 0, 0, 1],
+        &word(3),
+        &[0, 0],
+    ];
+    assert_eq!(tables(), bytes.concat());
+}
+
+#[test]
+fn formulas_a_to_d() {
+    let formulas = [
+        (A, "[v1@U][v2@CR]:|(roles(v1)&v2)|<=1"),
+        (
+            B,
+            "[v1@CR][v2@v1][v3@U]:v2@roles(v3)=>((v1-{v2})&roles(v3))={}",
+        ),
+        (C, "[v1@U]:(U-{v1})={}"),
+        (D, ":|CR|=1"),
+    ];
+    for (rule, formula) in formulas {
+        assert_eq!(reduce(rule.as_bytes()).unwrap(), formula.as_bytes());
+        assert_eq!(rebuild(formula.as_bytes()).unwrap(), rule.as_bytes());
+    }
+}
+
+#[test]
+fn verdicts_e_to_j() {
+    let counts = |rule: &str, order: &[u8]| {
+        let verdict = judge(&tables(), rule.as_bytes(), order)?;
+        Ok((verdict.full, verdict.breaking))
+    };
+    assert_eq!(counts(A, &[1, 2]), Ok((2, 1)));
+    assert_eq!(counts(B, &[1, 2, 3]), Ok((4, 2)));
+    assert_eq!(counts(B, &[3, 1, 2]), Ok((4, 2)));
+    assert_eq!(counts(C, &[1]), Ok((2, 2)));
+    assert_eq!(counts("OE(U)=OE(U)", &[1]), Ok((2, 0)));
+    assert_eq!(counts("|(roles(OE(S))&OE(CR))|<=1", &[1, 2]), Ok((0, 0)));
+    assert_eq!(counts(B, &[2, 1, 3]), Err(Refusal::Order));
+}
+
+#[test]
+fn no_rules_formula_k() {
+    for formula in ["[v1@U]:U=U", "[v1@U][v2@U]:v1=v2"] {
+        assert_eq!(rebuild(formula.as_bytes()), Err(Refusal::NoRulesFormula));
+    }
+}
+
+#[test]
+fn the_listing() {
+    let lines = [
+        (A, "broken 2 1 50 v1=0 v2=0"),
+        ("|(roles(OE(S))&OE(CR))|<=1", "idle 0 0 -"),
+        (D, "held 1 0 0"),
+    ];
+    for (rule, line) in lines {
+        assert_eq!(in_turn(&tables(), rule).unwrap().to_string(), line);
+    }
+    assert_eq!(in_turn(&tables(), "|roles(OE(U))"), Err(Refusal::NotARule));
+}
+
+#[test]
+fn sixty_four_users_and_one_more() {
+    let mut users = TablesBuilder::new();
+    for _ in 0..64 {
+        users.user([]);
+    }
+    let mut bytes = users.build().unwrap();
+    assert_eq!(in_turn(&bytes, "|U|=64").unwrap().word, Word::Held);
+    bytes[1] = 65;
+    assert_eq!(in_turn(&bytes, "|U|=64"), Err(Refusal::Overfull));
+    users.user([]);
+    let error = users.build().unwrap_err();
+    assert_eq!(error.to_string(), "tables hold at most 64 users, not 65");
+}
+
+#[test]
+fn the_length_the_depth_and_the_choices_of_a_rule() {
+    let long = "U=U^".repeat(63) + "OP=P";
+    assert_eq!(reduce(long.as_bytes()), Err(Refusal::Kind));
+    assert_eq!(reduce((long + "P").as_bytes()), Err(Refusal::RuleLength));
+    let deep = |depth| format!("{}U{}=U", "(U&".repeat(depth), ")".repeat(depth));
+    assert_eq!(
+        reduce(deep(32).as_bytes()).unwrap().len(),
+        deep(32).len() + 1
+    );
+    assert_eq!(reduce(deep(33).as_bytes()), Err(Refusal::Deep));
+    let chosen = |count| format!("{}U{}={{}}", "AO(".repeat(count), ")".repeat(count));
+    assert_eq!(variables(chosen(8).as_bytes()), Ok(8));
+    assert_eq!(variables(chosen(9).as_bytes()), Err(Refusal::Choices));
+}
+
+#[test]
+fn outputs_of_the_answers_length_and_one_less() {
+    let formula = b"[v1@U]:(U-{v1})={}";
+    lent(formula.len(), |out| reduce_into(C.as_bytes(), out));
+    lent(C.len(), |out| rebuild_into(formula, out));
+    lent(Verdict::BYTES, |out| {
+        judge_into(&tables(), C.as_bytes(), &[1], out)
+    });
+}
+
+/// The call writes its answer of `length` bytes, and refuses an output that is one shorter.
+fn lent(length: usize, call: impl Fn(&mut [u8]) -> Result<usize, Refusal>) {
+    let mut short = vec![7; length - 1];
+    assert_eq!(call(&mut short), Err(Refusal::ShortSheet));
+    assert_eq!(short, vec![7; length - 1]);
+    let mut longer = vec![7; length + 1];
+    assert_eq!(call(&mut longer), Ok(length));
+    assert_eq!(longer[length], 7);
+}

@@ -1,0 +1,13 @@
+//! The same answers as a program in use would compute them: sets as words of 64 bits, texts in
+//! one pass, and of the choices only those whose variables lie in their sets.
+//!
+//! It reads rules with [`crate::rule`] and is held against the plain modules by the tests; the
+//! benchmark compares the proved library with it.
+
+mod formula;
+mod judge;
+mod tables;
+
+pub use formula::{rebuild, reduce};
+pub use judge::judge;
+pub use tables::{read, Tables};

@@ -1,0 +1,163 @@
+//! Tables as words of 64 bits.
+
+use crate::number::*;
+use crate::Answer;
+
+/// Accepted tables; bit i of a word stands for item i.
+pub struct Tables {
+    /// For each role, the roles that it dominates.
+    pub dominated: Vec<u64>,
+    /// For each user, the roles assigned.
+    pub assigned: Vec<u64>,
+    /// For each session, its user alone.
+    pub session_user: Vec<u64>,
+    /// For each session, its active roles.
+    pub active: Vec<u64>,
+    pub operations: usize,
+    pub objects: usize,
+    /// For each permission, the roles that hold it.
+    pub holders: Vec<u64>,
+    /// For each permission, its object alone.
+    pub object: Vec<u64>,
+    pub cr: Vec<u64>,
+    pub cu: Vec<u64>,
+    pub cp: Vec<u64>,
+}
+
+/// The word of the items below `count`.
+pub fn below(count: usize) -> u64 {
+    u64::MAX.checked_shr(64 - count as u32).unwrap_or(0)
+}
+
+struct Rest<'a>(&'a [u8]);
+
+impl<'a> Rest<'a> {
+    fn row<const N: usize>(&mut self) -> Answer<&'a [u8; N]> {
+        let (row, rest) = self.0.split_first_chunk().ok_or(CUT_SHORT)?;
+        self.0 = rest;
+        Ok(row)
+    }
+
+    fn count(&mut self, limit: u8) -> Answer<usize> {
+        match self.row()? {
+            [count] if *count <= limit => Ok(*count as usize),
+            _ => Err(OVERFULL),
+        }
+    }
+
+    fn words(&mut self, count: usize, items: usize) -> Answer<Vec<u64>> {
+        (0..count).map(|_| word(*self.row()?, items)).collect()
+    }
+
+    fn marked(&mut self, count: usize, items: usize) -> Answer<Vec<u64>> {
+        (0..count)
+            .map(|_| match self.row::<9>()? {
+                [0, ..] => Err(NOT_ENTERED),
+                [1, bytes @ ..] => word(*bytes, items),
+                _ => Err(BAD_MARK),
+            })
+            .collect()
+    }
+
+    /// The users of the sessions, and their active roles.
+    fn sessions(&mut self, users: usize, roles: usize) -> Answer<(Vec<u64>, Vec<u64>)> {
+        let count = self.count(64)?;
+        let mut session_user = Vec::with_capacity(count);
+        let mut active = Vec::with_capacity(count);
+        for _ in 0..count {
+            let [user, bytes @ ..] = self.row::<9>()?;
+            if *user as usize >= users {
+                return Err(NO_SUCH_ITEM);
+            }
+            session_user.push(1 << user);
+            active.push(word(*bytes, roles)?);
+        }
+        Ok((session_user, active))
+    }
+}
+
+fn word(bytes: [u8; 8], items: usize) -> Answer<u64> {
+    let word = u64::from_le_bytes(bytes);
+    if word & !below(items) == 0 {
+        Ok(word)
+    } else {
+        Err(NO_SUCH_ITEM)
+    }
+}
+
+/// Tables from their bytes, or the first refusal met.
+pub fn read(bytes: &[u8]) -> Answer<Tables> {
+    let mut rest = Rest(bytes);
+    let roles = rest.count(64)?;
+    let dominated = rest.words(roles, roles)?;
+    let users = rest.count(64)?;
+    let assigned = rest.marked(users, roles)?;
+    let (session_user, active) = rest.sessions(users, roles)?;
+    let operations = rest.count(8)?;
+    let objects = rest.count(8)?;
+    let [permissions] = *rest.row::<1>()?;
+    let permissions = permissions as usize;
+    if permissions != operations * objects {
+        return Err(MISCOUNTED);
+    }
+    let holders = rest.marked(permissions, roles)?;
+    let mut collection = |items| {
+        let count = rest.count(64)?;
+        rest.words(count, items)
+    };
+    let tables = Tables {
+        cr: collection(roles)?,
+        cu: collection(users)?,
+        cp: collection(permissions)?,
+        object: (0..permissions).map(|p| 1 << (p % objects)).collect(),
+        dominated,
+        assigned,
+        session_user,
+        active,
+        operations,
+        objects,
+        holders,
+    };
+    if !rest.0.is_empty() {
+        return Err(LEFT_OVER);
+    }
+    tables.examine()?;
+    Ok(tables)
+}
+
+impl Tables {
+    /// The checks over whole tables: 7, 8, 9.
+    fn examine(&self) -> Answer<()> {
+        let mut sessions = self.session_user.iter().zip(&self.active);
+        let assigned = |user: &u64| self.assigned[user.trailing_zeros() as usize];
+        if !ranked(&self.dominated) {
+            Err(RANK)
+        } else if sessions.any(|(user, roles)| roles & !assigned(user) != 0) {
+            Err(OVERREACH)
+        } else if twins(&self.cr) || twins(&self.cu) || twins(&self.cp) {
+            Err(TWIN)
+        } else {
+            Ok(())
+        }
+    }
+}
+
+fn ranked(rows: &[u64]) -> bool {
+    rows.iter().enumerate().all(|(a, &row)| {
+        row >> a & 1 == 1
+            && items(row).all(|b| rows[b] & !row == 0 && (a == b || rows[b] >> a & 1 == 0))
+    })
+}
+
+fn twins(words: &[u64]) -> bool {
+    (0..words.len()).any(|i| words[..i].contains(&words[i]))
+}
+
+/// The items of a word, smallest first.
+pub fn items(mut word: u64) -> impl Iterator<Item = usize> {
+    std::iter::from_fn(move || {
+        let item = word.trailing_zeros() as usize;
+        word &= word.checked_sub(1)?;
+        Some(item)
+    })
+}

@@ -1,0 +1,239 @@
+//! Document 01, "Tables" and "Functions": reading tables front to back, and Figure 2 on them.
+
+use crate::number::*;
+use crate::set::Set;
+use crate::Answer;
+
+/// A session: its one user, and the roles active in it.
+#[derive(Clone, PartialEq, Eq, Debug)]
+pub struct Session {
+    pub user: usize,
+    pub roles: Set,
+}
+
+/// Accepted tables.
+#[derive(Clone, PartialEq, Eq, Debug)]
+pub struct Tables {
+    /// For each role, the roles that it dominates.
+    pub dominated: Vec<Set>,
+    /// UA: for each user, the roles assigned.
+    pub assigned: Vec<Set>,
+    pub sessions: Vec<Session>,
+    pub operations: usize,
+    pub objects: usize,
+    /// PA: for each permission, the roles that hold it.
+    pub holders: Vec<Set>,
+    pub cr: Vec<Set>,
+    pub cu: Vec<Set>,
+    pub cp: Vec<Set>,
+}
+
+/// The bytes not yet read.
+struct Rest<'a>(&'a [u8]);
+
+impl<'a> Rest<'a> {
+    /// A whole row, before anything in it is examined.
+    fn row(&mut self, length: usize) -> Answer<&'a [u8]> {
+        if self.0.len() < length {
+            return Err(CUT_SHORT);
+        }
+        let (row, rest) = self.0.split_at(length);
+        self.0 = rest;
+        Ok(row)
+    }
+
+    fn count(&mut self, limit: usize) -> Answer<usize> {
+        let count = self.row(1)?[0] as usize;
+        if count > limit {
+            return Err(OVERFULL);
+        }
+        Ok(count)
+    }
+
+    /// A section of words, each preceded by nothing.
+    fn words(&mut self, count: usize, items: usize) -> Answer<Vec<Set>> {
+        (0..count).map(|_| word(self.row(8)?, items)).collect()
+    }
+
+    /// A section of words, each preceded by a mark.
+    fn marked(&mut self, count: usize, items: usize) -> Answer<Vec<Set>> {
+        (0..count)
+            .map(|_| {
+                let row = self.row(9)?;
+                match row[0] {
+                    0 => Err(NOT_ENTERED),
+                    1 => word(&row[1..], items),
+                    _ => Err(BAD_MARK),
+                }
+            })
+            .collect()
+    }
+
+    fn session(&mut self, users: usize, roles: usize) -> Answer<Session> {
+        let row = self.row(9)?;
+        let user = row[0] as usize;
+        if user >= users {
+            return Err(NO_SUCH_ITEM);
+        }
+        Ok(Session {
+            user,
+            roles: word(&row[1..], roles)?,
+        })
+    }
+}
+
+/// A word of eight bytes, lowest first: its bits, all of which must be below `items`.
+fn word(bytes: &[u8], items: usize) -> Answer<Set> {
+    let set = Set::of(|i| bytes[i / 8] >> (i % 8) & 1 == 1);
+    if set.within(&Set::below(items)) {
+        Ok(set)
+    } else {
+        Err(NO_SUCH_ITEM)
+    }
+}
+
+/// Tables from their bytes, or the first refusal met.
+pub fn read(bytes: &[u8]) -> Answer<Tables> {
+    let mut rest = Rest(bytes);
+    let roles = rest.count(64)?;
+    let dominated = rest.words(roles, roles)?;
+    let users = rest.count(64)?;
+    let assigned = rest.marked(users, roles)?;
+    let count = rest.count(64)?;
+    let sessions = (0..count)
+        .map(|_| rest.session(users, roles))
+        .collect::<Answer<_>>()?;
+    let operations = rest.count(8)?;
+    let objects = rest.count(8)?;
+    let permissions = rest.row(1)?[0] as usize;
+    if permissions != operations * objects {
+        return Err(MISCOUNTED);
+    }
+    let holders = rest.marked(permissions, roles)?;
+    let mut collection = |items| {
+        let count = rest.count(64)?;
+        rest.words(count, items)
+    };
+    let tables = Tables {
+        cr: collection(roles)?,
+        cu: collection(users)?,
+        cp: collection(permissions)?,
+        dominated,
+        assigned,
+        sessions,
+        operations,
+        objects,
+        holders,
+    };
+    if !rest.0.is_empty() {
+        return Err(LEFT_OVER);
+    }
+    tables.examine()?;
+    Ok(tables)
+}
+
+impl Tables {
+    /// The checks over whole tables: 7, 8, 9.
+    fn examine(&self) -> Answer<()> {
+        if !self.ranked() {
+            return Err(RANK);
+        }
+        if self
+            .sessions
+            .iter()
+            .any(|s| !s.roles.within(&self.assigned[s.user]))
+        {
+            return Err(OVERREACH);
+        }
+        if [&self.cr, &self.cu, &self.cp]
+            .iter()
+            .any(|words| twins(words))
+        {
+            return Err(TWIN);
+        }
+        Ok(())
+    }
+
+    /// Whether the role rows are reflexive, transitive and antisymmetric.
+    fn ranked(&self) -> bool {
+        let roles = 0..self.dominated.len();
+        let over = |a: usize, b: usize| self.dominated[a].contains(b);
+        roles.clone().all(|a| over(a, a))
+            && roles.clone().all(|a| {
+                roles.clone().all(|b| {
+                    !over(a, b)
+                        || (a == b || !over(b, a)) && self.dominated[b].within(&self.dominated[a])
+                })
+            })
+    }
+
+    pub fn permissions(&self) -> usize {
+        self.operations * self.objects
+    }
+
+    pub fn users_of_roles(&self, roles: &Set) -> Set {
+        meeting(&self.assigned, roles)
+    }
+
+    pub fn users_of_sessions(&self, sessions: &Set) -> Set {
+        Set::of(|user| sessions.items().any(|s| self.sessions[s].user == user))
+    }
+
+    pub fn roles_of_users(&self, users: &Set) -> Set {
+        union(users, |u| self.assigned[u])
+    }
+
+    pub fn roles_of_sessions(&self, sessions: &Set) -> Set {
+        union(sessions, |s| self.sessions[s].roles)
+    }
+
+    pub fn roles_of_permissions(&self, permissions: &Set) -> Set {
+        union(permissions, |p| self.holders[p])
+    }
+
+    /// Each role junior or equal to one of these.
+    pub fn juniors(&self, roles: &Set) -> Set {
+        union(roles, |r| self.dominated[r])
+    }
+
+    /// Each role senior or equal to one of these.
+    pub fn seniors(&self, roles: &Set) -> Set {
+        meeting(&self.dominated, roles)
+    }
+
+    pub fn sessions_of_users(&self, users: &Set) -> Set {
+        Set::of(|s| s < self.sessions.len() && users.contains(self.sessions[s].user))
+    }
+
+    pub fn permissions_of_roles(&self, roles: &Set) -> Set {
+        meeting(&self.holders, roles)
+    }
+
+    pub fn objects_of_permissions(&self, permissions: &Set) -> Set {
+        union(permissions, |p| Set::single(p % self.objects))
+    }
+
+    /// The operations of one of these roles on one of these objects.
+    pub fn operations_of(&self, roles: &Set, objects: &Set) -> Set {
+        Set::of(|operation| {
+            operation < self.operations
+                && objects
+                    .items()
+                    .any(|object| self.holders[operation * self.objects + object].meets(roles))
+        })
+    }
+}
+
+fn twins(words: &[Set]) -> bool {
+    (0..words.len()).any(|i| words[..i].contains(&words[i]))
+}
+
+/// The union, over the members of a set, of what each gives.
+fn union(set: &Set, of: impl Fn(usize) -> Set) -> Set {
+    set.items().fold(Set::EMPTY, |all, item| all.or(&of(item)))
+}
+
+/// The numbers of the rows that share an item with `set`.
+fn meeting(rows: &[Set], set: &Set) -> Set {
+    Set::of(|i| i < rows.len() && rows[i].meets(set))
+}

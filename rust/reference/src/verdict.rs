@@ -1,0 +1,294 @@
+//! Document 01, "Verdict": every choice tried in turn, in the order asked for.
+
+use crate::kind::{Collection, Kind, Kinds, Sort};
+use crate::number::ORDER;
+use crate::rule::{self, Basic, Bound, Clause, Function, Relation, Rule, Term, Test};
+use crate::set::Set;
+use crate::tables::{self, Tables};
+use crate::Answer;
+
+/// A choice, by variable number; 255 where unused or none.
+pub type Choice = [u8; 8];
+
+pub const NO_CHOICE: Choice = [255; 8];
+
+#[derive(Clone, Copy, PartialEq, Eq, Debug)]
+pub struct Verdict {
+    pub full: u64,
+    pub breaking: u64,
+    pub first: Choice,
+}
+
+impl Verdict {
+    /// 0 held, 1 idle, 2 broken.
+    pub fn word(&self) -> u8 {
+        match (self.full, self.breaking) {
+            (0, _) => 1,
+            (_, 0) => 0,
+            _ => 2,
+        }
+    }
+
+    /// 100 × breaking / full to the nearest whole, a half upward; 255 if idle.
+    pub fn share(&self) -> u8 {
+        let twice = 200 * self.breaking as u128 + self.full as u128;
+        twice
+            .checked_div(2 * self.full as u128)
+            .map_or(255, |share| share as u8)
+    }
+
+    /// The 26 bytes that the tracker reads.
+    pub fn bytes(&self) -> Vec<u8> {
+        let mut bytes = vec![self.word()];
+        bytes.extend(self.full.to_le_bytes());
+        bytes.extend(self.breaking.to_le_bytes());
+        bytes.extend(self.first);
+        bytes.push(self.share());
+        bytes
+    }
+}
+
+/// The verdict on a rule, or the first refusal of the tables, the rule and the order.
+pub fn judge(tables: &[u8], text: &[u8], order: &[u8]) -> Answer<Verdict> {
+    let tables = tables::read(tables)?;
+    let rule = rule::read(text)?;
+    let order = read_order(&rule, order)?;
+    Ok(walk(&tables, &rule, &order))
+}
+
+/// The verdict on an accepted rule in an accepted order.
+pub fn walk(tables: &Tables, rule: &Rule, order: &[usize]) -> Verdict {
+    let kinds = Kinds::of(rule).expect("an accepted rule has kinds");
+    let mut judge = Judge {
+        tables,
+        rule,
+        kinds,
+        choice: vec![0; rule.variables.len()],
+        verdict: Verdict {
+            full: 0,
+            breaking: 0,
+            first: NO_CHOICE,
+        },
+    };
+    judge.try_all(order);
+    judge.verdict
+}
+
+/// A bound on the steps of a walk in any order: the product of the variables' items, where none
+/// count as one, since a walk may meet that variable last.
+pub fn steps(tables: &Tables, rule: &Rule) -> u128 {
+    let kinds = Kinds::of(rule).expect("an accepted rule has kinds");
+    let variables = 0..rule.variables.len();
+    variables
+        .map(|v| items(tables, kinds.set(v)).max(1) as u128)
+        .product()
+}
+
+/// The variable numbers in order, from 0: each once, and each after those that its set names.
+pub fn read_order(rule: &Rule, order: &[u8]) -> Answer<Vec<usize>> {
+    let mut known = vec![false; rule.variables.len()];
+    if order.len() != known.len() {
+        return Err(ORDER);
+    }
+    for &number in order {
+        let place = (number as usize).wrapping_sub(1);
+        let ready = place < known.len()
+            && !known[place]
+            && named(&rule.variables[place].set, rule)
+                .iter()
+                .all(|&v| known[v]);
+        if !ready {
+            return Err(ORDER);
+        }
+        known[place] = true;
+    }
+    Ok(order.iter().map(|&number| number as usize - 1).collect())
+}
+
+/// The variables written in a term's formula: `(X-{v})` has those of X as well.
+pub fn named(term: &Term, rule: &Rule) -> Vec<usize> {
+    match term {
+        Term::Basic(_) => vec![],
+        Term::One(number) => vec![*number],
+        Term::Other(number) => {
+            let mut names = named(&rule.variables[*number].set, rule);
+            names.push(*number);
+            names
+        }
+        Term::Call(_, argument) => named(argument, rule),
+        Term::Operations(left, right) | Term::Meet(left, right) | Term::Join(left, right) => {
+            let mut names = named(left, rule);
+            names.extend(named(right, rule));
+            names
+        }
+    }
+}
+
+struct Judge<'a> {
+    tables: &'a Tables,
+    rule: &'a Rule,
+    kinds: Kinds,
+    choice: Vec<usize>,
+    verdict: Verdict,
+}
+
+impl Judge<'_> {
+    /// Tries every choice of the variables in `order`, the last fastest, smallest item first.
+    fn try_all(&mut self, order: &[usize]) {
+        let Some((&variable, rest)) = order.split_first() else {
+            return self.try_one();
+        };
+        for item in 0..items(self.tables, self.kinds.set(variable)) {
+            self.choice[variable] = item;
+            self.try_all(rest);
+        }
+    }
+
+    fn try_one(&mut self) {
+        if !(0..self.choice.len()).all(|v| self.set(v).contains(self.choice[v])) {
+            return;
+        }
+        self.verdict.full += 1;
+        if self.rule.clauses.iter().all(|clause| self.holds(clause)) {
+            return;
+        }
+        if self.verdict.breaking == 0 {
+            for (place, &item) in self.verdict.first.iter_mut().zip(&self.choice) {
+                *place = item as u8;
+            }
+        }
+        self.verdict.breaking += 1;
+    }
+
+    fn set(&self, variable: usize) -> Set {
+        self.value(&self.rule.variables[variable].set)
+    }
+
+    fn holds(&self, clause: &Clause) -> bool {
+        match &clause.then {
+            None => self.test(&clause.test),
+            Some(then) => !self.test(&clause.test) || self.test(then),
+        }
+    }
+
+    fn test(&self, test: &Test) -> bool {
+        match test {
+            Test::Member(item, set) => self.value(item).within(&self.value(set)),
+            Test::Same(equal, left, right) => *equal == (self.value(left) == self.value(right)),
+            Test::Empty(equal, term) => *equal == self.value(term).is_empty(),
+            Test::Count(term, relation, bound) => {
+                let right = match bound {
+                    Bound::Number(number) => *number,
+                    Bound::Count(other) => self.value(other).len(),
+                };
+                stands(self.value(term).len(), *relation, right)
+            }
+        }
+    }
+
+    /// A set is its items, an element the set of itself, a collection its words' positions.
+    fn value(&self, term: &Term) -> Set {
+        match term {
+            Term::Basic(basic) => all(self.tables, *basic),
+            Term::One(number) => match self.kinds.set(*number) {
+                Kind::Collection(collection) => {
+                    words(self.tables, collection)[self.choice[*number]]
+                }
+                _ => Set::single(self.choice[*number]),
+            },
+            Term::Other(number) => self
+                .set(*number)
+                .without(&Set::single(self.choice[*number])),
+            Term::Call(function, argument) => self.call(*function, argument),
+            Term::Operations(roles, object) => self
+                .tables
+                .operations_of(&self.value(roles), &self.value(object)),
+            Term::Meet(left, right) => self.value(left).and(&self.value(right)),
+            Term::Join(left, right) => self.value(left).or(&self.value(right)),
+        }
+    }
+
+    fn call(&self, function: Function, argument: &Term) -> Set {
+        let tables = self.tables;
+        let set = self.value(argument);
+        match (function, self.sort(argument)) {
+            (Function::User, Sort::R) => tables.users_of_roles(&set),
+            (Function::User, _) => tables.users_of_sessions(&set),
+            (Function::Roles, sort) => self.roles(sort, &set),
+            (Function::RolesStar, Sort::P) => tables.seniors(&self.roles(Sort::P, &set)),
+            (Function::RolesStar, sort) => tables.juniors(&self.roles(sort, &set)),
+            (Function::Sessions, _) => tables.sessions_of_users(&set),
+            (Function::Permissions, _) => tables.permissions_of_roles(&set),
+            (Function::PermissionsStar, _) => tables.permissions_of_roles(&tables.juniors(&set)),
+            (Function::Object, _) => tables.objects_of_permissions(&set),
+        }
+    }
+
+    fn roles(&self, sort: Sort, set: &Set) -> Set {
+        match sort {
+            Sort::U => self.tables.roles_of_users(set),
+            Sort::P => self.tables.roles_of_permissions(set),
+            _ => self.tables.roles_of_sessions(set),
+        }
+    }
+
+    fn sort(&self, term: &Term) -> Sort {
+        match self.kinds.term(term) {
+            Ok(Kind::Element(sort) | Kind::Set(sort)) => sort,
+            _ => unreachable!("an accepted rule has no function of a collection"),
+        }
+    }
+}
+
+fn stands(left: usize, relation: Relation, right: usize) -> bool {
+    match relation {
+        Relation::Below => left < right,
+        Relation::AtMost => left <= right,
+        Relation::Above => left > right,
+        Relation::AtLeast => left >= right,
+        Relation::Equal => left == right,
+        Relation::Unequal => left != right,
+    }
+}
+
+/// How many items a variable has to choose from, by the kind of its set: all of its sort, or all
+/// words.
+fn items(tables: &Tables, set: Kind) -> usize {
+    match set {
+        Kind::Element(sort) | Kind::Set(sort) => count(tables, sort),
+        Kind::Collection(collection) => words(tables, collection).len(),
+    }
+}
+
+fn count(tables: &Tables, sort: Sort) -> usize {
+    match sort {
+        Sort::U => tables.assigned.len(),
+        Sort::R => tables.dominated.len(),
+        Sort::Op => tables.operations,
+        Sort::Obj => tables.objects,
+        Sort::P => tables.permissions(),
+        Sort::S => tables.sessions.len(),
+    }
+}
+
+fn words(tables: &Tables, collection: Collection) -> &[Set] {
+    match collection {
+        Collection::Cr => &tables.cr,
+        Collection::Cp => &tables.cp,
+        Collection::Cu => &tables.cu,
+    }
+}
+
+fn all(tables: &Tables, basic: Basic) -> Set {
+    Set::below(match basic {
+        Basic::U => count(tables, Sort::U),
+        Basic::R => count(tables, Sort::R),
+        Basic::Op => count(tables, Sort::Op),
+        Basic::Obj => count(tables, Sort::Obj),
+        Basic::P => count(tables, Sort::P),
+        Basic::S => count(tables, Sort::S),
+        Basic::Cr => tables.cr.len(),
+        Basic::Cp => tables.cp.len(),
+        Basic::Cu => tables.cu.len(),
+    })
+}

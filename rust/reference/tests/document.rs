@@ -1,0 +1,56 @@
+//! Document 01's own examples, by the plain and by the fast modules.
+
+use reference::number::{NO_RULES_FORMULA, ORDER};
+use reference::{fast, formula, sheet, verdict};
+
+/// Tables T.
+const T: &[u8] = b"\x02\x01\0\0\0\0\0\0\0\x02\0\0\0\0\0\0\0\
+    \x02\x01\x03\0\0\0\0\0\0\0\x01\x01\0\0\0\0\0\0\0\
+    \0\0\0\0\x01\x03\0\0\0\0\0\0\0\0\0";
+
+const B: &[u8] = b"OE(OE(CR))@roles(OE(U))=>(AO(OE(CR))&roles(OE(U)))={}";
+
+#[test]
+fn the_listing() {
+    let rules = b"|(roles(OE(U))&OE(CR))|<=1\n|(roles(OE(S))&OE(CR))|<=1\n|CR|=1\n|roles(OE(U))";
+    let lines = "1 broken 2 1 50 v1=0 v2=0\n2 idle 0 0 -\n3 held 1 0 0\n4 refused 13\n";
+    assert_eq!(sheet::sheet(T, rules), lines);
+}
+
+#[test]
+fn formulas_both_ways() {
+    let examples: [(&[u8], &[u8]); 3] = [
+        (
+            B,
+            b"[v1@CR][v2@v1][v3@U]:v2@roles(v3)=>((v1-{v2})&roles(v3))={}",
+        ),
+        (b"AO(U)={}", b"[v1@U]:(U-{v1})={}"),
+        (b"|CR|=1", b":|CR|=1"),
+    ];
+    for (rule, written) in examples {
+        for reduce in [formula::reduce, fast::reduce] {
+            assert_eq!(reduce(rule).as_deref(), Ok(written));
+        }
+        for rebuild in [formula::rebuild, fast::rebuild] {
+            assert_eq!(rebuild(written).as_deref(), Ok(rule));
+        }
+    }
+    for written in [&b"[v1@U]:U=U"[..], b"[v1@U][v2@U]:v1=v2"] {
+        assert_eq!(formula::rebuild(written), Err(NO_RULES_FORMULA));
+        assert_eq!(fast::rebuild(written), Err(NO_RULES_FORMULA));
+    }
+}
+
+#[test]
+fn verdicts_in_any_order() {
+    for judge in [verdict::judge, fast::judge] {
+        let counts = |rule: &[u8], order: &[u8]| {
+            judge(T, rule, order).map(|verdict| (verdict.full, verdict.breaking))
+        };
+        assert_eq!(counts(B, &[1, 2, 3]), Ok((4, 2)));
+        assert_eq!(counts(B, &[3, 1, 2]), Ok((4, 2)));
+        assert_eq!(counts(B, &[2, 1, 3]), Err(ORDER));
+        assert_eq!(counts(b"AO(U)={}", &[1]), Ok((2, 2)));
+        assert_eq!(counts(b"OE(U)=OE(U)", &[1]), Ok((2, 0)));
+    }
+}
