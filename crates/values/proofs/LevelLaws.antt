@@ -1,30 +1,31 @@
 -- The levels of nodes, and how long what a cache has of them stays right.
 -- Assumes nothing.
-use mathlib.Core.Path.{_≡_, refl, sym, ap, _∙_}
+use mathlib.Core.Path.{_≡_, sym, ap, _∙_}
 use mathlib.Core.Bool.{Bool, true, false}
 use mathlib.Core.List.{List}
 use mathlib.Core.Logic.{⊎-elim}
 use Prim.Native.Nat.{ℕ, _+_, _-_, _<_, _≤_}
-use native.Mathlib.Decide.{ℕ-discrete}
 use native.Mathlib.Nat.{eq-or-lt-of-le}
 use native.Mathlib.Omega.{arith}
 use lib.ListN.{length, getD, set}
 use lib.Seq.{getD-set-same, getD-set-other}
 use Rattle.words.specs.Words.{has}
-use Rattle.syntax.specs.Term.{Term, Choices}
 use Rattle.rules.proofs.NodeLaws.{lt-or-le}
-use Rattle.values.specs.Values.{value}
 use Rattle.values.specs.Sets.{namesIn}
-use Rattle.values.specs.Nodes.{LevelOf, LevelAt, NamesAt, Stored}
+use Rattle.values.specs.Nodes.{Level, LevelAt, Levels, NamesAt, Stored}
 use Rattle.values.proofs.ReadsLaws.{value-reads}
 
 -- The word has no variable of the order from i on.
 abbrev pub Beyond : List ℕ → ℕ → ℕ → Type 0
 Beyond order word i = (j : ℕ) → i ≤ j → j < length order → has word (getD order j 0) ≡ true → ⊥
 
-pub level-here : (order : List ℕ) (word i r : ℕ) → Beyond order word i → i ≡ r → LevelOf order word r
-level-here order word i r h e j l q =
-    ⊎-elim (λ (m : j < i). omega arith) (λ (m : i ≤ j). absurd (h j m l q)) (lt-or-le j i)
+pub level-here : (order : List ℕ) (word i r : ℕ) → i ≤ length order → Beyond order word i → i ≡ r → (0 < r → has word (getD order (r - 1) 0) ≡ true)
+    → Level order (has word) r
+level-here order word i r b h e m = record {
+  within = omega arith;
+  above = λ j l q. ⊎-elim (λ (o : j < i). omega arith) (λ (o : i ≤ j). absurd (h j o l q)) (lt-or-le j i);
+  met = m;
+}
 
 pub level-next : (order : List ℕ) (word i : ℕ) → 0 < i → Beyond order word i → (f : Bool) → f ≡ has word (getD order (i - 1) 0) → f ≡ false
     → Beyond order word (i - 1)
@@ -38,8 +39,23 @@ level-next order word i pos h f e n j m l q =
     no z = let o : _≡_ {A = ℕ} 0 1 = cc in absurd (omega arith)
 
 pub level-at : (ns : List ℕ) (n : ℕ) (vs order : List ℕ) (k word r : ℕ) → ((i : ℕ) → i < length order → getD order i 0 < 64) → NamesAt ns n vs k word
-    → LevelOf order word r → LevelAt ns n vs order k r
-level-at ns n vs order k word r small named lev σ w t x i l e = lev i l (named σ w t x (getD order i 0) (small i l) ∙ e)
+    → Level order (has word) r → LevelAt ns n vs order k r
+level-at ns n vs order k word r small named lev σ w t x = record {
+  within = lev .within;
+  above = λ i l e. lev .above i l (named σ w t x (getD order i 0) (small i l) ∙ e);
+  met = λ pos. sym (named σ w t x (getD order (r - 1) 0) (small (r - 1) (omega (arith, lev .within)))) ∙ lev .met pos;
+}
+
+-- What names no more has no higher level.
+pub level-below : (order : List ℕ) (p q : ℕ → Bool) (r s : ℕ) → Level order p r → Level order q s → ((u : ℕ) → p u ≡ true → q u ≡ true) → r ≤ s
+level-below order p q r s l m h =
+    ⊎-elim
+    (λ (z : 0 ≡ r). omega arith)
+    (λ (z : 0 < r). let b = m .above (r - 1) (omega (arith, l .within)) (h (getD order (r - 1) 0) (l .met z)) in omega arith)
+    (eq-or-lt-of-le (least r))
+  where
+    least : (i : ℕ) → 0 ≤ i
+    least i = omega arith
 
 -- One more place of a list is filled.
 pub more-at : (P : ℕ → ℕ → Type 0) (found : List ℕ) (k r : ℕ) → k < length found → ((j : ℕ) → j < k → P j (getD found j 0)) → P k r
@@ -54,17 +70,13 @@ more-at P found k r l h p j m =
     at-most q = omega arith
 
 -- What is chosen for the variable after the first l of the order leaves the values of the levels up to l.
-pub stored-chosen : {ts ns : List ℕ} {n : ℕ} {ks vs c cache levels : List ℕ} (order : List ℕ) (l v x : ℕ) → l < length order → getD order l 0 ≡ v
-    → ((k : ℕ) → k < n → LevelAt ns n vs order k (getD levels k 0)) → Stored ts ns n ks vs c cache levels (l + 1)
-    → Stored ts ns n ks vs (set c v x) cache levels (l + 1)
-stored-chosen {c = c} {levels = levels} order l v x m is lev F = record {
+pub stored-other : {ts ns : List ℕ} {n : ℕ} {ks vs c cache levels : List ℕ} (order : List ℕ) (l v : ℕ) (d : List ℕ) → l < length order → getD order l 0 ≡ v
+    → Levels ns n vs order levels → ((u : ℕ) → (u ≡ v → ⊥) → getD c u 0 ≡ getD d u 0) → Stored ts ns n ks vs c cache levels (l + 1)
+    → Stored ts ns n ks vs d cache levels (l + 1)
+stored-other {c = c} order l v d m is lev agree F = record {
   long = F .long;
-  levelled = F .levelled;
   holds = λ k h low T σ w a y.
       F .holds k h low T σ w a y
-      ∙ value-reads T σ c (set c v x) a
-      (λ u e. agree u (λ same. let z = lev k h σ (w .variables) a y l m (ap (namesIn σ a) (is ∙ sym same) ∙ e) in absurd (omega (arith, z, low))));
+      ∙ value-reads T σ c d a
+      (λ u e. agree u (λ same. let z = lev .each k h σ (w .variables) a y .above l m (ap (namesIn σ a) (is ∙ sym same) ∙ e) in absurd (omega (arith, z, low))));
 }
-  where
-    agree : (u : ℕ) → (u ≡ v → ⊥) → getD c u 0 ≡ getD (set c v x) u 0
-    agree u ne = sym (getD-set-other c v u x 0 ne)

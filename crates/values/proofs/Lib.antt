@@ -10,3 +10,5 @@ pub mod BoundLaws
 pub mod NamesLaws
 pub mod ItemLaws
 pub mod LevelLaws
+pub mod ChainLaws
+pub mod SettleLaws

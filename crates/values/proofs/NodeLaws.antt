@@ -13,7 +13,7 @@ use Rattle.syntax.specs.Term.{Base, bU, bR, bOP, bOBJ, bP, bS, bCR, bCP, bCU, F
 use Rattle.syntax.specs.Term.{permissions*, object, Op, operations, meet, join, Term, base, call, oe, ao, two, Term≟, Choices}
 use Rattle.syntax.specs.Arena.{baseOp, fnOp, twoOp, Holds, HoldsAll, hasTwo, Down, Tidy}
 use Rattle.values.specs.Values.{variableOf}
-use Rattle.values.specs.Nodes.{baseAt, fnAt, opAt, placeIn, Ready, Variables}
+use Rattle.values.specs.Nodes.{baseAt, fnAt, opAt, placeIn, Variables}
 use Rattle.values.proofs.ReadsLaws.{or-right}
 use Rattle.syntax.proofs.ArenaLaws.{base-small, fn-range, two-range, one-parts, both-parts, holds-once, holds-one, holds-op, opOf}
 
@@ -157,16 +157,13 @@ module _ {ns : List ℕ} {n : ℕ} (d : Tidy ns n) {k : ℕ} (h : k < n) where
   unfolding Down hasTwo
   right-below₂ l = d .down k h .right (or-right (leb 18 (getD ns k 0 % 256) && ltb (getD ns k 0 % 256) 24) (leb 32 (getD ns k 0 % 256)) (le-leb 32 (getD ns k 0 % 256) l))
 
--- So a walk over nodes may go on there.
-module _ {ts ns : List ℕ} {n : ℕ} {ks : List ℕ} {k : ℕ} (R : Ready ts ns n ks k) where
-  pub ready-at : (i : ℕ) → i < k → Ready ts ns n ks i
-  ready-at i l = record { whole = R .whole; tidy = R .tidy; kinded = R .kinded; below = omega (arith, R .below) }
+-- So they are among the first n.
+module _ {ns : List ℕ} {n : ℕ} (d : Tidy ns n) {k : ℕ} (h : k < n) where
+  pub left-in : 9 ≤ getD ns k 0 % 256 → getD ns k 0 / 256 % 4096 < n
+  left-in l = omega (arith, left-below d h l)
 
-  pub ready-left : 9 ≤ getD ns k 0 % 256 → Ready ts ns n ks (getD ns k 0 / 256 % 4096)
-  ready-left l = ready-at (getD ns k 0 / 256 % 4096) (left-below (R .tidy) (R .below) l)
+  pub right-in : 18 ≤ getD ns k 0 % 256 → getD ns k 0 % 256 < 24 → getD ns k 0 / 1048576 < n
+  right-in l m = omega (arith, right-below d h l m)
 
-  pub ready-right : 18 ≤ getD ns k 0 % 256 → getD ns k 0 % 256 < 24 → Ready ts ns n ks (getD ns k 0 / 1048576)
-  ready-right l m = ready-at (getD ns k 0 / 1048576) (right-below (R .tidy) (R .below) l m)
-
-  pub ready-right₂ : 32 ≤ getD ns k 0 % 256 → Ready ts ns n ks (getD ns k 0 / 1048576)
-  ready-right₂ l = ready-at (getD ns k 0 / 1048576) (right-below₂ (R .tidy) (R .below) l)
+  pub right-in₂ : 32 ≤ getD ns k 0 % 256 → getD ns k 0 / 1048576 < n
+  right-in₂ l = omega (arith, right-below₂ d h l)

@@ -60,10 +60,14 @@ pub fn variable(vars: &[u32], k: usize) -> usize
 }
 
 // The item chosen for the variable u.
-pub fn chosen(choice: [u8; 8], u: usize) -> usize
-    ensures { λ r. ⌜ r ≡ getD choice u 0 ⌝ }
+pub fn chosen(choice: &[u8], u: usize) -> usize
+    ensures { λ r. ⌜ r ≡ getD (now (choice .entry)) u 0 ⌝ }
 {
-    if u < 8 { choice[u] as usize } else { 0 }
+    if u < choice.len() {
+        choice[u] as usize
+    } else {
+        0
+    }
 }
 
 // Whether the kind is an element or a set of the sort, 0 to 5 for U, R, OP, OBJ, P, S.

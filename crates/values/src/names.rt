@@ -4,7 +4,8 @@ ghost use Prim.Native.Nat.{ℕ, _<_, _≤_};
 ghost use lib.ListN.{length, getD};
 ghost use Rattle.syntax.specs.Term.{Choices};
 ghost use Rattle.syntax.specs.Arena.{Tidy};
-ghost use Rattle.values.specs.Nodes.{NamesAt, LevelOf, LevelAt, Variables, Named};
+ghost use Rattle.words.specs.Words.{has};
+ghost use Rattle.values.specs.Nodes.{NamesAt, Level, Levels, Chained, Variables, Named};
 
 // The word of the variables that the term of node k names.
 fn named(nodes: &[u32], n: usize, vars: &[u32], k: usize) -> u64
@@ -52,7 +53,7 @@ pub fn names(nodes: &[u32], n: usize, vars: &[u32]) -> [u64; 8]
 // How many variables of the order stand up to the last one that the word has.
 fn level(word: u64, order: &[u8]) -> u8
     requires { ⌜ (length (now order) ≤ 8) × ((i : ℕ) → i < length (now order) → getD (now order) i 0 < 64) ⌝ }
-    ensures { λ r. ⌜ LevelOf (now (order .entry)) word r ⌝ }
+    ensures { λ r. ⌜ Level (now (order .entry)) (has word) r ⌝ }
 {
     let mut i = order.len();
     while 0 < i {
@@ -68,7 +69,7 @@ fn level(word: u64, order: &[u8]) -> u8
 // For each node the level of what its term names.
 pub fn levels(nodes: &[u32], n: usize, vars: &[u32], order: &[u8]) -> [u8; 256]
     requires { ⌜ Tidy (now nodes) n × (n ≤ 256) × (length (now order) ≤ 8) × ((i : ℕ) → i < length (now order) → getD (now order) i 0 < 64) ⌝ }
-    ensures { λ r. ⌜ ((k : ℕ) → k < n → LevelAt (now (nodes .entry)) n (now (vars .entry)) (now (order .entry)) k (getD r k 0)) ⌝ }
+    ensures { λ r. ⌜ Levels (now (nodes .entry)) n (now (vars .entry)) (now (order .entry)) r ⌝ }
 {
     let mut found = [0u8; 256];
     let mut k = 0;
@@ -77,4 +78,28 @@ pub fn levels(nodes: &[u32], n: usize, vars: &[u32], order: &[u8]) -> [u8; 256]
         k += 1;
     }
     found
+}
+
+// The nodes of each level, from the lowest up.
+pub struct Chains {
+    pub first: [u32; 9],
+    pub next: [u32; 256],
+}
+
+// The chain of each level, made from the last node down.
+pub fn chain(levels: &[u8], n: usize) -> Chains
+    requires { ⌜ (n ≤ 256) × (n ≤ length (now levels)) × ((k : ℕ) → k < n → getD (now levels) k 0 < 9) ⌝ }
+    ensures { λ r. ⌜ Chained n (now (levels .entry)) (r .first) (r .next) ⌝ }
+{
+    let end = n as u32;
+    let mut first = [end; 9];
+    let mut next = [0u32; 256];
+    let mut k = n;
+    while 0 < k {
+        k -= 1;
+        let d = levels[k] as usize;
+        next[k] = first[d];
+        first[d] = k as u32;
+    }
+    Chains { first, next }
 }

@@ -1,28 +1,24 @@
-// The value of a node's term under a choice.
+// The values of the nodes' terms under a choice, level by level, in a cache.
 use crate::calls;
 use crate::items;
-ghost use Prim.Native.Nat.{ℕ, _+_, _<_, _≤_};
-ghost use lib.ListN.{getD};
-ghost use Rattle.values.specs.Nodes.{Ready, Stored, ValueAt};
+ghost use Prim.Native.Nat.{ℕ, _<_, _≤_};
+ghost use lib.ListN.{length};
+ghost use Rattle.values.specs.Nodes.{Ready, StepAt, Climbs, Settles};
 
-pub fn value(
+// The value of node k from those right below it, which the cache has.
+fn step(
     t: &[u64],
     nodes: &[u32],
     n: usize,
     kinds: &[u8],
     vars: &[u32],
-    choice: [u8; 8],
+    choice: &[u8],
     cache: &[u64],
-    levels: &[u8],
-    depth: usize,
     k: usize,
 ) -> u64
-    requires { ⌜ Ready (now t) (now nodes) n (now kinds) k × Stored (now t) (now nodes) n (now kinds) (now vars) choice (now cache) (now levels) depth ⌝ }
-    ensures { λ r. ⌜ ValueAt (now (t .entry)) (now (nodes .entry)) n (now (kinds .entry)) (now (vars .entry)) choice k r ⌝ }
+    requires { ⌜ Ready (now t) (now nodes) n (now kinds) k × (n ≤ length (now cache)) ⌝ }
+    ensures { λ r. ⌜ StepAt (now (t .entry)) (now (nodes .entry)) n (now (kinds .entry)) (now (vars .entry)) (now (choice .entry)) k (now (cache .entry)) r ⌝ }
 {
-    if (levels[k] as usize) < depth {
-        return cache[k];
-    }
     let node = nodes[k];
     let op = node % 256;
     if op < 9 {
@@ -36,7 +32,7 @@ pub fn value(
         let x = items::chosen(choice, items::variable(vars, left));
         return items::one(t, kinds[left], x);
     }
-    let a = value(t, nodes, n, kinds, vars, choice, cache, levels, depth, left);
+    let a = cache[left];
     if op < 16 {
         return calls::call(t, op, kinds[left], a);
     }
@@ -45,63 +41,28 @@ pub fn value(
         return words::less(a, words::item(x));
     }
     let right = (node / 1048576) as usize;
-    let b = value(
-        t,
-        nodes,
-        n,
-        kinds,
-        vars,
-        choice,
-        cache,
-        levels,
-        depth,
-        right,
-    );
-    calls::two(t, op, a, b)
+    calls::two(t, op, a, cache[right])
 }
 
-// The value of node k, if its level is not above the depth.
-fn kept(
+// Evaluates the nodes of a chain: the cache has one level more.
+pub fn settle(
     t: &[u64],
     nodes: &[u32],
     n: usize,
     kinds: &[u8],
     vars: &[u32],
-    choice: [u8; 8],
-    cache: &[u64],
-    levels: &[u8],
-    depth: usize,
-    k: usize,
-) -> u64
-    requires { ⌜ Ready (now t) (now nodes) n (now kinds) k × Stored (now t) (now nodes) n (now kinds) (now vars) choice (now cache) (now levels) depth ⌝ }
-    ensures { λ r. ⌜ (getD (now (levels .entry)) k 0 ≤ depth → ValueAt (now (t .entry)) (now (nodes .entry)) n (now (kinds .entry)) (now (vars .entry)) choice k r) ⌝ }
+    choice: &[u8],
+    cache: &mut [u64],
+    next: &[u32],
+    from: usize,
+)
+    requires { ⌜ ((k : ℕ) → k < n → Ready (now t) (now nodes) n (now kinds) k) × (n ≤ length (now cache)) × Climbs n (now next) ⌝ }
+    ensures { λ _. ⌜ Settles (now (t .entry)) (now (nodes .entry)) n (now (kinds .entry)) (now (vars .entry)) (now (choice .entry)) (now (next .entry)) from (now (cache .entry)) (now (cache .exit)) ⌝ }
 {
-    if depth < levels[k] as usize {
-        return 0;
-    }
-    value(t, nodes, n, kinds, vars, choice, cache, levels, depth, k)
-}
-
-// The cache one level deeper, under the same choice.
-pub fn deeper(
-    t: &[u64],
-    nodes: &[u32],
-    n: usize,
-    kinds: &[u8],
-    vars: &[u32],
-    choice: [u8; 8],
-    cache: &[u64],
-    levels: &[u8],
-    depth: usize,
-) -> [u64; 256]
-    requires { ⌜ (n ≤ 256) × ((k : ℕ) → k < n → Ready (now t) (now nodes) n (now kinds) k) × Stored (now t) (now nodes) n (now kinds) (now vars) choice (now cache) (now levels) depth ⌝ }
-    ensures { λ r. ⌜ Stored (now (t .entry)) (now (nodes .entry)) n (now (kinds .entry)) (now (vars .entry)) choice r (now (levels .entry)) (depth + 1) ⌝ }
-{
-    let mut fresh = [0u64; 256];
-    let mut k = 0;
+    let mut k = from;
     while k < n {
-        fresh[k] = kept(t, nodes, n, kinds, vars, choice, cache, levels, depth, k);
-        k += 1;
+        let value = step(t, nodes, n, kinds, vars, choice, &cache[..], k);
+        cache[k] = value;
+        k = next[k] as usize;
     }
-    fresh
 }

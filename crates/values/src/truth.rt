@@ -1,8 +1,10 @@
-// Whether a node's rule is true under a choice.
+// Whether a node's rule is true, where a cache has the values of the terms.
 use crate::items;
-use crate::terms;
 ghost use mathlib.Core.Path.{_≡_};
-ghost use Rattle.values.specs.Nodes.{relatedAt, emptyAt, Ready, Stored, TestAt, ClauseAt, TruthAt};
+ghost use Prim.Native.Nat.{_<_, _≤_};
+ghost use lib.ListN.{length};
+ghost use Rattle.syntax.specs.Arena.{Tidy};
+ghost use Rattle.values.specs.Nodes.{relatedAt, emptyAt, TestAt, ClauseAt, TruthAt};
 
 // `@`, `=` and `!=` of two values. An element is in a set where they have an item in common.
 fn related(op: u32, a: u64, b: u64) -> bool
@@ -24,20 +26,9 @@ fn empty(op: u32, a: u64) -> bool
     if op == 24 { a == 0 } else { a != 0 }
 }
 
-fn test(
-    t: &[u64],
-    nodes: &[u32],
-    n: usize,
-    kinds: &[u8],
-    vars: &[u32],
-    choice: [u8; 8],
-    cache: &[u64],
-    levels: &[u8],
-    depth: usize,
-    k: usize,
-) -> bool
-    requires { ⌜ Ready (now t) (now nodes) n (now kinds) k × Stored (now t) (now nodes) n (now kinds) (now vars) choice (now cache) (now levels) depth ⌝ }
-    ensures { λ r. ⌜ TestAt (now (t .entry)) (now (nodes .entry)) n (now (kinds .entry)) (now (vars .entry)) choice k r ⌝ }
+fn test(nodes: &[u32], n: usize, cache: &[u64], k: usize) -> bool
+    requires { ⌜ Tidy (now nodes) n × (k < n) × (n ≤ length (now cache)) ⌝ }
+    ensures { λ r. ⌜ TestAt (now (nodes .entry)) n (now (cache .entry)) k r ⌝ }
 {
     let node = nodes[k];
     let op = node % 256;
@@ -49,24 +40,9 @@ fn test(
     }
     let left = (node / 256 % 4096) as usize;
     let right = (node / 1048576) as usize;
-    let a = terms::value(t, nodes, n, kinds, vars, choice, cache, levels, depth, left);
+    let a = cache[left];
     if op < 24 {
-        return related(
-            op,
-            a,
-            terms::value(
-                t,
-                nodes,
-                n,
-                kinds,
-                vars,
-                choice,
-                cache,
-                levels,
-                depth,
-                right,
-            ),
-        );
+        return related(op, a, cache[right]);
     }
     if op < 26 {
         return empty(op, a);
@@ -75,95 +51,40 @@ fn test(
     if op < 32 {
         return items::compare((op - 26) as usize, x, right);
     }
-    let y = words::size(terms::value(
-        t,
-        nodes,
-        n,
-        kinds,
-        vars,
-        choice,
-        cache,
-        levels,
-        depth,
-        right,
-    ));
+    let y = words::size(cache[right]);
     items::compare((op - 32) as usize, x, y)
 }
 
 // `=>` is false only where its first test is true and its second false.
-fn clause(
-    t: &[u64],
-    nodes: &[u32],
-    n: usize,
-    kinds: &[u8],
-    vars: &[u32],
-    choice: [u8; 8],
-    cache: &[u64],
-    levels: &[u8],
-    depth: usize,
-    k: usize,
-) -> bool
-    requires { ⌜ Ready (now t) (now nodes) n (now kinds) k × Stored (now t) (now nodes) n (now kinds) (now vars) choice (now cache) (now levels) depth ⌝ }
-    ensures { λ r. ⌜ ClauseAt (now (t .entry)) (now (nodes .entry)) n (now (kinds .entry)) (now (vars .entry)) choice k r ⌝ }
+fn clause(nodes: &[u32], n: usize, cache: &[u64], k: usize) -> bool
+    requires { ⌜ Tidy (now nodes) n × (k < n) × (n ≤ length (now cache)) ⌝ }
+    ensures { λ r. ⌜ ClauseAt (now (nodes .entry)) n (now (cache .entry)) k r ⌝ }
 {
     let node = nodes[k];
     if node % 256 != 38 {
-        return test(t, nodes, n, kinds, vars, choice, cache, levels, depth, k);
+        return test(nodes, n, cache, k);
     }
     let left = (node / 256 % 4096) as usize;
     let right = (node / 1048576) as usize;
-    if test(t, nodes, n, kinds, vars, choice, cache, levels, depth, left) {
-        return test(
-            t,
-            nodes,
-            n,
-            kinds,
-            vars,
-            choice,
-            cache,
-            levels,
-            depth,
-            right,
-        );
+    if test(nodes, n, cache, left) {
+        return test(nodes, n, cache, right);
     }
     true
 }
 
-// `^` means and.
-pub fn truth(
-    t: &[u64],
-    nodes: &[u32],
-    n: usize,
-    kinds: &[u8],
-    vars: &[u32],
-    choice: [u8; 8],
-    cache: &[u64],
-    levels: &[u8],
-    depth: usize,
-    k: usize,
-) -> bool
-    requires { ⌜ Ready (now t) (now nodes) n (now kinds) k × Stored (now t) (now nodes) n (now kinds) (now vars) choice (now cache) (now levels) depth ⌝ }
-    ensures { λ r. ⌜ TruthAt (now (t .entry)) (now (nodes .entry)) n (now (kinds .entry)) (now (vars .entry)) choice k r ⌝ }
+// `^` means and: clause by clause, to the first that is false.
+pub fn truth(nodes: &[u32], n: usize, cache: &[u64], k: usize) -> bool
+    requires { ⌜ Tidy (now nodes) n × (k < n) × (n ≤ length (now cache)) ⌝ }
+    ensures { λ r. ⌜ TruthAt (now (nodes .entry)) n (now (cache .entry)) k r ⌝ }
 {
-    let node = nodes[k];
-    if node % 256 != 39 {
-        return clause(t, nodes, n, kinds, vars, choice, cache, levels, depth, k);
+    let mut at = k;
+    while nodes[at] % 256 == 39 {
+        let left = (nodes[at] / 256 % 4096) as usize;
+        if clause(nodes, n, cache, left) {
+            at = (nodes[at] / 1048576) as usize;
+        } else {
+            return false;
+        }
     }
-    let left = (node / 256 % 4096) as usize;
-    let right = (node / 1048576) as usize;
-    if clause(t, nodes, n, kinds, vars, choice, cache, levels, depth, left) {
-        return truth(
-            t,
-            nodes,
-            n,
-            kinds,
-            vars,
-            choice,
-            cache,
-            levels,
-            depth,
-            right,
-        );
-    }
-    false
+    clause(nodes, n, cache, at)
 }

@@ -14,12 +14,12 @@ use Rattle.syntax.specs.Arena.{HoldsAll}
 use Rattle.walks.specs.Choices.{nothingChosen}
 use Rattle.walks.specs.Order.{variablesOf, isOrder, namedBy}
 use Rattle.walks.specs.declared.Tally.{Tally}
-use Rattle.walks.proofs.OrderLaws.{order-length, order-agree, length-variables-of}
+use Rattle.walks.proofs.OrderLaws.{order-after, order-length, order-agree, length-variables-of}
 use Rattle.values.specs.Sets.{names}
-use Rattle.values.specs.Nodes.{Named}
+use Rattle.values.specs.Nodes.{Variables, Named}
 use Rattle.verdicts.specs.declared.Verdict.{Verdict}
 use Rattle.verdicts.specs.Verdict.{fullCount, breakingCount, firstBreaking, verdictAlong, refusedBy, orderVerdict}
-use Rattle.verdicts.specs.Judging.{Case, WalkedFrom, ruledBy}
+use Rattle.verdicts.specs.Judging.{Case, InTurn, WalkedFrom, ruledBy}
 use Rattle.verdicts.proofs.VerdictLaws.{walk-full, walk-breaking, breaking-le-full, full-fits}
 
 -- As many nodes as arguments.
@@ -33,6 +33,12 @@ held-length ns (v ∷ vs) (a ∷ σ) x = ap suc (held-length ns vs σ (x .1))
 pub named-order : (n : ℕ) (words vs : List ℕ) (σ : Choices) → n ≤ 8 → Named n words σ → isOrder (namedBy words) n vs ≡ isOrder (names σ) n vs
 unfolding Named
 named-order n words vs σ few h = order-agree (namedBy words) (names σ) n (λ v u l m. h v u l (omega arith)) vs
+
+-- What it accepts is in turn.
+pub in-turn : {ns : List ℕ} {n : ℕ} {vs : List ℕ} (words order : List ℕ) → length vs ≤ 8 → ((σ : Choices) → Variables ns n vs σ → Named (length vs) words σ)
+    → isOrder (namedBy words) (length vs) order ≡ true → InTurn ns n vs order
+in-turn {vs = vs} words order few named ok σ w =
+    order-after (names σ) (length vs) order (sym (named-order (length vs) words order σ few (named σ w)) ∙ ok)
 
 module _ (T : Tables) (ρ : Rule) where
   not-ordered : (order : List ℕ) → isOrder (names (ruleVars [] ρ)) (length (ruleVars [] ρ)) (variablesOf order) ≡ false → refusedBy Disordered ≡ orderVerdict T ρ order
@@ -99,16 +105,11 @@ module _ {ts ns : List ℕ} {n : ℕ} {ks vs : List ℕ} {root : ℕ} {T : Table
     pub no-order : f ≡ false → refusedBy Disordered ≡ orderVerdict T ρ order
     no-order h = wrong-order T ρ order (told ∙ ap (isOrder (names (ruleVars [] ρ)) (length (ruleVars [] ρ))) same) h
 
-    module _ (h : f ≡ true) (tally : Tally) (w : WalkedFrom T ρ listed (length vs) nothingChosen tally) where
-      from-all : WalkedFrom T ρ listed (length listed) nothingChosen tally
-      from-all =
-          let long : length vs ≡ length listed = as-many ∙ sym (order-length (names (ruleVars [] ρ)) (length (ruleVars [] ρ)) listed (sym told ∙ h)) in
-          rw long at w
-
+    module _ (h : f ≡ true) (tally : Tally) (w : WalkedFrom T ρ listed (length listed) nothingChosen tally) where
       pub counts-fit : (tally .breaking ≤ tally .full) × (tally .full ≤ 64 ^ 8)
-      counts-fit = tally-fits T ρ few-variables listed tally (sym told ∙ h) from-all
+      counts-fit = tally-fits T ρ few-variables listed tally (sym told ∙ h) w
 
       pub order-ruled : ruledBy tally ≡ orderVerdict T ρ order
       order-ruled =
           right-order T ρ order (ruledBy tally) (told ∙ ap (isOrder (names (ruleVars [] ρ)) (length (ruleVars [] ρ))) same) h
-          (tally-verdict T ρ few-variables listed tally (sym told ∙ h) from-all ∙ ap (verdictAlong T ρ) same)
+          (tally-verdict T ρ few-variables listed tally (sym told ∙ h) w ∙ ap (verdictAlong T ρ) same)

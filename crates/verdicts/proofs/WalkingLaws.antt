@@ -10,32 +10,34 @@ use native.Mathlib.Omega.{arith}
 use lib.Dec.{ltb}
 use borrow.Author.Tests.{lt-ltb, le-ltb}
 use lib.ListN.{length, getD, set, drop, drop-of-length-le, length-drop}
+use lib.Seq.{getD-set-other}
 use Rattle.words.specs.Words.{has, Lowest, allOf, lessOf}
 use Rattle.words.proofs.WordsLaws.{and-true, has-less, has-all}
 use Rattle.rules.proofs.NodeLaws.{lt-or-le}
 use Rattle.tables.specs.Tables.{Tables}
+use Rattle.syntax.specs.Term.{Choices}
 use Rattle.syntax.specs.Rule.{Rule, ruleVars}
 use Rattle.walks.specs.Choices.{nothingChosen}
 use Rattle.walks.specs.Walk.{walk, walkFirst}
 use Rattle.walks.specs.Tally.{Joined}
 use Rattle.walks.specs.declared.Tally.{Tally}
-use Rattle.walks.proofs.OrderLaws.{at}
+use Rattle.walks.proofs.OrderLaws.{at, after-at}
 use Rattle.walks.proofs.StepLaws.{upto-none, upto-in, upto-out, upto-all, room}
 use Rattle.values.specs.Values.{value}
-use Rattle.values.specs.Truth.{ruleTrue}
-use Rattle.values.specs.Sets.{setOf, inSet, breaks}
-use Rattle.values.specs.Nodes.{Ready, LevelAt, Stored}
-use Rattle.values.proofs.LevelLaws.{stored-chosen}
-use Rattle.verdicts.specs.Judging.{Leaf, Settled, Next, WalkedFrom, UptoFrom}
+use Rattle.values.specs.Sets.{setOf, inSet, names, breaks}
+use Rattle.values.specs.Nodes.{Ready, Variables, Level, Levels, Chained, Climbs, Settles, Stored}
+use Rattle.values.proofs.LevelLaws.{stored-other}
+use Rattle.values.proofs.NamesLaws.{holds-at}
+use Rattle.verdicts.specs.Judging.{Leaf, Ends, Case, Lent, Listed, InTurn, Settled, Next, WalkedFrom, UptoFrom}
 
 module _ (T : Tables) (ρ : Rule) where
   -- The end of the order: one full choice.
-  pub leaf-walked : (order c : List ℕ) (m : ℕ) (q : Bool) (r : Tally) → m ≡ 0 → q ≡ ruleTrue T (ruleVars [] ρ) c ρ → Leaf (not q) c r → WalkedFrom T ρ order m c r
+  leaf-walked : (order c : List ℕ) (m : ℕ) (r : Tally) → m ≡ 0 → Leaf (breaks T (ruleVars [] ρ) ρ c) c r → WalkedFrom T ρ order m c r
   unfolding walk walkFirst
-  leaf-walked order c m q r z e l =
+  leaf-walked order c m r z l =
       let end : length order ≤ length order - m = omega arith in
       let none : drop (length order - m) order ≡ [] = drop-of-length-le order end in
-      rw (none, ← e) (record { fulls = l .full; breakings = l .breaking; firsts = l .first })
+      rw none (record { fulls = l .full; breakings = l .breaking; firsts = l .first })
 
   module _ (order c : List ℕ) (m v : ℕ) where
     pub walk-none : UptoFrom T ρ order m c v 0 (record { full = 0; breaking = 0; first = nothingChosen })
@@ -112,23 +114,100 @@ next-lowest w x r q l = record {
 pub ready-any : {ts ns : List ℕ} {n : ℕ} {ks : List ℕ} {k : ℕ} → Ready ts ns n ks k → (i : ℕ) → i < n → Ready ts ns n ks i
 ready-any R i l = record { whole = R .whole; tidy = R .tidy; kinded = R .kinded; below = l }
 
--- Before the first variable nothing is settled.
-pub settled-none : {ts ns : List ℕ} {n : ℕ} {ks vs c cache levels : List ℕ} (order : List ℕ) (m : ℕ)
-    → ((k : ℕ) → k < n → LevelAt ns n vs order k (getD levels k 0)) → length order ≤ m → n ≤ length cache → n ≤ length levels
-    → Settled ts ns n ks vs order c cache levels m
-settled-none order m lev l long levelled = record {
-  level = lev;
-  stored = record { long = long; levelled = levelled; holds = λ k h low T σ w a y. absurd (omega arith) };
-}
+-- A chain goes up.
+pub climbs : {n : ℕ} {levels first next : List ℕ} → Chained n levels first next → Climbs n next
+climbs C = record { long = C .linked .long; up = λ k l. omega (arith, C .linked .each k l .start) }
 
--- With an item for the next variable one variable more settles what the cache has.
-pub settled-next : {ts ns : List ℕ} {n : ℕ} {ks vs c cache levels : List ℕ} (order : List ℕ) (m v x : ℕ) (d : List ℕ) → 0 < m → m ≤ length order
-    → d ≡ set c v x → getD order (length order - m) 0 ≡ v → ((k : ℕ) → k < n → LevelAt ns n vs order k (getD levels k 0))
-    → Stored ts ns n ks vs c cache levels (length order - m + 1) → Settled ts ns n ks vs order d cache levels (m - 1)
-settled-next {ts} {ns} {n} {ks} {vs} {c} {cache} {levels} order m v x d pos l e is lev F =
-    let next : length order - m + 1 ≡ length order - (m - 1) = omega arith in
-    let G : Stored ts ns n ks vs (set c v x) cache levels (length order - m + 1) = stored-chosen order (length order - m) v x (omega arith) is lev F in
-    record {
-      level = lev;
-      stored = subst (λ (b : List ℕ). Stored ts ns n ks vs b cache levels (length order - (m - 1))) (sym e) (subst (λ (i : ℕ). Stored ts ns n ks vs (set c v x) cache levels i) next G);
-    }
+-- In an order each set's level is below its variable's turn.
+pub set-early : {ts ns : List ℕ} {n : ℕ} {ks vs : List ℕ} {root : ℕ} {levels : List ℕ} (order : List ℕ) → Lent ts ns n ks vs root → Listed vs order
+    → InTurn ns n vs order → Levels ns n vs order levels → (i : ℕ) → i < length order → getD levels (getD vs (getD order i 0) 0) 0 ≤ i
+set-early {ns = ns} {n = n} {vs = vs} {levels = levels} order L O A lev i l = ⊎-elim (λ (h : i < r). absurd (no h)) (λ (h : r ≤ i). h) (lt-or-le i r)
+  where
+    v : ℕ
+    v = getD order i 0
+
+    r : ℕ
+    r = getD levels (getD vs v 0) 0
+
+    σ : Choices
+    σ = ruleVars [] (L .rule)
+
+    w : Variables ns n vs σ
+    w = L .isCase .world .variables
+
+    is : Level order (names σ v) r
+    is = lev .each (getD vs v 0) (L .nodes v (O .small i l)) σ w (setOf σ v) (holds-at ns vs σ (w .holds) v (O .small i l) _)
+
+    no : i < r → ⊥
+    no h =
+        let e : true ≡ false = sym (is .met (omega arith)) ∙ after-at (names σ) order (A σ w) i (r - 1) (omega arith) (omega (arith, is .within)) in
+        let o : _≡_ {A = ℕ} 0 1 = cc in
+        absurd (omega arith)
+
+-- A choice with an item for v is as it was elsewhere.
+agree : (c d : List ℕ) (v x : ℕ) → d ≡ set c v x → (u : ℕ) → (u ≡ v → ⊥) → getD c u 0 ≡ getD d u 0
+agree c d v x e u ne = rw e (sym (getD-set-other c v u x 0 ne))
+
+module _ {ts ns : List ℕ} {n : ℕ} {ks vs order first next : List ℕ} where
+  -- With its own level a cache that has none is settled before the first variable.
+  pub settled-none : {c cache after levels : List ℕ} (m : ℕ) → length order ≤ m → Levels ns n vs order levels → Chained n levels first next
+      → ((i : ℕ) → i < length order → getD levels (getD vs (getD order i 0) 0) 0 ≤ i) → n ≤ length cache → Settles ts ns n ks vs c next (getD first 0 0) cache after
+      → Settled ts ns n ks vs order c after first next m
+  settled-none {c} {cache} {after} {levels} m l lev C early long s =
+      let none : 1 ≡ length order - m + 1 = omega arith in
+      record {
+        levels = levels;
+        level = lev;
+        chained = C;
+        early = early;
+        stored = subst (λ (i : ℕ). Stored ts ns n ks vs c after levels i) none
+            (s order levels 0 lev (C .linked) (C .starts 0 (omega arith)) (record { long = long; holds = λ k h low T σ w a y. absurd (omega arith) }));
+      }
+
+  -- The value of the next variable's set is in the cache.
+  pub set-known : {root : ℕ} {c cache : List ℕ} {m : ℕ} → Lent ts ns n ks vs root → Listed vs order → 0 < m → m ≤ length order
+      → Settled ts ns n ks vs order c cache first next m → (T : Tables) (ρ : Rule) → Case ts ns n ks vs root T ρ
+      → getD cache (getD vs (getD order (length order - m) 0) 0) 0 ≡ value T (ruleVars [] ρ) c (setOf (ruleVars [] ρ) (getD order (length order - m) 0))
+  set-known {m = m} L O pos l S T ρ C =
+      let i : ℕ = length order - m in
+      let v : ℕ = getD order i 0 in
+      let small = O .small i (omega arith) in
+      S .stored .holds (getD vs v 0) (L .nodes v small) (omega (arith, S .early i (omega arith))) T (ruleVars [] ρ) (C .world) (setOf (ruleVars [] ρ) v)
+      (holds-at ns vs (ruleVars [] ρ) (C .world .variables .holds) v small _)
+
+  -- At the end of the order the cache has all values.
+  pub end-walked : {root : ℕ} {c cache : List ℕ} {m : ℕ} {r : Tally} → Settled ts ns n ks vs order c cache first next m → m ≡ 0 → Ends ns n root c cache r
+      → (T : Tables) (ρ : Rule) → Case ts ns n ks vs root T ρ → WalkedFrom T ρ order m c r
+  end-walked {c = c} {m = m} {r = r} S z e T ρ C =
+      leaf-walked T ρ order c m r z
+      (e T ρ (λ i l a y. S .stored .holds i l (omega (arith, S .level .small i l)) T (ruleVars [] ρ) (C .world) a y) (C .holds))
+
+  -- With an item for the next variable, and one level more, one variable more settles what the cache has;
+  pub settled-next : {c d cache after : List ℕ} {m : ℕ} (v x : ℕ) → 0 < m → m ≤ length order → getD order (length order - m) 0 ≡ v → d ≡ set c v x
+      → length order ≤ 8 → Settled ts ns n ks vs order c cache first next m → Settles ts ns n ks vs d next (getD first (length order - m + 1) 0) cache after
+      → Settled ts ns n ks vs order d after first next (m - 1)
+  settled-next {c} {d} {cache} {after} {m} v x pos l is e short S s =
+      let i : ℕ = length order - m in
+      let one : i + 1 + 1 ≡ length order - (m - 1) + 1 = omega arith in
+      record {
+        levels = S .levels;
+        level = S .level;
+        chained = S .chained;
+        early = S .early;
+        stored = subst (λ (j : ℕ). Stored ts ns n ks vs d after (S .levels) j) one
+            (s order (S .levels) (i + 1) (S .level) (S .chained .linked) (S .chained .starts (i + 1) (omega arith))
+            (stored-other order i v d (omega arith) is (S .level) (agree c d v x e) (S .stored)));
+      }
+
+  -- and what the variables before it settle is there still.
+  pub settled-back : {c d after : List ℕ} {m : ℕ} (v x : ℕ) → 0 < m → m ≤ length order → getD order (length order - m) 0 ≡ v → d ≡ set c v x
+      → Settled ts ns n ks vs order d after first next (m - 1) → Settled ts ns n ks vs order c after first next m
+  settled-back {c} {d} {after} {m} v x pos l is e S =
+      record {
+        levels = S .levels;
+        level = S .level;
+        chained = S .chained;
+        early = S .early;
+        stored = stored-other order (length order - m) v c (omega arith) is (S .level) (λ u ne. sym (agree c d v x e u ne))
+            (record { long = S .stored .long; holds = λ k h low. S .stored .holds k h (omega arith) });
+      }

@@ -10,17 +10,19 @@ use Rattle.words.specs.Words.{has, gate}
 use Rattle.tables.specs.Tables.{Tables}
 use Rattle.tables.specs.Flat.{flat}
 use Rattle.tables.proofs.FitsLaws.{Sound}
+use Rattle.syntax.specs.Term.{Choices}
 use Rattle.syntax.specs.Rule.{Rule, ruleVars}
 use Rattle.syntax.specs.Arena.{HoldsRule}
 use Rattle.rules.specs.Accept.{refusal}
 use Rattle.walks.specs.declared.Tally.{Tally}
 use Rattle.walks.specs.Walk.{gateO, bytesOf}
+use Rattle.walks.specs.Meaning.{After}
 use Rattle.walks.specs.Tally.{Walked, Upto}
 use Rattle.walks.specs.Share.{shareOf}
 use Rattle.verdicts.specs.Verdict.{outcomeOf, orderVerdict, acceptedVerdict}
 use Rattle.verdicts.specs.declared.Verdict.{Verdict}
-use Rattle.values.specs.Sets.{inSet, breaks}
-use Rattle.values.specs.Nodes.{Ready, World, LevelAt, Stored}
+use Rattle.values.specs.Sets.{inSet, names, breaks}
+use Rattle.values.specs.Nodes.{Ready, Variables, World, Levels, Chained, Valued, Stored}
 
 -- The tables T and the rule ρ are what the slices hold.
 pub record Case (ts ns : List ℕ) (n : ℕ) (ks vs : List ℕ) (root : ℕ) (T : Tables) (ρ : Rule) : Type 0 where
@@ -42,10 +44,18 @@ pub record Listed (vs order : List ℕ) : Type 0 where
   pub short : length order ≤ 8
   pub small : (i : ℕ) → i < length order → getD order i 0 < length vs
 
--- The levels are those of the order, and the cache has what all but its last m variables settle.
-pub record Settled (ts ns : List ℕ) (n : ℕ) (ks vs order c cache levels : List ℕ) (m : ℕ) : Type 0 where
-  pub level : (k : ℕ) → k < n → LevelAt ns n vs order k (getD levels k 0)
-  pub stored : Stored ts ns n ks vs c cache levels (length order - m)
+-- No set names its own variable or one later in the order.
+abbrev pub InTurn : List ℕ → ℕ → List ℕ → List ℕ → Type 0
+InTurn ns n vs order = (σ : Choices) → Variables ns n vs σ → After (names σ) order
+
+-- The nodes are chained by levels, each set is settled before its variable's turn, and the cache has, under the choice c, what all but
+-- the last m variables of the order settle.
+pub record Settled (ts ns : List ℕ) (n : ℕ) (ks vs order c cache first next : List ℕ) (m : ℕ) : Type 0 where
+  pub levels : List ℕ
+  pub level : Levels ns n vs order levels
+  pub chained : Chained n levels first next
+  pub early : (i : ℕ) → i < length order → getD levels (getD vs (getD order i 0) 0) 0 ≤ i
+  pub stored : Stored ts ns n ks vs c cache levels (length order - m + 1)
 
 -- r is what the walk along the last m variables of the order gives, from the choice c.
 abbrev pub WalkedFrom : Tables → Rule → List ℕ → ℕ → List ℕ → Tally → Type 0
@@ -63,6 +73,11 @@ pub record Leaf (b : Bool) (c : List ℕ) (r : Tally) : Type 0 where
   pub full : r .full ≡ 1
   pub breaking : r .breaking ≡ gate b 1
   pub first : r .first ≡ bytesOf (gateO b (some c))
+
+-- r is what a whole choice gives where the cache has the values under it.
+abbrev pub Ends : List ℕ → ℕ → ℕ → List ℕ → List ℕ → Tally → Type 0
+Ends ns n root c cache r =
+    (T : Tables) (ρ : Rule) → Valued ns n cache T (ruleVars [] ρ) c → HoldsRule ns root ρ → Leaf (breaks T (ruleVars [] ρ) ρ c) c r
 
 -- r is what that walk gives of the items below x of its first variable, v.
 abbrev pub UptoFrom : Tables → Rule → List ℕ → ℕ → List ℕ → ℕ → ℕ → Tally → Type 0

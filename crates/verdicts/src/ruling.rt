@@ -69,21 +69,7 @@ pub fn along(
     let listed = &all[..count];
     let names = values::names::names(nodes, n, vars);
     if walks::ordered(&names, listed, count) {
-        let levels = values::names::levels(nodes, n, vars, listed);
-        let cache = [0u64; 256];
-        return ruled(walking::walk(
-            t,
-            nodes,
-            n,
-            kinds,
-            vars,
-            root,
-            listed,
-            [255u8; 8],
-            &cache,
-            &levels,
-            count,
-        ));
+        return ruled(walking::whole(t, nodes, n, kinds, vars, root, listed));
     }
     refused(Refusal::Disordered)
 }

@@ -78,6 +78,18 @@ pub order-after : (names : ℕ → ℕ → Bool) (n : ℕ) (vs : List ℕ) → i
 unfolding isOrder
 order-after names n vs h = after-after names vs (and-right (isOnce n vs) _ (and-right (isSmall n vs) _ h))
 
+-- No set names the variable at its own place or one at a later.
+every-at : (P : ℕ → Type 0) (ws : List ℕ) → Every P ws → (j : ℕ) → j < length ws → P (getD ws j 0)
+every-at P [] h j l = absurd (omega arith)
+every-at P (w ∷ ws) h zero l = h .0
+every-at P (w ∷ ws) h (suc j) l = every-at P ws (h .1) j (omega arith)
+
+pub after-at : (names : ℕ → ℕ → Bool) (vs : List ℕ) → After names vs → (i j : ℕ) → i ≤ j → j < length vs → names (getD vs i 0) (getD vs j 0) ≡ false
+after-at names [] h i j m l = absurd (omega arith)
+after-at names (v ∷ vs) h zero j m l = every-at (λ w. names v w ≡ false) (v ∷ vs) (h .0) j l
+after-at names (v ∷ vs) h (suc i) zero m l = absurd (omega arith)
+after-at names (v ∷ vs) h (suc i) (suc j) m l = after-at names vs (h .1) i j (omega arith) (omega arith)
+
 -- and the other way: what the test refuses is no order
 free-back : (names : ℕ → ℕ → Bool) (v : ℕ) (ws : List ℕ) → Every (λ w. names v w ≡ false) ws → isFree names v ws ≡ true
 unfolding isFree

@@ -2,7 +2,7 @@
 // Nothing here knows tables or rules: what a variable's set names is a word of variables.
 ghost use mathlib.Core.Path.{_≡_};
 ghost use Prim.Native.Nat.{ℕ, _+_, _<_, _≤_, _^_};
-ghost use lib.ListN.{length, getD, drop, set, take};
+ghost use lib.ListN.{length, getD, drop, take};
 ghost use Rattle.walks.specs.Order.{count, isSmall, isOnce, isFree, isAfter, isOrder, namedBy, numbered, variablesOf};
 ghost use Rattle.walks.specs.Share.{shareOf};
 ghost use Rattle.walks.specs.Tally.{Joined};
@@ -12,16 +12,6 @@ pub struct Tally {
     pub full: u64,
     pub breaking: u64,
     pub first: [u8; 8],
-}
-
-// The choice with the item x for the variable v.
-pub fn put(choice: [u8; 8], v: usize, x: u8) -> [u8; 8]
-    requires { ⌜ v < 8 ⌝ }
-    ensures { λ r. ⌜ r ≡ set choice v x ⌝ }
-{
-    let mut c = choice;
-    c[v] = x;
-    c
 }
 
 // The tally of what a counted and then of what b counted.

@@ -1,7 +1,7 @@
 -- `values::names::level` meets its contract. The invariant: the word has no variable of the order from i on.
 -- Assumes nothing.
-use mathlib.Core.Path.{refl}
-use Prim.Native.Nat.{ℕ, _-_, _≤_}
+use mathlib.Core.Path.{refl, sym, _∙_}
+use Prim.Native.Nat.{_-_, _≤_}
 use native.Mathlib.Omega.{arith}
 use lib.ListN.{length}
 use Rattle.values.proofs.LevelLaws.{Beyond, level-here, level-next}
@@ -24,23 +24,16 @@ shared-slice-read-v : tie.Need-shared-slice-read-v Inv-loop μ-loop
 shared-slice-read-v c = omega (arith, c .before .before .loop .inv .0, c .before .loop-test .taken)
 
 cast-v : tie.Need-cast-v Inv-loop μ-loop
-cast-v c =
-    let i : ℕ = c .before .before .loop .i in
-    omega (arith, c .before .before .before .before .pre .1 (i - 1) (omega (arith, c .before .before .loop .inv .0, c .before .loop-test .taken)))
+cast-v c = omega (arith, c .before .before .before .before .pre .1 (c .before .before .loop .i - 1) (omega (arith, c .before .before .loop .inv .0, c .before .loop-test .taken)))
 
 contains-requires : tie.Need-contains-requires Inv-loop μ-loop
-contains-requires c κs =
-    let i : ℕ = c .before .before .loop .i in
-    c .before .before .before .before .pre .1 (i - 1) (omega (arith, c .before .before .loop .inv .0, c .before .loop-test .taken))
+contains-requires c κs = c .before .before .before .before .pre .1 (c .before .before .loop .i - 1) (omega (arith, c .before .before .loop .inv .0, c .before .loop-test .taken))
 
 cast-result : tie.Need-cast-result Inv-loop μ-loop
 cast-result c = omega (arith, c .before .before .before .before .loop .inv .0, c .before .before .before .before .before .before .pre .0)
 
 returns : tie.Need-returns Inv-loop μ-loop
-returns c =
-    let S = c .before .before .before .before .before .before in
-    let i : ℕ = c .before .before .before .before .loop .i in
-    level-here (S .args .order .now) (S .args .word) i i (c .before .before .before .before .loop .inv .1) refl
+returns c = level-here (c .before .before .before .before .before .before .args .order .now) (c .before .before .before .before .before .before .args .word) (c .before .before .before .before .loop .i) (c .before .before .before .before .loop .i) (c .before .before .before .before .loop .inv .0) (c .before .before .before .before .loop .inv .1) refl (λ pos. sym (c .before .contains .ensures) ∙ c .if1 .taken)
 
 sub-i : tie.Need-sub-i Inv-loop μ-loop
 sub-i c = omega arith
@@ -49,17 +42,13 @@ loop-less : tie.Need-loop-less Inv-loop μ-loop
 loop-less c = omega arith
 
 loop-again : tie.Need-loop-again Inv-loop μ-loop
-loop-again c =
-    let S = c .before .before .before .before .before .before in
-    let i : ℕ = c .before .before .before .before .loop .i in (
-      omega (arith, c .before .before .before .before .loop .inv .0),
-      level-next (S .args .order .now) (S .args .word) i (c .before .before .before .loop-test .taken) (c .before .before .before .before .loop .inv .1) (c .before .contains .result) (c .before .contains .ensures) (c .if1 .left),
-    )
+loop-again c = (
+  omega (arith, c .before .before .before .before .loop .inv .0),
+  level-next (c .before .before .before .before .before .before .args .order .now) (c .before .before .before .before .before .before .args .word) (c .before .before .before .before .loop .i) (c .before .before .before .loop-test .taken) (c .before .before .before .before .loop .inv .1) (c .before .contains .result) (c .before .contains .ensures) (c .if1 .left),
+)
 
 returns-2 : tie.Need-returns-2 Inv-loop μ-loop
-returns-2 c =
-    let S = c .before .before .before in
-    level-here (S .args .order .now) (S .args .word) (c .before .loop .i) 0 (c .before .loop .inv .1) (omega (arith, c .loop-test .left))
+returns-2 c = level-here (c .before .before .before .args .order .now) (c .before .before .before .args .word) (c .before .loop .i) 0 (c .before .loop .inv .0) (c .before .loop .inv .1) (omega (arith, c .loop-test .left)) (λ pos. absurd (omega arith))
 
 pub level-spec : {M : Type 1} → statement M
 level-spec =

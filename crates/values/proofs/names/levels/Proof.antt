@@ -10,7 +10,7 @@ use Rattle.values.proofs.names.levels.Statement.{statement}
 use Rattle.values.proofs.names.levels.Tie as tie
 
 abbrev Inv-loop : tie.InvT-loop
-Inv-loop nodes n vars order found₀ k₀ found k = (k ≤ n) × (length found ≡ 256) × ((j : ℕ) → j < k → LevelAt nodes n vars order j (getD found j 0))
+Inv-loop nodes n vars order found₀ k₀ found k = (k ≤ n) × (length found ≡ 256) × ((j : ℕ) → j < k → (getD found j 0 ≤ length order) × LevelAt nodes n vars order j (getD found j 0))
 
 abbrev μ-loop : tie.MeasureT-loop
 μ-loop nodes n vars order found₀ k₀ found k = n - k
@@ -41,12 +41,15 @@ loop-again c =
     let room : k < length (A .loop .found) = omega (arith, S .pre .1, A .loop .inv .1, c .before .before .loop-test .taken) in (
       omega arith,
       length-set (A .loop .found) k (c .level .result) ∙ A .loop .inv .1,
-      more-at (λ j r. LevelAt (S .args .nodes .now) (S .args .n) (S .args .vars .now) (S .args .order .now) j r) (A .loop .found) k (c .level .result) room (A .loop .inv .2)
-          (level-at (S .args .nodes .now) (S .args .n) (S .args .vars .now) (S .args .order .now) k (c .before .named .result) (c .level .result) (S .pre .3) (c .before .named .ensures) (c .level .ensures)),
+      more-at (λ j r. (r ≤ length (S .args .order .now)) × LevelAt (S .args .nodes .now) (S .args .n) (S .args .vars .now) (S .args .order .now) j r) (A .loop .found) k (c .level .result) room (A .loop .inv .2)
+          (c .level .ensures .within, level-at (S .args .nodes .now) (S .args .n) (S .args .vars .now) (S .args .order .now) k (c .before .named .result) (c .level .result) (S .pre .3) (c .before .named .ensures) (c .level .ensures)),
     )
 
 returns : tie.Need-returns Inv-loop μ-loop
-returns c = λ k l. c .before .loop .inv .2 k (omega (arith, l, c .loop-test .left))
+returns c = record {
+  small = λ k l. c .before .loop .inv .2 k (omega (arith, l, c .loop-test .left)) .0;
+  each = λ k l. c .before .loop .inv .2 k (omega (arith, l, c .loop-test .left)) .1;
+}
 
 pub levels-spec : {M : Type 1} → statement M
 levels-spec =

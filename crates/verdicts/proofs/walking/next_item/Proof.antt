@@ -1,4 +1,4 @@
--- `verdicts::walking::next` meets its contract.
+-- `verdicts::walking::next_item` meets its contract.
 -- Assumes nothing.
 use mathlib.Core.Path.{ap, subst, _∙_}
 use Prim.Native.Nat.{ℕ}
@@ -6,8 +6,8 @@ use native.Mathlib.Omega.{arith}
 use borrow.Author.Needs.{needs}
 use Rattle.words.specs.Words.{Lowest, lessOf}
 use Rattle.verdicts.proofs.WalkingLaws.{next-lowest}
-use Rattle.verdicts.proofs.walking.next.Statement.{statement}
-use Rattle.verdicts.proofs.walking.next.Tie as tie
+use Rattle.verdicts.proofs.walking.next_item.Statement.{statement}
+use Rattle.verdicts.proofs.walking.next_item.Tie as tie
 
 all-requires : tie.Need-all-requires
 all-requires c κs = search needs
@@ -27,8 +27,8 @@ returns c =
     next-lowest (S .args .set) (S .args .x) (c .lowest .result)
     (subst (λ (u : ℕ). Lowest u (c .lowest .result)) (c .before .less .ensures ∙ ap (lessOf (S .args .set)) (c .before .before .all .ensures)) (c .lowest .ensures)) (S .pre)
 
-pub next-spec : {M : Type 1} → statement M
-next-spec =
+pub next-item-spec : {M : Type 1} → statement M
+next-item-spec =
     tie.close
     (tie.spec
     all-requires
