@@ -1,7 +1,7 @@
 -- Laws of `allTo`, and of a loop that leaves at the first number of which the test does not hold.
 -- Assumes nothing.
-use mathlib.Core.Path.{_≡_, refl, sym, _∙_}
-use mathlib.Core.Bool.{Bool, true, false}
+use mathlib.Core.Path.{_≡_, refl, sym, ap, _∙_}
+use mathlib.Core.Bool.{Bool, true, false, not, _&&_}
 use Prim.Native.Nat.{ℕ, zero, suc, _+_, _≤_, _<_}
 use native.Mathlib.Nat.{eq-or-lt-of-le}
 use native.Mathlib.Omega.{arith}
@@ -51,3 +51,38 @@ module _ {n : ℕ} {f : ℕ → Bool} {i : ℕ} (p : Passed n f i) where
 
   pub passed-all : n ≤ i → true ≡ allTo n f
   passed-all l = let e : i ≡ n = omega (arith, p .few) in sym (rw e at (p .all))
+
+all-more : (i : ℕ) (f : ℕ → Bool) → allTo (i + 1) f ≡ (allTo i f && f i)
+unfolding allTo
+all-more i f = rw (add-one)
+
+and-one : (a b : Bool) → b ≡ true → (a && b) ≡ a
+and-one true b e = e
+and-one false b e = refl
+
+and-none : (a b : Bool) → b ≡ false → (a && b) ≡ false
+and-none true b e = e
+and-none false b e = refl
+
+not-not : (a : Bool) → not (not a) ≡ a
+not-not true = refl
+not-not false = refl
+
+-- A loop that looks at every number and remembers whether the test failed.
+pub record Noted (n : ℕ) (f : ℕ → Bool) (i : ℕ) (failed : Bool) : Type 0 where
+  pub few : i ≤ n
+  pub says : failed ≡ not (allTo i f)
+
+pub noted-none : (n : ℕ) (f : ℕ → Bool) → Noted n f 0 false
+unfolding allTo
+noted-none n f = record { few = omega arith; says = refl }
+
+module _ {n : ℕ} {f : ℕ → Bool} {i : ℕ} {failed : Bool} (p : Noted n f i failed) where
+  pub noted-more : {b : Bool} → i < n → f i ≡ true → b ≡ failed → Noted n f (i + 1) b
+  noted-more l q e = record { few = omega arith; says = e ∙ p .says ∙ ap not (sym (all-more i f ∙ and-one (allTo i f) (f i) q)) }
+
+  pub noted-not : {b : Bool} → i < n → f i ≡ false → b ≡ true → Noted n f (i + 1) b
+  noted-not l q e = record { few = omega arith; says = e ∙ ap not (sym (all-more i f ∙ and-none (allTo i f) (f i) q)) }
+
+  pub noted-all : n ≤ i → not failed ≡ allTo n f
+  noted-all l = let e : i ≡ n = omega (arith, p .few) in ap not (rw e at (p .says)) ∙ not-not (allTo n f)

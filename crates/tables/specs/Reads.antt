@@ -15,7 +15,7 @@ use Rattle.tables.specs.declared.Outcome.{Outcome}
 use Rattle.tables.specs.declared.Outcome.the-variants.{Refused, Accepted}
 use Rattle.tables.specs.Tables.{Tables}
 use Rattle.tables.specs.Reading.{Bytes, Taken, stop, took, Session, Rights, Collections}
-use Rattle.tables.specs.Checks.{allTo, implies, above, ranked, inReach, apart}
+use Rattle.tables.specs.Checks.{allTo, above, ranked, inReach, apart}
 use Rattle.tables.specs.Flat.{tabulate}
 
 -- The code stopped with the reader's refusal, or took what the reader took, up to the same byte; Holds relates the two values.
@@ -105,14 +105,12 @@ pub record Filled (old new : List ℕ) (T : Tables) (v : ℕ) : Type 0 where
       (record { cr = T .cr; cu = T .cu; cp = T .cp })
 
 -- The checks as the code makes them, on the rows' words.
-abbrev pub inside : ℕ → ℕ → ℕ → Bool
-inside above q row = implies (has above q) (eqb (lessOf row above) 0)
+-- What the roles besides r that r dominates dominate.
+abbrev pub belowAt : List ℕ → ℕ → ℕ
+belowAt rows r = imageOf rows (lessOf (getD rows r 0) (itemOf r))
 
-unfoldable pub closedAt : List ℕ → ℕ → Bool
-closedAt rows r = allTo (length rows) (λ q. inside (getD rows r 0) q (getD rows q 0))
-
-unfoldable pub oneWayAt : List ℕ → ℕ → Bool
-oneWayAt rows r = allTo (length rows) (λ q. implies (above rows r q && above rows q r) (eqb r q))
+unfoldable pub rankAt : List ℕ → ℕ → Bool
+rankAt rows r = above rows r r && (eqb (lessOf (belowAt rows r) (getD rows r 0)) 0 && not (has (belowAt rows r) r))
 
 unfoldable pub reaching : List ℕ → List ℕ → List ℕ → Bool
 reaching assigned users active =

@@ -4,130 +4,45 @@ ghost use mathlib.Core.Path.{_≡_};
 ghost use Prim.Native.Nat.{ℕ, _+_, _≤_, _<_, _^_};
 ghost use lib.ListN.{length, take, drop};
 ghost use mathlib.Core.Bool.{_&&_};
-ghost use lib.Dec.{eqb};
-ghost use Rattle.words.specs.Words.{has};
-ghost use Rattle.tables.specs.Checks.{implies, reflexive as reflexiveOf, transitive as transitiveOf};
-ghost use Rattle.tables.specs.Checks.{antisymmetric as antisymmetricOf, ranked as rankedOf};
-ghost use Rattle.tables.specs.Checks.{inReach as inReachOf, apart as apartOf};
-ghost use Rattle.tables.specs.Reads.{Below, inside as insideOf, closedAt, oneWayAt, reaching, newAt, Bounded, CountsFit, lateOf};
+ghost use Rattle.tables.specs.Checks.{ranked as rankedOf, inReach as inReachOf, apart as apartOf};
+ghost use Rattle.tables.specs.Reads.{Below, rankAt, reaching, newAt, Bounded, CountsFit, lateOf};
 ghost use Rattle.tables.specs.Tables.{Tables};
 ghost use Rattle.tables.specs.Flat.{Fits, flat};
 use crate::Outcome;
 use answers::Refusal;
 use words::contains;
 use words::image;
+use words::item;
 use words::less;
 
-// Each role dominates itself.
-pub fn reflexive(rows: &[u64]) -> bool
-    requires { ⌜ length (now rows) ≤ 64 ⌝ }
-    ensures { λ r. ⌜ r ≡ reflexiveOf (now (rows .entry)) ⌝ }
-{
-    let mut i: usize = 0;
-    while i < rows.len() {
-        if !contains(rows[i], i) {
-            return false;
-        }
-        i += 1;
-    }
-    true
-}
-
-// Where q is dominated, what it dominates is too.
-pub fn inside(above: u64, q: usize, row: u64) -> bool
-    requires { ⌜ q < 64 ⌝ }
-    ensures { λ b. ⌜ b ≡ insideOf above q row ⌝ }
-{
-    if contains(above, q) {
-        return less(row, above) == 0;
-    }
-    true
-}
-
-// Whatever a role dominated by r dominates, r dominates.
-pub fn closed(rows: &[u64], r: usize) -> bool
+// Role r dominates itself; what it dominates besides dominates nothing that r does not, and not r.
+pub fn rank(rows: &[u64], r: usize) -> bool
     requires { ⌜ (length (now rows) ≤ 64) × (r < length (now rows)) ⌝ }
-    ensures { λ b. ⌜ b ≡ closedAt (now (rows .entry)) r ⌝ }
+    ensures { λ b. ⌜ b ≡ rankAt (now (rows .entry)) r ⌝ }
 {
     let above = rows[r];
-    let mut q: usize = 0;
-    while q < rows.len() {
-        if !inside(above, q, rows[q]) {
-            return false;
-        }
-        q += 1;
+    let below = image(rows, less(above, item(r)));
+    if !contains(above, r) {
+        return false;
     }
-    true
-}
-
-pub fn transitive(rows: &[u64]) -> bool
-    requires { ⌜ length (now rows) ≤ 64 ⌝ }
-    ensures { λ b. ⌜ (Below (length (now (rows .entry))) (now (rows .entry)) → b ≡ transitiveOf (now (rows .entry))) ⌝ }
-{
-    let mut r: usize = 0;
-    while r < rows.len() {
-        if !closed(rows, r) {
-            return false;
-        }
-        r += 1;
+    if less(below, above) != 0 {
+        return false;
     }
-    true
-}
-
-// Two roles that dominate each other are one.
-pub fn distinct(r: usize, above: u64, q: usize, row: u64) -> bool
-    requires { ⌜ (r < 64) × (q < 64) ⌝ }
-    ensures { λ b. ⌜ b ≡ implies (has above q && has row r) (eqb r q) ⌝ }
-{
-    if contains(above, q) {
-        if contains(row, r) {
-            return r == q;
-        }
-    }
-    true
-}
-
-// No other role dominates r and is dominated by it.
-pub fn one_way(rows: &[u64], r: usize) -> bool
-    requires { ⌜ (length (now rows) ≤ 64) × (r < length (now rows)) ⌝ }
-    ensures { λ b. ⌜ b ≡ oneWayAt (now (rows .entry)) r ⌝ }
-{
-    let above = rows[r];
-    let mut q: usize = 0;
-    while q < rows.len() {
-        if !distinct(r, above, q, rows[q]) {
-            return false;
-        }
-        q += 1;
-    }
-    true
-}
-
-pub fn antisymmetric(rows: &[u64]) -> bool
-    requires { ⌜ length (now rows) ≤ 64 ⌝ }
-    ensures { λ b. ⌜ b ≡ antisymmetricOf (now (rows .entry)) ⌝ }
-{
-    let mut r: usize = 0;
-    while r < rows.len() {
-        if !one_way(rows, r) {
-            return false;
-        }
-        r += 1;
-    }
-    true
+    !contains(below, r)
 }
 
 pub fn ranked(rows: &[u64]) -> bool
     requires { ⌜ length (now rows) ≤ 64 ⌝ }
     ensures { λ b. ⌜ (Below (length (now (rows .entry))) (now (rows .entry)) → b ≡ rankedOf (now (rows .entry))) ⌝ }
 {
-    if !reflexive(rows) {
-        return false;
+    let mut r: usize = 0;
+    while r < rows.len() {
+        if !rank(rows, r) {
+            return false;
+        }
+        r += 1;
     }
-    if !transitive(rows) {
-        return false;
-    }
-    antisymmetric(rows)
+    true
 }
 
 // Each session's active roles are among its user's.
@@ -145,20 +60,21 @@ pub fn in_reach(assigned: &[u64], users: &[u64], active: &[u64]) -> bool
     true
 }
 
-// No word before i is word i.
+// No word before i is word i. All are looked at, which is faster than to stop at a twin.
 pub fn new(words: &[u64], i: usize) -> bool
     requires { ⌜ i < length (now words) ⌝ }
     ensures { λ b. ⌜ b ≡ newAt (now (words .entry)) i ⌝ }
 {
     let word = words[i];
+    let mut twin = false;
     let mut j: usize = 0;
     while j < i {
         if words[j] == word {
-            return false;
+            twin = true;
         }
         j += 1;
     }
-    true
+    !twin
 }
 
 pub fn apart(words: &[u64]) -> bool

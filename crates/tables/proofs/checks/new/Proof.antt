@@ -1,22 +1,23 @@
--- `tables::checks::new`: no word passed is word i.
+-- `tables::checks::new`: what is noted of the words passed.
 -- Assumes nothing.
-use borrow.Author.Needs.{needs}
 use Prim.Native.Nat.{_-_}
-use mathlib.Core.Path.{ap, refl}
+use mathlib.Core.Path.{ap}
 use mathlib.Core.Bool.{not}
+use mathlib.Core.Logic.{⊎-elim}
 use lib.Dec.{eqb}
 use lib.ListN.{getD}
 use borrow.Author.Tests.{eq-eqb, ne-eqb}
+use borrow.Author.Needs.{needs}
 use Rattle.tables.specs.Reads.{newAt}
-use Rattle.tables.proofs.AllLaws.{Passed, passed-none, passed-more, passed-not, passed-all}
+use Rattle.tables.proofs.AllLaws.{Noted, noted-none, noted-more, noted-not, noted-all}
 use Rattle.tables.proofs.checks.new.Statement.{statement}
 use Rattle.tables.proofs.checks.new.Tie as tie
 
 abbrev Inv-loop : tie.InvT-loop
-Inv-loop words i word j₀ j = Passed i (λ j. not (eqb (getD words j 0) (getD words i 0))) j
+Inv-loop words i word twin₀ j₀ twin j = Noted i (λ j. not (eqb (getD words j 0) (getD words i 0))) j twin
 
 abbrev μ-loop : tie.MeasureT-loop
-μ-loop words i word j₀ j = i - j
+μ-loop words i word twin₀ j₀ twin j = i - j
 
 mul-word : tie.Need-mul-word Inv-loop μ-loop
 mul-word c = search needs
@@ -25,22 +26,13 @@ shared-slice-read-word : tie.Need-shared-slice-read-word Inv-loop μ-loop
 shared-slice-read-word c = search needs
 
 loop-holds : tie.Need-loop-holds Inv-loop μ-loop
-loop-holds c =
-    let args = c .before .args in
-    passed-none (args .i) (λ j. not (eqb (getD (args .words .now) j 0) (getD (args .words .now) (args .i) 0)))
+loop-holds c = noted-none (c .before .args .i) (λ j. not (eqb (getD (c .before .args .words .now) j 0) (getD (c .before .args .words .now) (c .before .args .i) 0)))
 
 mul-if1 : tie.Need-mul-if1 Inv-loop μ-loop
 mul-if1 c = search needs
 
 shared-slice-read-if1 : tie.Need-shared-slice-read-if1 Inv-loop μ-loop
 shared-slice-read-if1 c = search needs
-
-returns : tie.Need-returns Inv-loop μ-loop
-unfolding newAt
-returns c =
-    let loop = c .before .before .before .loop in
-    let loop-test = c .before .before .loop-test in
-    passed-not (loop .inv) (loop-test .taken) refl (ap not (eq-eqb _ _ (c .if1 .taken)))
 
 add-j : tie.Need-add-j Inv-loop μ-loop
 add-j c = search needs
@@ -50,13 +42,14 @@ loop-less c = search needs
 
 loop-again : tie.Need-loop-again Inv-loop μ-loop
 loop-again c =
-    let loop = c .before .before .before .loop in
-    let loop-test = c .before .before .loop-test in
-    passed-more (loop .inv) (loop-test .taken) refl (ap not (ne-eqb _ _ (c .if1 .left)))
+    ⊎-elim
+    (λ w. noted-not (c .before .before .before .loop .inv) (c .before .before .loop-test .taken) (ap not (eq-eqb _ _ (w .0 .taken))) (w .1))
+    (λ w. noted-more (c .before .before .before .loop .inv) (c .before .before .loop-test .taken) (ap not (ne-eqb _ _ (w .0 .left))) (w .1))
+    (c .if1 .came)
 
-returns-2 : tie.Need-returns-2 Inv-loop μ-loop
+returns : tie.Need-returns Inv-loop μ-loop
 unfolding newAt
-returns-2 c = passed-all (c .before .loop .inv) (c .loop-test .left)
+returns c = noted-all (c .before .loop .inv) (c .loop-test .left)
 
 pub new-spec : {M : Type 1} → statement M
 new-spec =
@@ -69,8 +62,7 @@ new-spec =
     loop-holds
     mul-if1
     shared-slice-read-if1
-    returns
     add-j
     loop-less
     loop-again
-    returns-2)
+    returns)

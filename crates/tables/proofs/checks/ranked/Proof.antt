@@ -1,47 +1,53 @@
--- `tables::checks::ranked`: the three steps of rank, one after another.
+-- `tables::checks::ranked`: each role passed has its rank.
 -- Assumes nothing.
-use mathlib.Core.Path.{sym, _∙_}
+use Prim.Native.Nat.{_-_}
+use mathlib.Core.Path.{_∙_}
+use lib.ListN.{length}
 use borrow.Author.Tests.{not-true, not-false}
-use Rattle.tables.specs.Checks.{ranked}
 use borrow.Author.Needs.{needs}
+use Rattle.tables.specs.Reads.{rankAt}
+use Rattle.tables.proofs.CheckLaws.{ranked-rows}
+use Rattle.tables.proofs.AllLaws.{Passed, passed-none, passed-more, passed-not, passed-all}
 use Rattle.tables.proofs.checks.ranked.Statement.{statement}
 use Rattle.tables.proofs.checks.ranked.Tie as tie
 
-reflexive-requires : tie.Need-reflexive-requires
-reflexive-requires c κs = search needs
+abbrev Inv-loop : tie.InvT-loop
+Inv-loop rows r₀ r = Passed (length rows) (rankAt rows) r
 
-returns : tie.Need-returns
-unfolding ranked
-returns c = λ below. rw (sym (c .before .reflexive .ensures) ∙ not-true _ (c .if1 .taken))
+abbrev μ-loop : tie.MeasureT-loop
+μ-loop rows r₀ r = length rows - r
 
-transitive-requires : tie.Need-transitive-requires
-transitive-requires c κs = search needs
+loop-holds : tie.Need-loop-holds Inv-loop μ-loop
+loop-holds c = passed-none (length (c .before .args .rows .now)) (rankAt (c .before .args .rows .now))
 
-returns-2 : tie.Need-returns-2
-unfolding ranked
-returns-2 c =
-    let reflexive = c .before .before .before .reflexive in
-    let if1 = c .before .before .if1 in
-    λ below. rw (sym (reflexive .ensures) ∙ not-false _ (if1 .left), sym (c .before .transitive .ensures below) ∙ not-true _ (c .if2 .taken))
+rank-requires : tie.Need-rank-requires Inv-loop μ-loop
+rank-requires c κs = (c .before .before .before .pre, c .loop-test .taken)
 
-antisymmetric-requires : tie.Need-antisymmetric-requires
-antisymmetric-requires c κs = search needs
+returns : tie.Need-returns Inv-loop μ-loop
+returns c = λ below. passed-not (c .before .before .before .loop .inv) (c .before .before .loop-test .taken) (c .before .rank .ensures) (not-true _ (c .if1 .taken)) ∙ ranked-rows (c .before .before .before .before .before .args .rows .now) (c .before .before .before .before .before .pre) below
 
-returns-3 : tie.Need-returns-3
-unfolding ranked
-returns-3 c =
-    let reflexive = c .before .before .before .before .reflexive in
-    let if1 = c .before .before .before .if1 in
-    let transitive = c .before .before .transitive in
-    λ below. rw (sym (reflexive .ensures) ∙ not-false _ (if1 .left), sym (transitive .ensures below) ∙ not-false _ (c .before .if2 .left)) (c .antisymmetric .ensures)
+add-r : tie.Need-add-r Inv-loop μ-loop
+add-r c = search needs
+
+loop-less : tie.Need-loop-less Inv-loop μ-loop
+loop-less c = search needs
+
+loop-again : tie.Need-loop-again Inv-loop μ-loop
+loop-again c = passed-more (c .before .before .before .loop .inv) (c .before .before .loop-test .taken) (c .before .rank .ensures) (not-false _ (c .if1 .left))
+
+returns-2 : tie.Need-returns-2 Inv-loop μ-loop
+returns-2 c = λ below. passed-all (c .before .loop .inv) (c .loop-test .left) ∙ ranked-rows (c .before .before .before .args .rows .now) (c .before .before .before .pre) below
 
 pub ranked-spec : {M : Type 1} → statement M
 ranked-spec =
     tie.close
     (tie.spec
-    reflexive-requires
+    Inv-loop
+    μ-loop
+    loop-holds
+    rank-requires
     returns
-    transitive-requires
-    returns-2
-    antisymmetric-requires
-    returns-3)
+    add-r
+    loop-less
+    loop-again
+    returns-2)
