@@ -119,17 +119,8 @@ pub fn whole(
     let next = chains.next;
     let none = [255u8; 8];
     let mut cache = [0u64; 256];
-    values::terms::settle(
-        t,
-        nodes,
-        n,
-        kinds,
-        vars,
-        &none,
-        &mut cache,
-        &next,
-        first[0] as usize,
-    );
+    let from = first[0] as usize;
+    values::terms::settle(t, nodes, n, kinds, vars, &none, &mut cache, &next, from);
     walk(
         t,
         nodes,

@@ -20,6 +20,12 @@ chain-requires c κs =
     let long : length (c .before .levels .result) ≡ 256 = search needs in
     (P .0 .small, omega (arith, P .0 .small, long), λ k l. omega (arith, c .before .levels .ensures .small k l, P .1 .short))
 
+array-read-from : tie.Need-array-read-from
+array-read-from c = search needs
+
+cast-from : tie.Need-cast-from
+cast-from c = search needs
+
 slice-aggregate-settle : tie.Need-slice-aggregate-settle
 slice-aggregate-settle c = search needs
 
@@ -28,12 +34,6 @@ slice-aggregate-settle-2 c = search needs
 
 slice-aggregate-settle-3 : tie.Need-slice-aggregate-settle-3
 slice-aggregate-settle-3 c = search needs
-
-array-read-settle : tie.Need-array-read-settle
-array-read-settle c = search needs
-
-cast-settle : tie.Need-cast-settle
-cast-settle c = search needs
 
 settle-requires : tie.Need-settle-requires
 settle-requires c κs = let P = c .before .before .before .before .before .before .before .before .before .before .before .before .before .pre in (ready-any (P .0 .ready), P .0 .small, climbs (c .before .before .before .before .before .chain .ensures))
@@ -63,11 +63,11 @@ whole-spec =
     levels-requires
     slice-aggregate-chain
     chain-requires
+    array-read-from
+    cast-from
     slice-aggregate-settle
     slice-aggregate-settle-2
     slice-aggregate-settle-3
-    array-read-settle
-    cast-settle
     settle-requires
     slice-aggregate-walk
     slice-aggregate-walk-2
