@@ -13,8 +13,9 @@ use borrow.Rule.Slice.PartMut.{midOf, putMid}
 use Rattle.syntax.specs.Bytes.{Bytes, ascii}
 use Rattle.syntax.specs.Term.{Term, base, call, oe, ao, two, Choices, text, aoText, spell, isChoice, spellMiddle}
 use Rattle.syntax.specs.Arena.{Holds, HoldsAll, Down, hasTwo}
+use Rattle.syntax.specs.Reading.{Sought}
 use Rattle.printer.specs.Signs.{signOf, openOf}
-use Rattle.printer.specs.Printed.{Puts, Prints, Ready, Sought}
+use Rattle.printer.specs.Printed.{Puts, Prints, Ready}
 use Rattle.syntax.proofs.ArenaLaws.{base-small, fn-range, two-range, opOf, holds-op}
 use Rattle.printer.proofs.PrintedLaws.{puts-as, puts-then, puts-room, room-then, room-none, puts-none}
 use Rattle.printer.proofs.TextLaws.{Shown, text-leaf, text-call, text-new, text-choice, text-others, text-two}
@@ -95,7 +96,7 @@ module _ {ns vs : List ℕ} {k : ℕ} (w : Ready ns k vs) {op : ℕ} (e : op ≡
     pub term-call : 9 ≤ op → op < 16 → Prints ns vs (Holds ns l) (λ σ a. signOf op ++ (text σ a ++ ascii ")")) old new r → Prints ns vs (Holds ns k) text old new r
     term-call h g p = prints-as (λ σ t y x. text-call ns k σ t (omega arith) (omega arith) x) (rw e at (rw q at p))
 
-    module _ {d : ℕ} (b : 16 ≤ op) (s : Sought vs l d) where
+    module _ {d : ℕ} (b : 16 ≤ op) (s : Sought vs (length vs) l d) where
       pub term-new : op < 18 → length vs ≤ d → Prints ns vs (Holds ns l) (λ σ a. signOf op ++ (text σ a ++ ascii ")")) old new r → Prints ns vs (Holds ns k) text old new r
       term-new g h p =
           let v = ready-left w q (omega arith) .0 in

@@ -11,8 +11,9 @@ use Rattle.syntax.specs.Term.{Base, bU, bR, bOP, bOBJ, bP, bS, bCR, bCP, bCU, F
 use Rattle.syntax.specs.Term.{permissions*, object, operations, meet, join, Term, base, call, oe, ao, two, Term≟, Choices, digitFrom, digit}
 use Rattle.syntax.specs.Term.{isBase, isCall, isChoice, spell, oeText, aoText, text}
 use Rattle.syntax.specs.Arena.{baseOp, fnOp, twoOp, One, Holds, HoldsAll, Apart}
+use Rattle.syntax.specs.Reading.{Sought}
 use Rattle.printer.specs.Signs.{signs, signOf, openOf}
-use Rattle.printer.specs.Printed.{Ready, Sought}
+use Rattle.printer.specs.Printed.{Ready}
 use Rattle.syntax.proofs.ArenaLaws.{base-small, fn-range, two-range, one-parts, both-parts, opOf, holds-op, holds-once, holds-one}
 
 base-sign : (b : Base) → signOf (baseOp b) ≡ spell (isBase b)
@@ -168,7 +169,7 @@ module _ (ns : List ℕ) (n i : ℕ) (apart : Apart ns n) (h : i < n) (a : Term)
       go (no p) e = e ∙ ap some (omega arith)
 
 -- The same of a node that was sought among those of the choices.
-module _ {ns vs : List ℕ} {i d : ℕ} (r : Ready ns i vs) (s : Sought vs i d) (σ : Choices) (y : HoldsAll ns vs σ) (a : Term) (x : Holds ns i a) where
+module _ {ns vs : List ℕ} {i d : ℕ} (r : Ready ns i vs) (s : Sought vs (length vs) i d) (σ : Choices) (y : HoldsAll ns vs σ) (a : Term) (x : Holds ns i a) where
   pub choice-none : length vs ≤ d → digit σ a ≡ none
   choice-none l = digit-none ns (r .n) i (r .tidy .apart) (r .node) a x 49 vs σ y (r .below) (λ e h. s .before e (omega arith))
 

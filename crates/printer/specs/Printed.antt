@@ -53,9 +53,3 @@ formulaIn σ ρ = quantifiers [] σ ++ (ascii ":" ++ ruleText σ ρ)
 -- Anything: for a text that needs no more than the choices.
 abbrev pub Any : Unit {0} → Type 0
 Any u = Unit {0}
-
--- r is the first index of vs that has i, or as many as vs has.
-pub record Sought (vs : List ℕ) (i r : ℕ) : Type 0 where
-  pub within : r ≤ length vs
-  pub before : (k : ℕ) → k < r → getD vs k 0 ≡ i → ⊥
-  pub found : r < length vs → getD vs r 0 ≡ i

@@ -17,8 +17,8 @@ use crate::names::put_sign;
 use crate::nodes::left_at;
 use crate::nodes::op_at;
 use crate::nodes::right_at;
-use crate::nodes::seek;
 use crate::sheet::put;
+use syntax::places::seek;
 
 // The term at node `k`. A full sheet ends it at once: terms that stand in many places would take long.
 pub fn write_term(nodes: &[u32], k: usize, vars: &[u32], out: &mut [u8]) -> usize
@@ -52,7 +52,7 @@ fn write_one(nodes: &[u32], k: usize, vars: &[u32], out: &mut [u8]) -> usize
     if op < 16 {
         return write_call(nodes, op, i, vars, out);
     }
-    let d = seek(vars, i);
+    let d = seek(vars, vars.len(), i as u32);
     if d == vars.len() {
         return write_call(nodes, op, i, vars, out);
     }

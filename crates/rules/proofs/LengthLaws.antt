@@ -18,15 +18,14 @@ use Rattle.syntax.specs.Term.{spell, spellMiddle, oeText, aoText, text}
 use Rattle.syntax.specs.Rule.{Cmp, lt, le, gt, ge, eq, ne, Sign, is, isnt, number, count, Test, member, alike, empty, sized}
 use Rattle.syntax.specs.Rule.{Clause, plain, when, last, also, spellCmp, isSign, spellBetween, digits, countText, testText, clauseText, ruleText}
 use Rattle.syntax.specs.Arena.{baseOp, fnOp, twoOp, alikeOp, emptyOp, cmpNumber, hasTwo, One, Both, Holds, HoldsTest, HoldsClause, HoldsRule, Apart}
-use Rattle.syntax.specs.Reading.{mk, Knows}
+use Rattle.syntax.specs.Reading.{mk, Knows, Sought}
 use Rattle.rules.specs.Thing.{Thing, term, test, clause, rule, HoldsThing, thingText}
 use Rattle.rules.specs.Lengths.{extraTable, extra, plainLength, knownLength, nodeLength, capped, Measured}
-use Rattle.rules.specs.Variables.{Sought}
 use Rattle.rules.proofs.TableLaws.{entry}
 use Rattle.syntax.proofs.ArenaLaws.{base-small, fn-range, two-range, Parts, none-parts, one-parts, both-parts}
 use Rattle.rules.proofs.KindLaws.{alike-op, empty-op, cmp-number}
 use Rattle.rules.proofs.NodeLaws.{opOf, leftOf, rightOf, numbered-parts, lt-or-le}
-use Rattle.rules.proofs.VariableLaws.{digit-found}
+use Rattle.rules.proofs.VariableLaws.{digit-found, found-digit}
 use Rattle.rules.proofs.WalkLaws.{two-less, two-none, two-low, two-high}
 
 -- The table: no entry is above 14, and each is the length of what is spelled.
@@ -271,7 +270,7 @@ none-false false y e = refl
 
 module _ {ns vs ls : List ℕ} {n k r : ℕ} {σ : Choices} (apart : Apart ns n) (h : k < n) (c : Knows (mk ns n) vs σ) (m : Measured ns σ k ls) (s : Sought vs (length vs) (leftOf ns k) r) where
   digit-is : (a : Term) → leftOf ns k < k → Holds ns (leftOf ns k) a → digit σ a ≡ cond (ltb r (length vs)) (some (49 + r)) none
-  digit-is a l w = digit-found ns n apart (leftOf ns k) a w (omega arith) 49 vs σ (c .holds) (c .below) ∙ rw (take-length vs) at (s .is)
+  digit-is a l w = digit-found ns n apart (leftOf ns k) a w (omega arith) 49 vs σ (c .holds) (c .below) ∙ rw (take-length vs) at (found-digit (omega arith) s)
 
   length-here : (x : Thing) → HoldsThing ns k x → stepLength ns ls k (ltb r (length vs)) ≡ capped (len σ x)
   length-here x w = go (spelt ns k σ x w)

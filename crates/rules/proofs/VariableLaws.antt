@@ -1,68 +1,52 @@
 -- The digit of a choice is found among the nodes of the choices, and a node more makes a choice more.
 -- Assumes nothing.
-use mathlib.Core.Path.{_≡_, refl, ap, sym, _∙_}
-use mathlib.Core.Bool.{cond}
+use mathlib.Core.Path.{_≡_, refl, ap, ap₂, sym, _∙_}
+use mathlib.Core.Bool.{Bool, cond}
 use mathlib.Core.List.{List, [], _∷_, _++_}
 use mathlib.Core.Logic.{⊎-elim}
 use mathlib.Core.Option.{Option, none, some}
-use Prim.Native.Nat.{ℕ, suc, _+_, _<_, _≤_}
+use Prim.Native.Nat.{ℕ, zero, suc, _+_, _<_, _≤_}
 use native.Mathlib.Nat.{eq-or-lt-of-le}
 use native.Mathlib.Numerals.{add-one}
 use native.Mathlib.Omega.{arith}
 use lib.Dec.{eqb, ltb}
-use lib.ListN.{length, getD, take, drop, set, length-append, drop-of-length-le}
-use lib.Seq.{drop-cons, getD-take, length-take-le, take-suc-set, getD-set-same, getD-set-other}
+use lib.ListN.{length, getD, take, set, length-append}
+use lib.Seq.{getD-take, length-take-le, take-suc-set, getD-set-same, getD-set-other}
 use borrow.Author.Tests.{eq-eqb, ne-eqb, lt-ltb, le-ltb}
 use Rattle.syntax.specs.Term.{Term, Term≟, Choices, digitFrom, digit}
 use Rattle.syntax.specs.Rule.{add}
 use Rattle.syntax.specs.Arena.{Holds, HoldsAll, Apart}
-use Rattle.rules.specs.Variables.{findFrom, Sought, Listed, Added, many, known, over, new}
+use Rattle.syntax.specs.Reading.{Sought}
+use Rattle.rules.specs.Variables.{findFrom, Listed, Added, many, known, over, new}
 use Rattle.syntax.proofs.ArenaLaws.{holds-once, holds-one}
+use Rattle.rules.proofs.NodeLaws.{lt-or-le}
 
--- A search from the front, one node at a time.
-module _ (xs : List ℕ) (v d i : ℕ) where
-  find-end : length xs ≤ i → findFrom d (drop i xs) v ≡ none
-  unfolding findFrom
-  find-end h = rw (drop-of-length-le xs h)
+ltb-suc : (r n : ℕ) → ltb r n ≡ ltb (suc r) (suc n)
+ltb-suc r n =
+    ⊎-elim
+    (λ (l : r < n). lt-ltb r n l ∙ sym (lt-ltb (suc r) (suc n) (omega arith)))
+    (λ (l : n ≤ r). le-ltb r n l ∙ sym (le-ltb (suc r) (suc n) (omega arith)))
+    (lt-or-le r n)
 
-  find-here : i < length xs → getD xs i 0 ≡ v → findFrom d (drop i xs) v ≡ some d
-  unfolding findFrom
-  find-here h e = rw (drop-cons xs i 0 h, eq-eqb (getD xs i 0) v e)
+-- The digit of a node is that of the first place where it stands.
+find-first : (xs : List ℕ) (v d r : ℕ) → r ≤ length xs → ((k : ℕ) → k < r → getD xs k 0 ≡ v → ⊥) → (r < length xs → getD xs r 0 ≡ v)
+    → findFrom d xs v ≡ cond (ltb r (length xs)) (some (d + r)) none
+unfolding findFrom
+find-first [] v d r l b f = rw (le-ltb r 0 (omega arith))
+find-first (x ∷ xs) v d zero l b f =
+    let e : d + 0 ≡ d = omega arith in
+    rw (eq-eqb x v (f (omega arith)), lt-ltb 0 (suc (length xs)) (omega arith), e)
+find-first (x ∷ xs) v d (suc r) l b f =
+    let e : suc d + r ≡ d + suc r = omega arith in
+    rw (ne-eqb x v (b 0 (omega arith)))
+    (find-first xs v (suc d) r (omega arith) (λ k m. b (suc k) (omega arith)) (λ m. f (omega arith)) ∙ ap₂ (λ (b : Bool) (i : ℕ). cond b (some i) none) (ltb-suc r (length xs)) e)
 
-  find-on : i < length xs → (getD xs i 0 ≡ v → ⊥) → findFrom d (drop i xs) v ≡ findFrom (suc d) (drop (i + 1) xs) v
-  unfolding findFrom
-  find-on h e = rw (drop-cons xs i 0 h, ne-eqb (getD xs i 0) v e, add-one)
-
--- The first i of c nodes are not v.
-pub record Passed (vs : List ℕ) (c v i : ℕ) : Type 0 where
-  pub within : i ≤ c
-  pub is : findFrom 49 (take c vs) v ≡ findFrom (49 + i) (drop i (take c vs)) v
-
-pub passed-none : (vs : List ℕ) (c v : ℕ) → Passed vs c v 0
-passed-none vs c v = record { within = omega arith; is = refl }
-
-module _ {vs : List ℕ} {c v i : ℕ} (h : c ≤ length vs) (p : Passed vs c v i) where
-  pub sought-here : i < c → getD vs i 0 ≡ v → Sought vs c v i
-  sought-here l e =
-      let q : length (take c vs) ≡ c = length-take-le c vs h in
-      record {
-        within = p .within;
-        is = p .is ∙ find-here (take c vs) v (49 + i) i (omega arith) (getD-take c vs i 0 l ∙ e) ∙ rw (lt-ltb i c l);
-      }
-
-  pub sought-none : c ≤ i → Sought vs c v i
-  sought-none l =
-      let q : length (take c vs) ≡ c = length-take-le c vs h in
-      record { within = p .within; is = p .is ∙ find-end (take c vs) v (49 + i) i (omega arith) ∙ rw (le-ltb i c l) }
-
-  pub passed-next : i < c → (getD vs i 0 ≡ v → ⊥) → Passed vs c v (i + 1)
-  passed-next l e =
-      let q : length (take c vs) ≡ c = length-take-le c vs h in
-      let m : 49 + (i + 1) ≡ suc (49 + i) = omega arith in
-      record {
-        within = omega arith;
-        is = p .is ∙ find-on (take c vs) v (49 + i) i (omega arith) (λ x. e (sym (getD-take c vs i 0 l) ∙ x)) ∙ ap (λ (d : ℕ). findFrom d (drop (i + 1) (take c vs)) v) (sym m);
-      }
+pub found-digit : {vs : List ℕ} {c v r : ℕ} → c ≤ length vs → Sought vs c v r → findFrom 49 (take c vs) v ≡ cond (ltb r c) (some (49 + r)) none
+found-digit {vs} {c} {v} {r} h s =
+    let q : length (take c vs) ≡ c = length-take-le c vs h in
+    rw q at
+    (find-first (take c vs) v 49 r (omega (arith, s .within)) (λ k l e. s .before k l (sym (getD-take c vs k 0 (omega (arith, s .within))) ∙ e))
+    (λ l. let m : r < c = omega (arith, q) in getD-take c vs r 0 m ∙ s .found m))
 
 -- The digit of a choice is that of its node: equal terms have equal nodes.
 module _ (ns : List ℕ) (n : ℕ) (apart : Apart ns n) (v : ℕ) (a : Term) (x : Holds ns v a) (h : v < n) where
@@ -122,7 +106,7 @@ module _ {ns vs : List ℕ} {n c v : ℕ} {σ : Choices} (apart : Apart ns n) (a
       let q : length (take c vs) ≡ c = length-take-le c vs (omega arith) in
       digit-found ns n apart v a x h 49 (take c vs) σ (l .held few)
       (λ i m. let j : i < c = omega arith in rw (getD-take c vs i 0 j) (l .below i j (omega arith)))
-      ∙ s .is
+      ∙ found-digit (omega arith) s
 
   pub listed-add : {ws : List ℕ} {d : ℕ} → Added vs c v ws d → Listed ns n ws d (add σ a)
   listed-add (many m) =

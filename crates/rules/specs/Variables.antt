@@ -5,22 +5,18 @@ use mathlib.Core.Bool.{cond}
 use mathlib.Core.List.{List, [], _∷_}
 use mathlib.Core.Option.{Option, none, some}
 use Prim.Native.Nat.{ℕ, suc, _+_, _<_, _≤_}
-use lib.Dec.{eqb, ltb}
+use lib.Dec.{eqb}
 use lib.ListN.{length, getD, take, set}
 use Rattle.syntax.specs.Term.{Choices}
 use Rattle.syntax.specs.Rule.{Rule, ruleVars}
 use Rattle.syntax.specs.Arena.{HoldsAll, HoldsRule}
+use Rattle.syntax.specs.Reading.{Sought}
 use Rattle.rules.specs.Thing.{Thing, HoldsThing, thingVars}
 
 -- The digit of the choice whose argument is node v, where the first of vs has the digit d.
 unfoldable pub findFrom : ℕ → List ℕ → ℕ → Option ℕ
 findFrom d [] v = none
 findFrom d (x ∷ vs) v = cond (eqb x v) (some d) (findFrom (suc d) vs v)
-
--- r is the index of node v among the first c of vs, or c.
-pub record Sought (vs : List ℕ) (c v r : ℕ) : Type 0 where
-  pub within : r ≤ c
-  pub is : findFrom 49 (take c vs) v ≡ cond (ltb r c) (some (49 + r)) none
 
 -- The first c of vs are the nodes of the choices σ; c is 9 where σ are more than 8.
 pub record Listed (ns : List ℕ) (n : ℕ) (vs : List ℕ) (c : ℕ) (σ : Choices) : Type 0 where

@@ -1,7 +1,7 @@
 // Lengths of terms, tests, clauses and rules as they are written, from the nodes alone.
 // Equal subtrees are one node, so that a text that is long to write is quick to measure.
 use super::variables::has_two;
-use super::variables::variable;
+use syntax::places::seek;
 ghost use mathlib.Core.Path.{_≡_};
 ghost use Prim.Native.Nat.{_<_, _≤_};
 ghost use lib.ListN.{length, getD};
@@ -124,7 +124,7 @@ pub fn lengths(nodes: &[u32], n: usize, vars: &[u32], lens: &mut [u32])
         let v = nodes[k];
         let left = v / 256 % 4096;
         let right = v / 1048576;
-        let known = variable(vars, vars.len(), left) < vars.len();
+        let known = seek(vars, vars.len(), left) < vars.len();
         let a = length_at(lens, left as usize);
         let b = length_at(lens, right as usize);
         lens[k] = at_most(node_length(v % 256, known, a, b, right));

@@ -4,22 +4,8 @@ ghost use mathlib.Core.Path.{_≡_};
 ghost use Prim.Native.Nat.{_<_, _≤_};
 ghost use lib.ListN.{length};
 ghost use Rattle.syntax.specs.Arena.{Tidy, hasTwo};
-ghost use Rattle.rules.specs.Variables.{Sought, Walked, Added, VarsOf};
-
-// The index of the variable whose argument is the node, or count.
-pub fn variable(vars: &[u32], count: usize, node: u32) -> usize
-    requires { ⌜ count ≤ length (now vars) ⌝ }
-    ensures { λ r. ⌜ Sought (now (vars .entry)) count node r ⌝ }
-{
-    let mut i = 0;
-    while i < count {
-        if vars[i] == node {
-            return i;
-        }
-        i += 1;
-    }
-    i
-}
+ghost use Rattle.rules.specs.Variables.{Walked, Added, VarsOf};
+use syntax::places::seek;
 
 // The count after the node, which is put behind the others unless it is one of them.
 fn add(vars: &mut [u32], count: usize, node: u32) -> usize
@@ -29,7 +15,7 @@ fn add(vars: &mut [u32], count: usize, node: u32) -> usize
     if count > 8 {
         return 9;
     }
-    let i = variable(vars, count, node);
+    let i = seek(vars, count, node);
     if i < count {
         return count;
     }

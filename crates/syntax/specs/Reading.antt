@@ -89,7 +89,7 @@ pub record Stays (a b : Arena) : Type 0 where
   pub same : (i : ℕ) → i < a .n → getD (b .nodes) i 0 ≡ getD (a .nodes) i 0
 
 -- r is the first index below n that holds v, or n.
-pub record Missing (ns : List ℕ) (n v r : ℕ) : Type 0 where
+pub record Sought (ns : List ℕ) (n v r : ℕ) : Type 0 where
   pub within : r ≤ n
   pub before : (k : ℕ) → k < r → getD ns k 0 ≡ v → ⊥
   pub found : r < n → getD ns r 0 ≡ v

@@ -3,27 +3,13 @@
 ghost use mathlib.Core.Path.{_≡_};
 ghost use Prim.Native.Nat.{_+_, _*_, _<_, _≤_};
 ghost use lib.ListN.{length};
-ghost use Rattle.syntax.specs.Reading.{mk, Missing, Fresh, Put};
+ghost use Rattle.syntax.specs.Reading.{mk, Fresh, Put};
+use super::places::seek;
 
 // What a reader found: the node that holds it, the place behind it, and the count of nodes after it.
 pub enum Place {
     Nothing,
     Got { node: usize, next: usize, n: usize },
-}
-
-// The first index below n of an equal node, or n.
-fn seek(nodes: &[u32], n: usize, node: u32) -> usize
-    requires { ⌜ n ≤ length (now nodes) ⌝ }
-    ensures { λ r. ⌜ Missing (now (nodes .entry)) n node r ⌝ }
-{
-    let mut i = 0;
-    while i < n {
-        if nodes[i] == node {
-            return i;
-        }
-        i += 1;
-    }
-    i
 }
 
 fn pack(op: u32, i: usize, j: usize) -> u32

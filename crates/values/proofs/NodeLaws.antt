@@ -3,7 +3,7 @@
 use mathlib.Core.Path.{_≡_, refl, sym, ap, _∙_}
 use mathlib.Core.Bool.{cond, _&&_}
 use mathlib.Core.List.{List, [], _∷_}
-use Prim.Native.Nat.{ℕ, suc, _/_, _%_, _<_, _≤_}
+use Prim.Native.Nat.{ℕ, zero, suc, _/_, _%_, _<_, _≤_}
 use native.Mathlib.Decide.{ℕ-discrete}
 use native.Mathlib.Omega.{arith}
 use lib.Dec.{eqb, leb, ltb}
@@ -12,6 +12,7 @@ use borrow.Author.Tests.{eq-eqb, ne-eqb, le-leb, lt-ltb}
 use Rattle.syntax.specs.Term.{Base, bU, bR, bOP, bOBJ, bP, bS, bCR, bCP, bCU, Fn, user, roles, roles*, sessions, permissions}
 use Rattle.syntax.specs.Term.{permissions*, object, Op, operations, meet, join, Term, base, call, oe, ao, two, Term≟, Choices}
 use Rattle.syntax.specs.Arena.{baseOp, fnOp, twoOp, Holds, HoldsAll, hasTwo, Down, Tidy}
+use Rattle.syntax.specs.Reading.{Sought}
 use Rattle.values.specs.Values.{variableOf}
 use Rattle.values.specs.Nodes.{baseAt, fnAt, opAt, placeIn, Variables}
 use Rattle.values.proofs.ReadsLaws.{or-right}
@@ -121,6 +122,17 @@ module _ (ns : List ℕ) (k : ℕ) where
   term-small (oe a) x = omega (arith, holds-op ns k (oe a) x)
   term-small (ao a) x = omega (arith, holds-op ns k (ao a) x)
   term-small (two o a b) x = omega (arith, holds-op ns k (two o a b) x, two-range o .high)
+
+-- The first index that has a node is its place.
+place-first : (vs : List ℕ) (k r : ℕ) → r ≤ length vs → ((i : ℕ) → i < r → getD vs i 0 ≡ k → ⊥) → (r < length vs → getD vs r 0 ≡ k) → r ≡ placeIn k vs
+unfolding placeIn
+place-first [] k r l b f = omega arith
+place-first (v ∷ vs) k zero l b f = rw (eq-eqb v k (f (omega arith)))
+place-first (v ∷ vs) k (suc r) l b f =
+    rw (ne-eqb v k (b 0 (omega arith))) (ap suc (place-first vs k r (omega arith) (λ i m. b (suc i) (omega arith)) (λ m. f (omega arith))))
+
+pub placed : {vs : List ℕ} {k r : ℕ} → Sought vs (length vs) k r → r ≡ placeIn k vs
+placed {vs} {k} {r} s = place-first vs k r (s .within) (s .before) (s .found)
 
 -- The variable of the argument that node k holds is the place of k among the variables' nodes.
 place-variable : (ns : List ℕ) (n : ℕ) → Tidy ns n → (vs : List ℕ) (σ : Choices) → HoldsAll ns vs σ → ((i : ℕ) → i < length vs → getD vs i 0 < n)

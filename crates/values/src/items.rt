@@ -9,7 +9,7 @@ ghost use Rattle.rules.specs.Kind.{Sort};
 ghost use Rattle.rules.specs.Numbers.{kindOf};
 ghost use Rattle.values.specs.Values.{baseCount, ofSort, oneValue};
 ghost use Rattle.values.specs.Truth.{compared};
-ghost use Rattle.values.specs.Nodes.{baseAt, cmpAt, sortAt, placeIn};
+ghost use Rattle.values.specs.Nodes.{baseAt, cmpAt, sortAt};
 
 // Where the tables count users, roles, operations, objects, permissions, sessions, and the words of CR, CP, CU.
 const COUNTS: [usize; 9] = [1, 0, 3, 4, 5, 2, 6, 8, 7];
@@ -43,20 +43,6 @@ pub fn one(t: &[u64], kind: u8, x: usize) -> u64
     let k = (kind - 12) as usize;
     let at = COLLECTIONS[k] + x;
     t[at]
-}
-
-// The place of node k among the variables' nodes, or their number.
-pub fn variable(vars: &[u32], k: usize) -> usize
-    ensures { λ r. ⌜ r ≡ placeIn k (now (vars .entry)) ⌝ }
-{
-    let mut i = 0;
-    while i < vars.len() {
-        if vars[i] as usize == k {
-            return i;
-        }
-        i += 1;
-    }
-    i
 }
 
 // The item chosen for the variable u.

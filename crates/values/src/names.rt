@@ -1,5 +1,5 @@
 // What the sets of the variables name, as words of variables.
-use crate::items;
+use syntax::places::seek;
 ghost use Prim.Native.Nat.{ℕ, _<_, _≤_};
 ghost use lib.ListN.{length, getD};
 ghost use Rattle.syntax.specs.Term.{Choices};
@@ -20,16 +20,16 @@ fn named(nodes: &[u32], n: usize, vars: &[u32], k: usize) -> u64
     if 20 < op {
         return 0;
     }
-    let left = (node / 256 % 4096) as usize;
+    let left = node / 256 % 4096;
     if op == 16 {
-        return words::item(items::variable(vars, left));
+        return words::item(seek(vars, vars.len(), left));
     }
-    let a = named(nodes, n, vars, left);
+    let a = named(nodes, n, vars, left as usize);
     if op < 16 {
         return a;
     }
     if op == 17 {
-        return words::join(words::item(items::variable(vars, left)), a);
+        return words::join(words::item(seek(vars, vars.len(), left)), a);
     }
     let right = (node / 1048576) as usize;
     let b = named(nodes, n, vars, right);

@@ -1,6 +1,7 @@
 // The values of the nodes' terms under a choice, level by level, in a cache.
 use crate::calls;
 use crate::items;
+use syntax::places::seek;
 ghost use Prim.Native.Nat.{ℕ, _<_, _≤_};
 ghost use lib.ListN.{length};
 ghost use Rattle.values.specs.Nodes.{Ready, StepAt, Climbs, Settles};
@@ -29,7 +30,7 @@ fn step(
     }
     let left = (node / 256 % 4096) as usize;
     if op == 16 {
-        let x = items::chosen(choice, items::variable(vars, left));
+        let x = items::chosen(choice, seek(vars, vars.len(), left as u32));
         return items::one(t, kinds[left], x);
     }
     let a = cache[left];
@@ -37,7 +38,7 @@ fn step(
         return calls::call(t, op, kinds[left], a);
     }
     if op == 17 {
-        let x = items::chosen(choice, items::variable(vars, left));
+        let x = items::chosen(choice, seek(vars, vars.len(), left as u32));
         return words::less(a, words::item(x));
     }
     let right = (node / 1048576) as usize;

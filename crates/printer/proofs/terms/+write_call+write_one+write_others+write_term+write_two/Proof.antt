@@ -30,7 +30,7 @@ use Rattle.printer.proofs.names.put_sign.Reads as put-sign-reads
 use Rattle.printer.proofs.nodes.left_at.Reads as left-at-reads
 use Rattle.printer.proofs.nodes.op_at.Reads as op-at-reads
 use Rattle.printer.proofs.nodes.right_at.Reads as right-at-reads
-use Rattle.printer.proofs.nodes.seek.Reads as seek-reads
+use Rattle.syntax.proofs.places.seek.Reads as seek-reads
 use Rattle.printer.proofs.sheet.put.Reads as put-reads
 use Rattle.printer.proofs.terms.+write_call+write_one+write_others+write_term+write_two.{statement}
 use Rattle.printer.proofs.terms.+write_call+write_one+write_others+write_term+write_two.Tie.{close}
@@ -168,6 +168,9 @@ write-one-same-length t c = search needs
 
 write-one-returns : (t : ℕ) → write-one-lts.Need-returns (write-one-called t) (write-one-at t) write-one.Post
 write-one-returns t c = term-call (c .before .before .before .before .before .before .before .before .before .before .pre .1 .0) (c .before .before .before .before .before .before .op-at .ensures) (c .before .before .before .before .before .left-at .ensures) (omega (arith, c .before .before .before .before .before .before .op-at .ensures, c .before .before .before .before .before .before .before .before .before .before .pre)) (c .before .before .before .before .if1 .taken) (c .before .before .write-call .ensures)
+
+write-one-cast-seek : (t : ℕ) → write-one-lts.Need-cast-seek (write-one-called t) (write-one-at t) write-one.Post
+write-one-cast-seek t c = omega (arith, c .before .left-at .ensures)
 
 write-one-seek-requires : (t : ℕ) → write-one-lts.Need-seek-requires (write-one-called t) (write-one-at t) write-one.Post
 write-one-seek-requires t c κs = search needs
@@ -449,6 +452,7 @@ pub +write-call+write-one+write-others+write-term+write-two-spec : {M : Type 1} 
     (write-one-write-call-requires t)
     (write-one-same-length t)
     (write-one-returns t)
+    (write-one-cast-seek t)
     (write-one-seek-requires t)
     (write-one-write-call-requires-2 t)
     (write-one-same-length-2 t)

@@ -27,8 +27,8 @@ mul-v c = search needs
 shared-slice-read-v : tie.Need-shared-slice-read-v Inv-loop μ-loop
 shared-slice-read-v c = search needs
 
-variable-requires : tie.Need-variable-requires Inv-loop μ-loop
-variable-requires c κs = search needs
+seek-requires : tie.Need-seek-requires Inv-loop μ-loop
+seek-requires c κs = search needs
 
 cast-length-at : tie.Need-cast-length-at Inv-loop μ-loop
 cast-length-at c = search needs
@@ -65,7 +65,7 @@ loop-again c =
     let l = c .before .before .before .before .before .before .before .before .before .loop in (
       omega arith,
       length-set (l .lens) (l .k) (c .at-most .result) ∙ l .inv .1,
-      λ σ w. measured-next (c .before .before .before .before .before .before .before .before .before .before .before .before .before .pre .0 .apart) (omega arith) w (l .inv .2 σ w) (c .before .before .before .before .before .before .variable .ensures) (c .at-most .ensures ∙ step-is (c .before .before .before .before .before .before .before .before .before .before .before .before .before .args .nodes .now) (l .lens) (l .k) _ (c .before .before .before .before .length-at .result) (c .before .before .length-at2 .result) (c .before .before .before .before .length-at .ensures) (c .before .before .length-at2 .ensures) (c .before .node-length .ensures)) (omega arith),
+      λ σ w. measured-next (c .before .before .before .before .before .before .before .before .before .before .before .before .before .pre .0 .apart) (omega arith) w (l .inv .2 σ w) (c .before .before .before .before .before .before .seek .ensures) (c .at-most .ensures ∙ step-is (c .before .before .before .before .before .before .before .before .before .before .before .before .before .args .nodes .now) (l .lens) (l .k) _ (c .before .before .before .before .length-at .result) (c .before .before .length-at2 .result) (c .before .before .before .before .length-at .ensures) (c .before .before .length-at2 .ensures) (c .before .node-length .ensures)) (omega arith),
     )
 
 same-length : tie.Need-same-length Inv-loop μ-loop
@@ -85,7 +85,7 @@ lengths-spec =
     loop-holds
     mul-v
     shared-slice-read-v
-    variable-requires
+    seek-requires
     cast-length-at
     length-at-requires
     cast-length-at-2

@@ -9,20 +9,20 @@ use Rattle.rules.proofs.variables.add.Tie as tie
 returns : tie.Need-returns
 returns c = many (c .if1 .taken)
 
-variable-requires : tie.Need-variable-requires
-variable-requires c κs = search needs
+seek-requires : tie.Need-seek-requires
+seek-requires c κs = search needs
 
 same-length : tie.Need-same-length
 same-length c = search needs
 
 returns-2 : tie.Need-returns-2
-returns-2 c = known (omega arith) (c .before .variable .ensures) (c .if2 .taken)
+returns-2 c = known (omega arith) (c .before .seek .ensures) (c .if2 .taken)
 
 same-length-2 : tie.Need-same-length-2
 same-length-2 c = search needs
 
 returns-3 : tie.Need-returns-3
-returns-3 c = over (c .if3 .taken) (c .before .before .variable .ensures) (c .before .if2 .left)
+returns-3 c = over (c .if3 .taken) (c .before .before .seek .ensures) (c .before .if2 .left)
 
 mul-vars : tie.Need-mul-vars
 mul-vars c = search needs
@@ -37,14 +37,14 @@ same-length-3 : tie.Need-same-length-3
 same-length-3 c = search needs
 
 returns-4 : tie.Need-returns-4
-returns-4 c = new (omega arith) (c .before .before .variable .ensures) (c .before .if2 .left)
+returns-4 c = new (omega arith) (c .before .before .seek .ensures) (c .before .if2 .left)
 
 pub add-spec : {M : Type 1} → statement M
 add-spec =
     tie.close
     (tie.spec
     returns
-    variable-requires
+    seek-requires
     same-length
     returns-2
     same-length-2

@@ -3,7 +3,7 @@
 use native.Mathlib.Omega.{arith}
 use lib.ListN.{getD}
 use borrow.Author.Needs.{needs}
-use Rattle.values.proofs.NodeLaws.{term-small, left-below, right-below}
+use Rattle.values.proofs.NodeLaws.{term-small, left-below, right-below, placed}
 use Rattle.values.proofs.NamesLaws.{names-base, names-one, names-call, names-others, names-two}
 use Prim.Native.Nat.{ℕ, _<_, _%_, _≤_}
 use borrow.Fn.Kinds.{In}
@@ -11,7 +11,7 @@ use borrow.Fn.PlainCycle.{Measures, is, falls, and}
 use Rattle.values.proofs.names.named.Reads as named
 use Rattle.values.proofs.names.named.Kinds as named-kinds
 use Rattle.values.proofs.names.+named.Lts-named as named-lts
-use Rattle.values.proofs.items.variable.Reads as variable-reads
+use Rattle.syntax.proofs.places.seek.Reads as seek-reads
 use Rattle.words.proofs.item.Reads as item-reads
 use Rattle.words.proofs.join.Reads as join-reads
 use Rattle.values.proofs.names.+named.{statement}
@@ -29,8 +29,8 @@ named-below t = and 2 named-kinds.ps (falls 2 named-kinds.ps _<_ μ-named t) nam
 -- What the callees ask and show.
 abbrev called : ℕ → named-lts.Claims
 called t = (
-  variable-reads.Asked,
-  variable-reads.Learnt,
+  seek-reads.Asked,
+  seek-reads.Learnt,
   item-reads.Asked,
   item-reads.Learnt,
   named-below t,
@@ -55,11 +55,8 @@ named-returns t c = λ σ w t′ x u l.
 named-returns-2 : (t : ℕ) → named-lts.Need-returns-2 (called t) (named-at t) named.Post
 named-returns-2 t c = λ σ w t′ x u l. absurd (omega (arith, term-small (c .before .before .before .before .before .args .nodes .now) (c .before .before .before .before .before .args .k) t′ x, c .if2 .taken))
 
-named-cast-left : (t : ℕ) → named-lts.Need-cast-left (called t) (named-at t) named.Post
-named-cast-left t c = omega arith
-
-named-variable-requires : (t : ℕ) → named-lts.Need-variable-requires (called t) (named-at t) named.Post
-named-variable-requires t c κs = search needs
+named-seek-requires : (t : ℕ) → named-lts.Need-seek-requires (called t) (named-at t) named.Post
+named-seek-requires t c κs = search needs
 
 named-item-requires : (t : ℕ) → named-lts.Need-item-requires (called t) (named-at t) named.Post
 named-item-requires t c κs = search needs
@@ -67,7 +64,10 @@ named-item-requires t c κs = search needs
 named-returns-3 : (t : ℕ) → named-lts.Need-returns-3 (called t) (named-at t) named.Post
 named-returns-3 t c = λ σ w t′ x u l.
     let S = c .before .before .before .before .before .before .before .before in
-    names-one (S .pre .1 .0) w (S .args .k) (S .pre .1 .1) t′ x u l (c .before .before .if3 .taken) (c .before .variable .result) (c .item .result) (c .before .variable .ensures) (c .item .ensures)
+    names-one (S .pre .1 .0) w (S .args .k) (S .pre .1 .1) t′ x u l (c .before .before .if3 .taken) (c .before .seek .result) (c .item .result) (placed (c .before .seek .ensures)) (c .item .ensures)
+
+named-cast-named : (t : ℕ) → named-lts.Need-cast-named (called t) (named-at t) named.Post
+named-cast-named t c = omega arith
 
 named-named-requires : (t : ℕ) → named-lts.Need-named-requires (called t) (named-at t) named.Post
 named-named-requires t c κs =
@@ -80,8 +80,8 @@ named-returns-4 t c = λ σ w t′ x u l.
     let S = c .before .before .before .before .before .before .before .before in
     names-call (S .pre .1 .0) w (S .args .k) (S .pre .1 .1) t′ x u l (c .before .before .before .before .if1 .left) (c .if4 .taken) (c .before .named .result) (λ a y. c .before .named .ensures σ w a y u l)
 
-named-variable-requires-2 : (t : ℕ) → named-lts.Need-variable-requires-2 (called t) (named-at t) named.Post
-named-variable-requires-2 t c κs = search needs
+named-seek-requires-2 : (t : ℕ) → named-lts.Need-seek-requires-2 (called t) (named-at t) named.Post
+named-seek-requires-2 t c κs = search needs
 
 named-item-requires-2 : (t : ℕ) → named-lts.Need-item-requires-2 (called t) (named-at t) named.Post
 named-item-requires-2 t c κs = search needs
@@ -92,8 +92,8 @@ named-join-requires t c κs = search needs
 named-returns-5 : (t : ℕ) → named-lts.Need-returns-5 (called t) (named-at t) named.Post
 named-returns-5 t c = λ σ w t′ x u l.
     let S = c .before .before .before .before .before .before .before .before .before .before .before .before in
-    names-others (S .pre .1 .0) w (S .args .k) (S .pre .1 .1) t′ x u l (c .before .before .before .if5 .taken) (c .before .before .variable2 .result) (c .before .item2 .result) (c .before .before .before .before .before .named .result) (c .join .result)
-    (c .before .before .variable2 .ensures) (c .before .item2 .ensures) (λ a y. c .before .before .before .before .before .named .ensures σ w a y u l) (c .join .ensures)
+    names-others (S .pre .1 .0) w (S .args .k) (S .pre .1 .1) t′ x u l (c .before .before .before .if5 .taken) (c .before .before .seek2 .result) (c .before .item2 .result) (c .before .before .before .before .before .named .result) (c .join .result)
+    (placed (c .before .before .seek2 .ensures)) (c .before .item2 .ensures) (λ a y. c .before .before .before .before .before .named .ensures σ w a y u l) (c .join .ensures)
 
 named-cast-right : (t : ℕ) → named-lts.Need-cast-right (called t) (named-at t) named.Post
 named-cast-right t c = omega (arith, c .before .before .before .before .before .before .shared-slice-known3 .given (c .before .before .before .before .before .before .before .before .before .args .k))
@@ -125,13 +125,13 @@ pub +named-spec : {M : Type 1} → statement M
     (named-shared-slice-read-node t)
     (named-returns t)
     (named-returns-2 t)
-    (named-cast-left t)
-    (named-variable-requires t)
+    (named-seek-requires t)
     (named-item-requires t)
     (named-returns-3 t)
+    (named-cast-named t)
     (named-named-requires t)
     (named-returns-4 t)
-    (named-variable-requires-2 t)
+    (named-seek-requires-2 t)
     (named-item-requires-2 t)
     (named-join-requires t)
     (named-returns-5 t)

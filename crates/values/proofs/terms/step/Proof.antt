@@ -3,7 +3,7 @@
 use native.Mathlib.Omega.{arith}
 use Prim.Native.Nat.{_%_, _≤_}
 use lib.ListN.{getD}
-use Rattle.values.proofs.NodeLaws.{term-small, left-in, right-in}
+use Rattle.values.proofs.NodeLaws.{term-small, left-in, right-in, placed}
 use Rattle.values.proofs.ValueLaws.{value-base, value-one, value-call, value-others, value-two}
 use borrow.Author.Needs.{needs}
 use Rattle.values.proofs.terms.step.Statement.{statement}
@@ -33,8 +33,11 @@ returns-2 c = λ T σ w a x F. absurd (omega (arith, term-small (c .before .befo
 cast-left : tie.Need-cast-left
 cast-left c = search needs
 
-variable-requires : tie.Need-variable-requires
-variable-requires c κs = search needs
+cast-seek : tie.Need-cast-seek
+cast-seek c = search needs
+
+seek-requires : tie.Need-seek-requires
+seek-requires c κs = search needs
 
 chosen-requires : tie.Need-chosen-requires
 chosen-requires c κs = search needs
@@ -49,8 +52,8 @@ returns-3 : tie.Need-returns-3
 returns-3 c = λ T σ w a x F.
     let S = c .before .before .before .before .before .before .before .before .before .before .before .before .before .before in
     let R = S .pre .0 in
-    value-one (R .tidy) (R .kinded) w (S .args .choice .now) (S .args .k) (R .below) a x (c .before .before .before .variable .result) (c .before .before .chosen .result) (c .one .result) (c .before .before .before .before .if3 .taken)
-    (c .before .before .before .variable .ensures) (c .before .before .chosen .ensures) (c .one .ensures T (w .fits) (w .words))
+    value-one (R .tidy) (R .kinded) w (S .args .choice .now) (S .args .k) (R .below) a x (c .before .before .before .seek .result) (c .before .before .chosen .result) (c .one .result) (c .before .before .before .before .if3 .taken)
+    (placed (c .before .before .before .seek .ensures)) (c .before .before .chosen .ensures) (c .one .ensures T (w .fits) (w .words))
 
 mul-a : tie.Need-mul-a
 mul-a c = search needs
@@ -71,8 +74,11 @@ returns-4 c = λ T σ w a x F.
     value-call (R .tidy) (R .kinded) w (S .args .choice .now) (S .args .k) (R .below) a x _ (c .call .result) (c .before .before .before .before .before .before .if1 .left) (c .before .before .if4 .taken)
     (F .left (c .before .before .before .before .before .before .if1 .left) (c .before .before .before .before .if3 .left)) (c .call .ensures T (w .fits) (w .words))
 
-variable-requires-2 : tie.Need-variable-requires-2
-variable-requires-2 c κs = search needs
+cast-seek-2 : tie.Need-cast-seek-2
+cast-seek-2 c = search needs
+
+seek-requires-2 : tie.Need-seek-requires-2
+seek-requires-2 c κs = search needs
 
 chosen-requires-2 : tie.Need-chosen-requires-2
 chosen-requires-2 c κs = search needs
@@ -87,8 +93,8 @@ returns-5 : tie.Need-returns-5
 returns-5 c = λ T σ w a x F.
     let S = c .before .before .before .before .before .before .before .before .before .before .before .before .before .before .before .before .before in
     let R = S .pre .0 in
-    value-others (R .tidy) (R .kinded) w (S .args .choice .now) (S .args .k) (R .below) a x _ (c .before .before .before .variable2 .result) (c .before .before .chosen2 .result) (c .before .item .result)
-    (c .less .result) (c .before .before .before .before .if5 .taken) (F .left (c .before .before .before .before .before .before .before .before .before .if1 .left) (c .before .before .before .before .before .before .before .if3 .left)) (c .before .before .before .variable2 .ensures) (c .before .before .chosen2 .ensures) (c .before .item .ensures) (c .less .ensures)
+    value-others (R .tidy) (R .kinded) w (S .args .choice .now) (S .args .k) (R .below) a x _ (c .before .before .before .seek2 .result) (c .before .before .chosen2 .result) (c .before .item .result)
+    (c .less .result) (c .before .before .before .before .if5 .taken) (F .left (c .before .before .before .before .before .before .before .before .before .if1 .left) (c .before .before .before .before .before .before .before .if3 .left)) (placed (c .before .before .before .seek2 .ensures)) (c .before .before .chosen2 .ensures) (c .before .item .ensures) (c .less .ensures)
 
 cast-right : tie.Need-cast-right
 cast-right c = omega (arith, c .before .before .before .before .before .before .shared-slice-known7 .given (c .before .before .before .before .before .before .before .before .before .before .before .before .before .args .k))
@@ -127,7 +133,8 @@ step-spec =
     returns
     returns-2
     cast-left
-    variable-requires
+    cast-seek
+    seek-requires
     chosen-requires
     shared-slice-read-one
     one-requires
@@ -137,7 +144,8 @@ step-spec =
     shared-slice-read-call
     call-requires
     returns-4
-    variable-requires-2
+    cast-seek-2
+    seek-requires-2
     chosen-requires-2
     item-requires
     less-requires

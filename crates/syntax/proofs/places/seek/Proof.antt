@@ -1,4 +1,4 @@
--- `seek` passes nodes that are not the one sought.
+-- `seek` passes numbers that are not the one sought.
 -- Assumes nothing.
 use Prim.Native.Nat.{ℕ, _≤_, _<_, _-_}
 use mathlib.Core.Path.{_≡_}
@@ -6,14 +6,14 @@ use borrow.Author.Count.{below-more, below-none}
 use borrow.Author.Needs.{needs}
 use native.Mathlib.Omega.{arith}
 use lib.ListN.{getD}
-use Rattle.syntax.proofs.arena.seek.Statement.{statement}
-use Rattle.syntax.proofs.arena.seek.Tie as tie
+use Rattle.syntax.proofs.places.seek.Statement.{statement}
+use Rattle.syntax.proofs.places.seek.Tie as tie
 
 abbrev Inv-loop : tie.InvT-loop
-Inv-loop nodes n node i₀ i = (i ≤ n) × ((k : ℕ) → k < i → getD nodes k 0 ≡ node → ⊥)
+Inv-loop list n number i₀ i = (i ≤ n) × ((k : ℕ) → k < i → getD list k 0 ≡ number → ⊥)
 
 abbrev μ-loop : tie.MeasureT-loop
-μ-loop nodes n node i₀ i = n - i
+μ-loop list n number i₀ i = n - i
 
 loop-holds : tie.Need-loop-holds Inv-loop μ-loop
 loop-holds c = (search needs, below-none _)
