@@ -1,13 +1,17 @@
--- The refusals 11 to 15, one after the other.
+-- The refusals 11 to 15, one after the other; and what it says of a rule that none of them refuses its text.
 -- Assumes nothing.
-use mathlib.Core.Path.{_≡_}
+use mathlib.Core.Path.{_≡_, refl}
 use mathlib.Core.List.{[]}
-use mathlib.Core.Bool.{true, false}
-use mathlib.Core.Option.{none, some}
-use Prim.Native.Nat.{_<_, _≤_}
+use mathlib.Core.Bool.{Bool, true, false, _&&_}
+use mathlib.Core.Option.{Option, none, some}
+use Prim.Native.Nat.{ℕ, _<_, _≤_}
+use native.Mathlib.Decide.{decLt}
 use native.Mathlib.Omega.{arith}
+use lib.Dec.{ltb, leb, lit≤}
 use lib.ListN.{length}
 use borrow.Author.Tests.{lt-ltb, le-ltb, le-leb, lt-leb}
+use Rattle.answers.specs.Refusal.{numberOf}
+use Rattle.answers.specs.declared.Refusal.{Refusal}
 use Rattle.answers.specs.declared.Refusal.the-variants.{RuleLength, Deep, NotARule, Unkind, Choices}
 use Rattle.syntax.specs.Bytes.{Bytes}
 use Rattle.syntax.specs.Rule.{Rule, ruleVars, ruleOf}
@@ -52,3 +56,67 @@ module _ (ρ : Rule) where
   pub tree-fits : ruleKinds ρ ≡ true → length (ruleVars [] ρ) ≤ 8 → treeRefusal ρ ≡ none
   unfolding treeRefusal
   tree-fits k c = rw (k, le-leb (length (ruleVars [] ρ)) 8 c, treeRefusal)
+
+  -- The other way round: no refusal, so the kinds fit and the variables are few.
+  module _ (e : treeRefusal ρ ≡ none) where
+    pub tree-kinds : ruleKinds ρ ≡ true
+    tree-kinds = go (ruleKinds ρ) refl
+      where
+        go : (b : Bool) → ruleKinds ρ ≡ b → ruleKinds ρ ≡ true
+        go true k = k
+        go false k = cc (tree-unkind k, e)
+
+    pub tree-few : length (ruleVars [] ρ) ≤ 8
+    tree-few = go (decLt 8 (length (ruleVars [] ρ)))
+      where
+        go : Dec (8 < length (ruleVars [] ρ)) → length (ruleVars [] ρ) ≤ 8
+        go (yes l) = let z : _≡_ {A = ℕ} 0 1 = cc (tree-choices tree-kinds l, e) in absurd (omega arith)
+        go (no n) = omega arith
+
+-- The first refusal, by what the checks find: a fit length, deep brackets, a rule.
+abbrev firstOf : Bool → Bool → Option Rule → Option Refusal
+firstOf b d o =
+    elim b [
+      | false ↦ some RuleLength
+      | true ↦ elim d [ true ↦ some Deep | false ↦ elim o [ none ↦ some NotARule | some ρ ↦ treeRefusal ρ ] ]
+    ]
+
+-- An accepted text is the text of a rule that the checks on rules accept.
+pub accepted-rule : (s : Bytes) → refusal s ≡ none → (ρ : Rule) × (ruleOf s ≡ some ρ) × (treeRefusal ρ ≡ none)
+unfolding refusal
+accepted-rule s e = go (ltb 0 (length s) && leb (length s) 256) (deep 0 0 s) (ruleOf s) refl e
+  where
+    go : (b d : Bool) (o : Option Rule) → ruleOf s ≡ o → firstOf b d o ≡ none → (ρ : Rule) × (ruleOf s ≡ some ρ) × (treeRefusal ρ ≡ none)
+    go false d o q e = let z : _≡_ {A = ℕ} 0 1 = cc in absurd (omega arith)
+    go true true o q e = let z : _≡_ {A = ℕ} 0 1 = cc in absurd (omega arith)
+    go true false none q e = let z : _≡_ {A = ℕ} 0 1 = cc in absurd (omega arith)
+    go true false (some ρ) q e = (ρ, q, e)
+
+pub accepted-tree : (s : Bytes) (ρ : Rule) → refusal s ≡ none → ruleOf s ≡ some ρ → treeRefusal ρ ≡ none
+accepted-tree s ρ e h =
+    let a = accepted-rule s e in
+    let same : a .0 ≡ ρ = cc (a .1, h) in
+    rw (← same) (a .2)
+
+-- The refusal of any other text is one of 11 to 15.
+abbrev pub Early : Refusal → Type 0
+Early r = (11 ≤ numberOf r) × (numberOf r ≤ 15)
+
+tree-early : (ρ : Rule) (r : Refusal) → treeRefusal ρ ≡ some r → Early r
+unfolding treeRefusal
+tree-early ρ r e = go (ruleKinds ρ) (leb (length (ruleVars [] ρ)) 8) e
+  where
+    go : (k b : Bool) → _≡_ {A = Option Refusal} (elim k [ false ↦ some Unkind | true ↦ elim b [ false ↦ some Choices | true ↦ none ] ]) (some r) → Early r
+    go false b q = let p : Unkind ≡ r = cc in rw (← p) (lit≤ tt, lit≤ tt)
+    go true false q = let p : Choices ≡ r = cc in rw (← p) (lit≤ tt, lit≤ tt)
+    go true true q = let z : _≡_ {A = ℕ} 0 1 = cc in absurd (omega arith)
+
+pub refused-early : (s : Bytes) (r : Refusal) → refusal s ≡ some r → Early r
+unfolding refusal
+refused-early s r e = go (ltb 0 (length s) && leb (length s) 256) (deep 0 0 s) (ruleOf s) e
+  where
+    go : (b d : Bool) (o : Option Rule) → firstOf b d o ≡ some r → Early r
+    go false d o q = let p : RuleLength ≡ r = cc in rw (← p) (lit≤ tt, lit≤ tt)
+    go true true o q = let p : Deep ≡ r = cc in rw (← p) (lit≤ tt, lit≤ tt)
+    go true false none q = let p : NotARule ≡ r = cc in rw (← p) (lit≤ tt, lit≤ tt)
+    go true false (some ρ) q = tree-early ρ r q

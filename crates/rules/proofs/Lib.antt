@@ -8,5 +8,6 @@ pub mod WalkLaws
 pub mod LengthLaws
 pub mod FormulaLengthLaws
 pub mod AcceptLaws
+pub mod ChoiceLaws
 pub mod ParseLaws
 pub mod Examples

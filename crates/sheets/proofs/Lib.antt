@@ -3,3 +3,4 @@ pub mod LineLaws
 pub mod SheetLaws
 pub mod LendingLaws
 pub mod JudgedLaws
+pub mod OrderLaws

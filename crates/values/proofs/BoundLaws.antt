@@ -19,10 +19,13 @@ use Rattle.tables.specs.Tables.{Tables}
 use Rattle.tables.proofs.FitsLaws.{Sound}
 use Rattle.syntax.specs.Term.{Base, bU, bR, bOP, bOBJ, bP, bS, bCR, bCP, bCU, Fn, user, roles, roles*, sessions, permissions, permissions*, object}
 use Rattle.syntax.specs.Term.{operations, meet, join, Term, base, call, oe, ao, two, Choices}
-use Rattle.syntax.specs.Rule.{Rule, ruleVars}
+use Rattle.syntax.specs.Bytes.{Bytes}
+use Rattle.syntax.specs.Rule.{Rule, ruleVars, ruleOf}
 use Rattle.syntax.proofs.Closed.{Known, Ordered, rule-ordered}
 use Rattle.rules.specs.Kind.{Sort, Sort≟, sU, sR, sOP, sOBJ, sP, sS, Kind, Kind≟, element, set, collection, baseKind, takes, makes, oneOf, holds}
-use Rattle.rules.specs.Kind.{ofElement, callKind, oneKind, othersKind, asSet, joined, twoKind, with, kind}
+use Rattle.rules.specs.Kind.{ofElement, callKind, oneKind, othersKind, asSet, joined, twoKind, with, kind, countable}
+use Rattle.rules.specs.Accept.{refusal}
+use Rattle.rules.proofs.ChoiceLaws.{some-with, accepted-choosable}
 use Rattle.walks.specs.Choices.{variables, fullOn}
 use Rattle.walks.proofs.OrderLaws.{and-left, and-right}
 use Rattle.values.specs.Values.{baseCount, twoValue, variableOf, itemIn, oneValue, value}
@@ -128,11 +131,6 @@ module _ (T : Tables) where
       go : (b : Bool) → _≡_ {A = Option Kind} (elim b [ true ↦ some (set sOP) | false ↦ none ]) (some m) → kindCount T m ≡ T .operationCount
       go true q = let p : set sOP ≡ m = cc in rw (← p)
       go false q = let z : _≡_ {A = ℕ} 0 1 = cc in absurd (omega arith)
-
--- The kinds of the parts of a term that has one.
-some-with : (o : Option Kind) (f : Kind → Option Kind) (l : Kind) → with o f ≡ some l → (k : Kind) × (o ≡ some k) × (f k ≡ some l)
-some-with none f l e = let z : _≡_ {A = ℕ} 0 1 = cc in absurd (omega arith)
-some-with (some k) f l e = (k, refl, e)
 
 module _ (T : Tables) (sound : Sound T) (σ : Choices) (c : List ℕ) where
   -- The items of the variables that a term names are of their kinds.
@@ -247,3 +245,12 @@ pub full-items : (T : Tables) → Sound T → (ρ : Rule) (c : List ℕ)
 full-items T sound ρ c h v l =
     all-good T sound (ruleVars [] ρ) c (full-at (inSet T (ruleVars [] ρ)) c (length (ruleVars [] ρ)) h) [] (ruleVars [] ρ) refl (rule-ordered [] ρ tt)
     (λ u m. absurd (omega arith)) v l
+
+-- Every variable of an accepted rule has a kind, a set or a collection, and under a full choice an item of it.
+pub accepted-items : (T : Tables) → Sound T → (s : Bytes) (ρ : Rule) → refusal s ≡ none → ruleOf s ≡ some ρ
+    → (c : List ℕ) → fullOn (inSet T (ruleVars [] ρ)) (variables (length (ruleVars [] ρ))) c ≡ true
+    → (v : ℕ) → v < length (ruleVars [] ρ)
+    → (k : Kind) × (kind (setOf (ruleVars [] ρ) v) ≡ some k) × (countable k ≡ true) × (getD c v 0 < kindCount T k)
+accepted-items T sound s ρ e h c full v l =
+    let q = accepted-choosable s ρ e h v l in
+    (q .is, q .has, q .many, full-items T sound ρ c full v l (q .is) (q .has))
