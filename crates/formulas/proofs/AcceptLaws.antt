@@ -10,12 +10,12 @@ use lib.Dec.{ltb, leb}
 use lib.ListN.{length}
 use borrow.Author.Tests.{leb-true}
 use Rattle.answers.specs.declared.Refusal.{Refusal}
-use Rattle.answers.specs.declared.Refusal.the-variants.{RuleLength, Deep, NotARule, Unkind, Choices}
+use Rattle.answers.specs.declared.Refusal.the-variants.{RuleLength, Deep, NotARule}
 use Rattle.syntax.specs.Bytes.{Bytes}
 use Rattle.syntax.specs.Rule.{Rule, ruleText, ruleVars, ruleOf}
 use Rattle.syntax.proofs.RuleLaws.{RuleFits, rule-text}
-use Rattle.rules.specs.Kind.{ruleKinds}
 use Rattle.rules.specs.Accept.{deep, treeRefusal, refusal}
+use Rattle.rules.proofs.AcceptLaws.{tree-few}
 
 pub record Accepted (s : Bytes) : Type 0 where
   pub rule : Rule
@@ -24,17 +24,6 @@ pub record Accepted (s : Bytes) : Type 0 where
   pub numbers : RuleFits rule
   pub short : length s ≤ 256
   pub few : length (ruleVars [] rule) ≤ 8
-
-tree-few : (ρ : Rule) → treeRefusal ρ ≡ none → length (ruleVars [] ρ) ≤ 8
-unfolding treeRefusal
-tree-few ρ e = go (ruleKinds ρ) (leb (length (ruleVars [] ρ)) 8) refl e
-  where
-    go : (k b : Bool) → leb (length (ruleVars [] ρ)) 8 ≡ b
-        → _≡_ {A = Option Refusal} (elim k [ false ↦ some Unkind | true ↦ elim b [ false ↦ some Choices | true ↦ none ] ]) none
-        → length (ruleVars [] ρ) ≤ 8
-    go false b q e = let z : _≡_ {A = ℕ} 0 1 = cc in absurd (omega arith)
-    go true false q e = let z : _≡_ {A = ℕ} 0 1 = cc in absurd (omega arith)
-    go true true q e = leb-true _ _ q
 
 pub accepted-gives : (s : Bytes) → refusal s ≡ none → Accepted s
 unfolding refusal

@@ -31,7 +31,8 @@ use Rattle.texts.proofs.WrittenLaws.{none-written}
 use Rattle.verdicts.specs.declared.Verdict.{Verdict}
 use Rattle.verdicts.specs.Verdict.{acceptedVerdict, tablesVerdict, verdictOf}
 use Rattle.sheets.specs.Line.{lineText, numbered}
-use Rattle.sheets.specs.Sheet.{countUp, orderOf, ruleVerdict, only, unlessLong, sheetBy, sheetOf, sheetLine}
+use Rattle.walks.specs.Order.{upFrom}
+use Rattle.sheets.specs.Sheet.{orderOf, ruleVerdict, only, unlessLong, sheetBy, sheetOf, sheetLine}
 use Rattle.sheets.specs.Orders.{Counted}
 use Rattle.sheets.proofs.SheetLaws.{judged-none, judged-some, no-place}
 
@@ -67,14 +68,14 @@ count-refused p q =
 
 -- The order 1, 2, ..
 
-take-up : (n m i : ℕ) → n ≤ m → take n (countUp i m) ≡ countUp i n
-unfolding countUp
+take-up : (n m i : ℕ) → n ≤ m → take n (upFrom i m) ≡ upFrom i n
+unfolding upFrom
 take-up zero m i h = refl
 take-up (suc n) zero i h = absurd (omega arith)
 take-up (suc n) (suc m) i h = ap (λ (l : List ℕ). i ∷ l) (take-up n m (suc i) (omega arith))
 
-eight : countUp 1 8 ≡ 1 ∷ 2 ∷ 3 ∷ 4 ∷ 5 ∷ 6 ∷ 7 ∷ 8 ∷ []
-unfolding countUp
+eight : upFrom 1 8 ≡ 1 ∷ 2 ∷ 3 ∷ 4 ∷ 5 ∷ 6 ∷ 7 ∷ 8 ∷ []
+unfolding upFrom
 eight = refl
 
 pub verdict-is : (tables : Bytes) {rule : Bytes} {n : ℕ} {v : Verdict} (T : Tables) → Counted rule n → tablesOf tables ≡ taken T
@@ -82,7 +83,7 @@ pub verdict-is : (tables : Bytes) {rule : Bytes} {n : ℕ} {v : Verdict} (T : Ta
 unfolding verdictOf tablesVerdict acceptedVerdict ruleVerdict
 verdict-is tables {rule} {n} T k t e = e ∙ rw (t, ← eight, take-up n 8 1 (k .few)) (go (refusal rule) (k .order))
   where
-    go : (r : Option Refusal) → (r ≡ none → countUp 1 n ≡ orderOf (ruleOf rule)) → acceptedVerdict T r rule (countUp 1 n) ≡ acceptedVerdict T r rule (orderOf (ruleOf rule))
+    go : (r : Option Refusal) → (r ≡ none → upFrom 1 n ≡ orderOf (ruleOf rule)) → acceptedVerdict T r rule (upFrom 1 n) ≡ acceptedVerdict T r rule (orderOf (ruleOf rule))
     go none f = ap (acceptedVerdict T none rule) (f refl)
     go (some e) f = refl
 

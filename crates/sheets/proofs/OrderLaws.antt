@@ -2,29 +2,22 @@
 -- Assumes nothing.
 use mathlib.Core.Path.{_≡_, refl, sym, ap, _∙_}
 use mathlib.Core.Bool.{Bool, true, false, cond}
-use mathlib.Core.List.{[], _∷_}
 use mathlib.Core.Option.{Option, none, some}
-use Prim.Native.Nat.{ℕ, zero, suc}
+use Prim.Native.Nat.{ℕ}
 use native.Mathlib.Omega.{arith}
 use lib.Dec.{eqb, ltb}
-use lib.ListN.{length}
 use Rattle.answers.specs.declared.Refusal.{Refusal}
 use Rattle.answers.specs.declared.Refusal.the-variants.{Disordered}
 use Rattle.syntax.specs.Bytes.{Bytes}
-use Rattle.syntax.specs.Rule.{Rule, ruleVars, ruleOf}
+use Rattle.syntax.specs.Rule.{Rule, ruleOf}
 use Rattle.rules.specs.Accept.{refusal}
 use Rattle.rules.proofs.AcceptLaws.{tree-few, accepted-rule, accepted-tree, refused-early}
 use Rattle.tables.specs.Tables.{Tables}
-use Rattle.walks.specs.Order.{variablesOf, upFrom}
+use Rattle.walks.specs.Order.{variablesOf}
 use Rattle.verdicts.specs.declared.Outcome.the-variants.{Refused, Held, Idle, Broken}
 use Rattle.verdicts.specs.Verdict.{outcomeOf, fullCount, breakingCount, verdictAlong, orderVerdict, treeVerdict, acceptedVerdict}
 use Rattle.verdicts.proofs.VerdictLaws.{turn-order}
-use Rattle.sheets.specs.Sheet.{countUp, orderOf, ruleVerdict}
-
-up-from : (n i : ℕ) → countUp i n ≡ upFrom i n
-unfolding countUp upFrom
-up-from zero i = refl
-up-from (suc n) i = ap (λ (l : Bytes). i ∷ l) (up-from n (suc i))
+use Rattle.sheets.specs.Sheet.{orderOf, ruleVerdict}
 
 no-refusal : (full breaking : ℕ) (e : Refusal) → outcomeOf full breaking ≡ Refused e → ⊥
 unfolding outcomeOf
@@ -41,7 +34,7 @@ module _ (T : Tables) (rule : Bytes) (ok : refusal rule ≡ none) where
   unfolding ruleVerdict acceptedVerdict treeVerdict orderVerdict orderOf
   judged-in-turn ρ h =
       let few = tree-few ρ (accepted-tree rule ρ ok h) in
-      rw (ok, h, up-from (length (ruleVars [] ρ)) 1, turn-order T ρ few)
+      rw (ok, h, turn-order T ρ few)
 
   -- it is broken, idle or held as its counts say,
   pub outcome-in-turn : (ρ : Rule) → ruleOf rule ≡ some ρ → ruleVerdict T rule .outcome ≡ outcomeOf (fullCount T ρ) (breakingCount T ρ)

@@ -6,9 +6,10 @@ use Prim.Native.Nat.{ℕ, _≤_}
 use Rattle.syntax.specs.Bytes.{Bytes}
 use Rattle.syntax.specs.Rule.{ruleOf}
 use Rattle.rules.specs.Accept.{refusal}
-use Rattle.sheets.specs.Sheet.{countUp, orderOf}
+use Rattle.walks.specs.Order.{upFrom}
+use Rattle.sheets.specs.Sheet.{orderOf}
 
 -- n variables: those of the rule, where it is accepted.
 pub record Counted (rule : Bytes) (n : ℕ) : Type 0 where
   pub few : n ≤ 8
-  pub order : refusal rule ≡ none → countUp 1 n ≡ orderOf (ruleOf rule)
+  pub order : refusal rule ≡ none → upFrom 1 n ≡ orderOf (ruleOf rule)

@@ -13,18 +13,15 @@ use Rattle.rules.specs.Accept.{refusal}
 use Rattle.tables.specs.Tables.{Tables}
 use Rattle.tables.specs.Reading.{Reading, turned, taken, tablesOf}
 use Rattle.texts.specs.Pieces.{lines}
+use Rattle.walks.specs.Order.{upFrom}
 use Rattle.verdicts.specs.declared.Verdict.{Verdict}
 use Rattle.verdicts.specs.Verdict.{acceptedVerdict}
 use Rattle.sheets.specs.Line.{numbered, lineText}
 
 -- "The order is 1, 2, ..": one byte for each variable; no rule, no variables.
-unfoldable pub countUp : ℕ → ℕ → Bytes
-countUp i zero = []
-countUp i (suc n) = i ∷ countUp (suc i) n
-
 unfoldable pub orderOf : Option Rule → Bytes
 orderOf none = []
-orderOf (some ρ) = countUp 1 (length (ruleVars [] ρ))
+orderOf (some ρ) = upFrom 1 (length (ruleVars [] ρ))
 
 -- The verdict on one line of the rules.
 unfoldable pub ruleVerdict : Tables → Bytes → Verdict

@@ -18,7 +18,9 @@ use Rattle.syntax.proofs.ArenaLaws.{base-small, fn-range, two-range, one-parts,
 use Rattle.rules.proofs.NodeLaws.{lt-or-le}
 use Rattle.values.specs.Values.{value, variableOf}
 use Rattle.values.specs.Sets.{namesIn}
-use Rattle.values.specs.Nodes.{World, Fed, ValueAt, StepAt, Stored, Levels, Following, Linked}
+use Rattle.values.specs.Nodes.{World, ValueAt}
+use Rattle.values.specs.Levels.{Levels, Following, Linked}
+use Rattle.values.specs.Cache.{Fed, StepAt, Stored}
 use Rattle.values.proofs.ReadsLaws.{or-left, or-right}
 use Rattle.values.proofs.NodeLaws.{left-below, right-below, term-small}
 use Rattle.values.proofs.LevelLaws.{level-below}

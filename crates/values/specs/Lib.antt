@@ -4,3 +4,5 @@ pub mod Truth
 pub mod Sets
 pub mod Counts
 pub mod Nodes
+pub mod Levels
+pub mod Cache

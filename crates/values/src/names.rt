@@ -5,7 +5,8 @@ ghost use lib.ListN.{length, getD};
 ghost use Rattle.syntax.specs.Term.{Choices};
 ghost use Rattle.syntax.specs.Arena.{Tidy};
 ghost use Rattle.words.specs.Words.{has};
-ghost use Rattle.values.specs.Nodes.{NamesAt, Level, Levels, Chained, Variables, Named};
+ghost use Rattle.values.specs.Nodes.{NamesAt, Variables, Named};
+ghost use Rattle.values.specs.Levels.{Level, Levels, Chained};
 
 // The word of the variables that the term of node k names.
 fn named(nodes: &[u32], n: usize, vars: &[u32], k: usize) -> u64

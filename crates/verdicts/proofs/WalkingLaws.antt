@@ -25,7 +25,9 @@ use Rattle.walks.proofs.OrderLaws.{at, after-at}
 use Rattle.walks.proofs.StepLaws.{upto-none, upto-in, upto-out, upto-all, room}
 use Rattle.values.specs.Values.{value}
 use Rattle.values.specs.Sets.{setOf, inSet, names, breaks}
-use Rattle.values.specs.Nodes.{Ready, Variables, Level, Levels, Chained, Climbs, Settles, Stored}
+use Rattle.values.specs.Nodes.{Ready, Variables}
+use Rattle.values.specs.Levels.{Level, Levels, Chained, Climbs}
+use Rattle.values.specs.Cache.{Settles, Stored}
 use Rattle.values.proofs.LevelLaws.{stored-other}
 use Rattle.values.proofs.NamesLaws.{holds-at}
 use Rattle.verdicts.specs.Judging.{Leaf, Ends, Case, Lent, Listed, InTurn, Settled, Next, WalkedFrom, UptoFrom}

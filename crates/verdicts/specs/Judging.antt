@@ -22,7 +22,9 @@ use Rattle.walks.specs.Share.{shareOf}
 use Rattle.verdicts.specs.Verdict.{outcomeOf, orderVerdict, acceptedVerdict}
 use Rattle.verdicts.specs.declared.Verdict.{Verdict}
 use Rattle.values.specs.Sets.{inSet, names, breaks}
-use Rattle.values.specs.Nodes.{Ready, Variables, World, Levels, Chained, Valued, Stored}
+use Rattle.values.specs.Nodes.{Ready, Variables, World}
+use Rattle.values.specs.Levels.{Levels, Chained}
+use Rattle.values.specs.Cache.{Valued, Stored}
 
 -- The tables T and the rule ρ are what the slices hold.
 pub record Case (ts ns : List ℕ) (n : ℕ) (ks vs : List ℕ) (root : ℕ) (T : Tables) (ρ : Rule) : Type 0 where

@@ -1,0 +1,51 @@
+-- What a cache has of the nodes' values, and what is shown by it.
+-- Internal: contracts of entry points do not speak of it. Assumes nothing.
+use mathlib.Core.Path.{_≡_}
+use mathlib.Core.Bool.{Bool}
+use mathlib.Core.List.{List}
+use Prim.Native.Nat.{ℕ, _+_, _/_, _%_, _<_, _≤_}
+use lib.ListN.{length, getD}
+use Rattle.tables.specs.Tables.{Tables}
+use Rattle.syntax.specs.Term.{Term, Choices}
+use Rattle.syntax.specs.Rule.{Test, Clause, Rule}
+use Rattle.syntax.specs.Arena.{Holds, HoldsTest, HoldsClause, HoldsRule}
+use Rattle.values.specs.Values.{value}
+use Rattle.values.specs.Truth.{testTrue, clauseTrue, ruleTrue}
+use Rattle.values.specs.Nodes.{World, ValueAt}
+use Rattle.values.specs.Levels.{Levels, Linked, Following}
+
+-- The cache has, under the choice c, the values of the terms at node k's left and right, where its operation is of them.
+pub record Fed (T : Tables) (σ : Choices) (c ns cache : List ℕ) (k : ℕ) : Type 0 where
+  pub left : 9 ≤ getD ns k 0 % 256 → (getD ns k 0 % 256 ≡ 16 → ⊥) → (a : Term) → Holds ns (getD ns k 0 / 256 % 4096) a
+      → getD cache (getD ns k 0 / 256 % 4096) 0 ≡ value T σ c a
+  pub right : 18 ≤ getD ns k 0 % 256 → (a : Term) → Holds ns (getD ns k 0 / 1048576) a → getD cache (getD ns k 0 / 1048576) 0 ≡ value T σ c a
+
+-- So r is the value of node k's term where the cache has what stands right below it.
+abbrev pub StepAt : List ℕ → List ℕ → ℕ → List ℕ → List ℕ → List ℕ → ℕ → List ℕ → ℕ → Type 0
+StepAt ts ns n ks vs c k cache r = (T : Tables) (σ : Choices) → World ts ns n ks vs T σ → (a : Term) → Holds ns k a → Fed T σ c ns cache k → r ≡ value T σ c a
+
+-- The cache has, under the choice c, the value of each term of the first n nodes.
+abbrev pub Valued : List ℕ → ℕ → List ℕ → Tables → Choices → List ℕ → Type 0
+Valued ns n cache T σ c = (i : ℕ) → i < n → (a : Term) → Holds ns i a → getD cache i 0 ≡ value T σ c a
+
+-- What is shown of a node under each choice for which the cache has the values: r says whether its test, clause or rule is true.
+module _ (ns : List ℕ) (n : ℕ) (cache : List ℕ) (k : ℕ) where
+  abbrev pub TestAt : Bool → Type 0
+  TestAt r = (T : Tables) (σ : Choices) (c : List ℕ) → Valued ns n cache T σ c → (p : Test) → HoldsTest ns k p → r ≡ testTrue T σ c p
+
+  abbrev pub ClauseAt : Bool → Type 0
+  ClauseAt r = (T : Tables) (σ : Choices) (c : List ℕ) → Valued ns n cache T σ c → (q : Clause) → HoldsClause ns k q → r ≡ clauseTrue T σ c q
+
+  abbrev pub TruthAt : Bool → Type 0
+  TruthAt r = (T : Tables) (σ : Choices) (c : List ℕ) → Valued ns n cache T σ c → (ρ : Rule) → HoldsRule ns k ρ → r ≡ ruleTrue T σ c ρ
+
+-- The cache has, under the choice c, the value of each node's term whose level is below the depth.
+pub record Stored (ts ns : List ℕ) (n : ℕ) (ks vs c cache levels : List ℕ) (depth : ℕ) : Type 0 where
+  pub long : n ≤ length cache
+  pub holds : (k : ℕ) → k < n → getD levels k 0 < depth → ValueAt ts ns n ks vs c k (getD cache k 0)
+
+-- After the nodes of a chain are evaluated, the cache has one level more.
+abbrev pub Settles : List ℕ → List ℕ → ℕ → List ℕ → List ℕ → List ℕ → List ℕ → ℕ → List ℕ → List ℕ → Type 0
+Settles ts ns n ks vs c next from before after =
+    (order levels : List ℕ) (d : ℕ) → Levels ns n vs order levels → Linked n levels next → Following n levels d 0 from
+    → Stored ts ns n ks vs c before levels d → Stored ts ns n ks vs c after levels (d + 1)
