@@ -3,14 +3,12 @@
 use mathlib.Core.Path.{_≡_, refl, ap, sym, _∙_}
 use mathlib.Core.List.{[], _++_}
 use mathlib.Core.Option.{Option, none, some}
-use mathlib.Core.Bool.{Bool, true, false}
+use mathlib.Core.Bool.{true}
 use mathlib.Core.Logic.{_↔_}
 use Prim.Native.Nat.{ℕ, _≤_}
 use native.Mathlib.Omega.{arith}
-use lib.Dec.{leb}
 use lib.ListN.{length}
-use borrow.Author.Tests.{le-leb}
-use Rattle.answers.specs.Answer.{Answer, refused, wrote, ifRoom, lent}
+use Rattle.answers.specs.Answer.{refused, wrote, lent}
 use Rattle.answers.specs.declared.Refusal.the-variants.{NoRulesFormula}
 use Rattle.answers.proofs.AnswerLaws.{lent-wrote, lent-fits}
 use Rattle.syntax.specs.Bytes.{Bytes, ascii}

@@ -1,10 +1,10 @@
 -- What it says of the tables, the rule and the order that judging writes a verdict.
 -- Assumes nothing.
-use mathlib.Core.Path.{_≡_, refl, ap, sym, _∙_}
+use mathlib.Core.Path.{_≡_, refl, ap, _∙_}
 use mathlib.Core.List.{List, [], _∷_, _++_}
 use mathlib.Core.Option.{Option, none, some}
 use mathlib.Core.Bool.{Bool, true, false, cond}
-use Prim.Native.Nat.{ℕ, zero, suc, _+_, _≤_, _<_, _/_, _%_}
+use Prim.Native.Nat.{ℕ, zero, suc, _≤_, _<_, _/_}
 use native.Mathlib.Omega.{arith}
 use lib.Dec.{eqb, ltb}
 use mathlib.Core.Logic.{_↔_}
@@ -20,7 +20,7 @@ use Rattle.tables.specs.Reading.{Reading, turned, taken, tablesOf}
 use Rattle.syntax.specs.Bytes.{Bytes}
 use Rattle.syntax.specs.Rule.{Rule, ruleVars, ruleOf}
 use Rattle.rules.specs.Accept.{refusal}
-use Rattle.formulas.proofs.AcceptLaws.{Accepted, accepted-gives}
+use Rattle.formulas.proofs.AcceptLaws.{accepted-gives}
 use Rattle.walks.specs.Order.{variablesOf, isOrder}
 use Rattle.walks.specs.Walk.{bytesOf}
 use Rattle.values.specs.Sets.{names}

@@ -1,10 +1,9 @@
 -- Laws of the nodes: what a node holds, it holds alone and for ever; a node is found again in one place; its parts stand below it.
 -- Assumes nothing.
-use mathlib.Core.Path.{_≡_, refl, sym, ap, ap₂, subst, _∙_}
-use mathlib.Core.Bool.{Bool, true, false}
+use mathlib.Core.Path.{_≡_, refl, sym, ap, ap₂, _∙_}
 use mathlib.Core.List.{List, [], _∷_}
 use mathlib.Core.Logic.{⊎-elim}
-use Prim.Native.Nat.{ℕ, zero, suc, _+_, _*_, _-_, _/_, _%_, _<_, _≤_}
+use Prim.Native.Nat.{ℕ, suc, _+_, _*_, _-_, _/_, _%_, _<_, _≤_}
 use native.Mathlib.Nat.{eq-or-lt-of-le}
 use native.Mathlib.Omega.{arith}
 use lib.ListN.{length, getD, set, length-set}
@@ -12,8 +11,8 @@ use lib.Seq.{getD-set-same, getD-set-other}
 use Rattle.syntax.specs.Term.{Base, bU, bR, bOP, bOBJ, bP, bS, bCR, bCP, bCU, Fn, user, roles, roles*, sessions, permissions}
 use Rattle.syntax.specs.Term.{permissions*, object, Op, operations, meet, join, Term, base, call, oe, ao, two, Choices}
 use Rattle.syntax.specs.Rule.{number, count, Test, member, alike, empty, sized, Clause, plain, when, Rule, last, also}
-use Rattle.syntax.specs.Arena.{baseOp, fnOp, oeOp, aoOp, twoOp, None, One, Numbered, Both, Holds, HoldsTest, HoldsClause, HoldsRule, HoldsAll, Apart, hasTwo, Low, Down, Tidy}
-use Rattle.syntax.specs.Reading.{Arena, mk, Stays, Knows}
+use Rattle.syntax.specs.Arena.{baseOp, fnOp, oeOp, aoOp, twoOp, None, One, Numbered, Both, Holds, HoldsTest, HoldsClause, HoldsRule, HoldsAll, Apart, Low, Down, Tidy}
+use Rattle.syntax.specs.Reading.{Arena, Stays, Knows}
 
 -- The numbers of operations.
 

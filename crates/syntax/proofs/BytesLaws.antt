@@ -1,13 +1,13 @@
 -- Laws of texts: taking apart a reading that gave something, and reading a fixed text that was written.
 -- Assumes nothing.
-use mathlib.Core.Path.{_≡_, refl, ap, sym, _∙_}
+use mathlib.Core.Path.{_≡_, refl}
 use mathlib.Core.List.{List, [], _∷_, _++_}
-use mathlib.Core.Bool.{Bool, true, false, _&&_, cond, and-eq-true-iff}
-use Prim.Native.Nat.{ℕ, suc, zero}
+use mathlib.Core.Bool.{Bool, true, false, and-eq-true-iff}
+use Prim.Native.Nat.{ℕ}
 use native.Mathlib.Omega.{arith}
 use borrow.Author.Tests.{eqb-true, eq-eqb}
 use lib.Dec.{eqb}
-use Rattle.syntax.specs.Bytes.{Bytes, ascii, Read, fail, got, Reader, next, onlyIf, skip, begins, place, branch, either, scan, same}
+use Rattle.syntax.specs.Bytes.{Bytes, Read, fail, got, Reader, next, onlyIf, skip, branch, either, scan, same}
 
 -- The laws: taking a reading that gave something apart.
 
@@ -82,13 +82,3 @@ same-gives (x ∷ s) [] e = cc
 same-gives (x ∷ s) (y ∷ t) e =
     let w : (eqb x y ≡ true) × (same s t ≡ true) = and-eq-true-iff (eqb x y) (same s t) .0 e in
     cc (eqb-true x y (w .0), same-gives s t (w .1))
-
--- A chain of tests for the names of a list, one after the other.
-
-pub place-on : {A : Type 0} (sp : A → Bytes) (x : A) (xs : List A) (k : ℕ) (s : Bytes) → begins (sp x) s ≡ false → place sp (x ∷ xs) k s ≡ place sp xs (suc k) s
-unfolding place
-place-on sp x xs k s e = rw e
-
-pub place-here : {A : Type 0} (sp : A → Bytes) (x : A) (xs : List A) (k : ℕ) (s : Bytes) → begins (sp x) s ≡ true → place sp (x ∷ xs) k s ≡ k
-unfolding place
-place-here sp x xs k s e = rw e

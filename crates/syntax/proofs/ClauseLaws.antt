@@ -3,17 +3,16 @@
 use mathlib.Core.Path.{_≡_, refl, sym, ap, subst, _∙_}
 use mathlib.Core.List.{List, [], _∷_, _++_}
 use mathlib.Core.Logic.{⊎-elim}
-use Prim.Native.Nat.{ℕ, zero, suc, _+_, _*_, _-_, _<_, _≤_}
+use Prim.Native.Nat.{ℕ, suc, _+_, _*_, _-_, _<_, _≤_}
 use native.Mathlib.Nat.{eq-or-lt-of-le}
-use native.Mathlib.Numerals.{add-one}
 use native.Mathlib.Omega.{arith}
 use lib.ListN.{length, getD, drop, set, length-set, length-append, drop-of-length-le, List·getD-append, List·getD-eq-default}
 use lib.Seq.{drop-cons, getD-set-same, getD-set-other, getD-append-seam}
-use Rattle.syntax.specs.Bytes.{Bytes, ascii, Read, fail, got, Reader, next, skip}
+use Rattle.syntax.specs.Bytes.{Bytes, ascii, Read, fail, got, next, skip}
 use Rattle.syntax.specs.Term.{Choices}
 use Rattle.syntax.specs.Rule.{Clause, Rule, last, also, readClause, readRule}
 use Rattle.syntax.specs.Arena.{Both, HoldsClause, HoldsRule, hasTwo, Tidy}
-use Rattle.syntax.specs.Reading.{Arena, mk, Stays, Fresh, Interned, Put, put, Knows, Ready, Found, Agree, noThing, someThing, graft, Listed}
+use Rattle.syntax.specs.Reading.{Arena, mk, Stays, Fresh, Interned, Put, put, Knows, Ready, Found, Agree, someThing, graft, Listed}
 use Rattle.syntax.specs.Reading.{Collected, Collects, noClause, someClauses, Joinable, JoinedAt, Joined, joined}
 use Rattle.syntax.specs.declared.arena.Place.{Place}
 use Rattle.syntax.specs.declared.arena.Place.the-variants.{Nothing, Got}

@@ -3,23 +3,21 @@
 use mathlib.Core.Path.{_≡_, refl, sym, ap, subst, _∙_}
 use mathlib.Core.List.{List, [], _∷_, _++_}
 use mathlib.Core.Option.{Option, none, some}
-use Prim.Native.Nat.{ℕ, zero, suc, _+_, _*_, _-_, _<_, _≤_}
+use Prim.Native.Nat.{ℕ, zero, suc, _+_, _-_, _<_, _≤_}
 use native.Mathlib.Numerals.{add-one}
 use native.Mathlib.Omega.{arith}
 use borrow.Author.Tests.{eq-eqb, ne-eqb}
-use lib.ListN.{length, getD, drop, take, set, length-take, length-drop, drop-of-length-le, length-set}
+use lib.ListN.{length, getD, drop, take, set, drop-of-length-le}
 use lib.Seq.{drop-cons, take-suc-set}
-use Rattle.syntax.specs.Bytes.{Bytes, ascii, Read, fail, got, Reader, next, skip, onlyIf, branch, either}
+use Rattle.syntax.specs.Bytes.{Bytes, ascii, Read, fail, got, Reader, next, skip, either}
 use Rattle.syntax.specs.Term.{Term, Choices, readTerm}
 use Rattle.syntax.specs.Rule.{Rule, readRule, readFormula, whole}
-use Rattle.syntax.specs.Arena.{Holds, HoldsRule, HoldsAll, Tidy}
-use Rattle.syntax.specs.Reading.{Arena, mk, Stays, Knows, Ready, Found, Agree, noThing, someThing, chosenSet, Rooted, Reads, noRule, someRule}
+use Rattle.syntax.specs.Arena.{Holds, HoldsRule, HoldsAll}
+use Rattle.syntax.specs.Reading.{Arena, mk, Knows, Found, chosenSet, Rooted, Reads, noRule, someRule}
 use Rattle.syntax.specs.declared.Whole.{Whole}
 use Rattle.syntax.specs.declared.Whole.the-variants.{Nothing as NoRoot, Root}
-use Rattle.syntax.specs.declared.arena.Place.{Place}
-use Rattle.syntax.specs.declared.arena.Place.the-variants.{Nothing, Got}
 use Rattle.syntax.proofs.BytesLaws.{next-agree, next-next}
-use Rattle.syntax.proofs.ArenaLaws.{knows-later, all-later}
+use Rattle.syntax.proofs.ArenaLaws.{knows-later}
 use Rattle.syntax.proofs.NameLaws.{Hit}
 
 -- A whole text.

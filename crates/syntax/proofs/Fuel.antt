@@ -1,8 +1,8 @@
 -- The bound of `readTerm` does not matter once it is the number of bytes: any two such bounds read alike. Assumes nothing.
-use mathlib.Core.Path.{_≡_, refl, ap, sym, _∙_}
-use mathlib.Core.List.{List, [], _∷_, _++_}
+use mathlib.Core.Path.{_≡_, refl, ap, sym}
+use mathlib.Core.List.{[], _∷_}
 use mathlib.Core.Option.{Option, none, some}
-use Prim.Native.Nat.{ℕ, suc, zero, _+_, _≤_, _<_}
+use Prim.Native.Nat.{ℕ, suc, zero, _≤_, _<_}
 use native.Mathlib.Omega.{arith}
 use lib.ListN.{length, length-append}
 use Rattle.syntax.specs.Bytes.{Bytes, ascii, Read, fail, got, Reader, skip, scan, either}

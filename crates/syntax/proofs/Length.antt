@@ -1,11 +1,10 @@
 -- No formula of an accepted rule passes 4,096 bytes: 7 bytes of it for each 4 of the rule, in the rule and in each of 8 quantifiers. Assumes nothing.
-use mathlib.Core.Path.{_≡_, refl, ap, sym, _∙_}
-use mathlib.Core.List.{List, [], _∷_, _++_}
+use mathlib.Core.List.{[], _∷_, _++_}
 use mathlib.Core.Option.{Option, none, some}
-use Prim.Native.Nat.{ℕ, suc, zero, _+_, _*_, _≤_, _<_}
+use Prim.Native.Nat.{ℕ, _*_, _≤_}
 use native.Mathlib.Omega.{arith}
 use lib.ListN.{length, length-append}
-use Rattle.syntax.specs.Bytes.{Bytes, ascii}
+use Rattle.syntax.specs.Bytes.{Bytes}
 use Rattle.syntax.specs.Term.{Term, base, call, oe, ao, two, operations, meet, join, Choices, digitFrom, digit, text, oeText, aoText, spell, spellMiddle}
 use Rattle.syntax.specs.Rule.{Count, number, count, Test, member, alike, empty, sized, Clause, plain, when, Rule, last, also}
 use Rattle.syntax.specs.Rule.{countText, testText, clauseText, ruleText, add, vars, countVars, testVars, clauseVars, ruleVars, quantifiers, formula}

@@ -1,24 +1,22 @@
 -- Laws of names at a place: a fixed text that stands there or not, a chain of tests for the names of a list, numbers, choices.
 -- Assumes nothing.
 use mathlib.Core.Path.{_≡_, refl, sym, ap, _∙_}
-use mathlib.Core.Bool.{Bool, true, false, cond}
+use mathlib.Core.Bool.{Bool, true, false}
 use mathlib.Core.List.{List, [], _∷_, _++_}
-use mathlib.Core.Option.{Option, none, some}
-use Prim.Native.Nat.{ℕ, zero, suc, _+_, _*_, _-_, _/_, _%_, _<_, _≤_}
+use mathlib.Core.Option.{none, some}
+use Prim.Native.Nat.{ℕ, zero, suc, _+_, _-_, _<_, _≤_}
 use native.Mathlib.Numerals.{add-one}
 use native.Mathlib.Omega.{arith}
-use borrow.Author.Tests.{eq-eqb, ne-eqb, lt-ltb, le-ltb, eqb-true}
-use lib.Dec.{eqb, ltb}
+use borrow.Author.Tests.{eq-eqb, ne-eqb}
 use lib.ListN.{length, getD, drop, length-drop, length-append, drop-of-length-le}
 use lib.Seq.{drop-cons, drop-drop, drop-append-seam}
-use Rattle.syntax.specs.Bytes.{Bytes, Read, fail, got, skip, begins, isGot, branch, either, scan, onlyIf}
+use Rattle.syntax.specs.Bytes.{Bytes, Read, fail, got, skip, begins, isGot, either, scan}
 use Rattle.syntax.specs.Term.{Term, Choices, namedFrom, known}
-use Rattle.syntax.specs.Rule.{digits, down, readNumber}
 use Rattle.syntax.specs.Arena.{Holds, HoldsAll}
 use Rattle.syntax.specs.Reading.{Stands, Signed, Named, noName, someName, Choice, Chosen, noChoice, someChoice, Arena, Knows}
 use Rattle.syntax.specs.declared.names.Spelled.{Spelled}
 use Rattle.syntax.specs.declared.names.Spelled.the-variants.{Unknown, Name}
-use Rattle.syntax.proofs.BytesLaws.{never, skip-gives}
+use Rattle.syntax.proofs.BytesLaws.{skip-gives}
 
 -- A fixed text w that stands at `at`.
 

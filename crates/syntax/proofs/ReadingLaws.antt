@@ -1,25 +1,24 @@
 -- What each way out of the reader of terms gives: what was read, or that nothing is there, and what the nodes hold.
 -- Assumes nothing.
 use mathlib.Core.Path.{_≡_, refl, sym, ap, subst, _∙_}
-use mathlib.Core.Bool.{Bool, true, false, cond}
+use mathlib.Core.Bool.{Bool, true, false}
 use mathlib.Core.List.{List, [], _∷_}
-use Prim.Native.Nat.{ℕ, zero, suc, _+_, _*_, _-_, _/_, _%_, _<_, _≤_}
+use Prim.Native.Nat.{ℕ, suc, _+_, _*_, _-_, _%_, _<_, _≤_}
 use native.Mathlib.Omega.{arith}
 use borrow.Author.Tests.{lt-leb, eq-eqb, ne-eqb}
-use lib.Dec.{eqb, ltb, leb}
 use lib.ListN.{length, getD, drop}
-use Rattle.syntax.specs.Bytes.{Bytes, ascii, Read, fail, got, Reader, next, skip, branch, either, scan}
+use Rattle.syntax.specs.Bytes.{Bytes, ascii, Read, fail, got, Reader, next, skip, either, scan}
 use Rattle.syntax.specs.Term.{Base, Op, operations, meet, join, Term, base, call, oe, ao, two, Choices, Head, isBase, isCall, isOE}
-use Rattle.syntax.specs.Term.{isAO, isOperations, isBracket, isChoice, spell, heads, isMeet, isJoin, isLess, spellMiddle, middles}
+use Rattle.syntax.specs.Term.{isAO, isOperations, isBracket, isChoice, spell, heads, spellMiddle, middles}
 use Rattle.syntax.specs.Term.{known, closed, second, inner, readTerm}
-use Rattle.syntax.specs.Arena.{baseOp, fnOp, oeOp, aoOp, twoOp, None, One, Numbered, Both, Holds, hasTwo, Low, Down, Tidy}
+use Rattle.syntax.specs.Arena.{baseOp, twoOp, None, One, Numbered, Both, Holds, hasTwo, Down, Tidy}
 use Rattle.syntax.specs.Reading.{Signed, headOp, Choice, Arena, mk, Stays, Fresh, Interned, Put, put, Knows, Ready, Found, Agree, noThing}
 use Rattle.syntax.specs.Reading.{someThing, Makes, Joint, pair, away, jointOp, spellJoint, joints, choice, less, ending, paired}
 use Rattle.syntax.specs.declared.arena.Place.{Place}
 use Rattle.syntax.specs.declared.arena.Place.the-variants.{Nothing, Got}
 use Rattle.syntax.proofs.BytesLaws.{next-agree}
-use Rattle.syntax.proofs.ArenaLaws.{base-small, fn-range, two-range, stays-refl, stays-trans, holds-later, knows-later, Parts, parts}
-use Rattle.syntax.proofs.NameLaws.{Hit, Meant, meant}
+use Rattle.syntax.proofs.ArenaLaws.{base-small, fn-range, two-range, stays-refl, stays-trans, holds-later, knows-later, parts}
+use Rattle.syntax.proofs.NameLaws.{Hit, meant}
 
 -- What a reader answered.
 

@@ -1,19 +1,17 @@
 -- What is written is read back, and what is read was so written: the laws of rules and formulas. Assumes nothing.
-use mathlib.Core.Path.{_≡_, refl, ap, sym, subst, _∙_}
-use mathlib.Core.List.{List, [], _∷_, _++_, append-assoc, append-nil}
-use mathlib.Core.Option.{Option, none, some}
-use mathlib.Core.Bool.{Bool, true, false}
+use mathlib.Core.Path.{_≡_, refl, sym, subst, _∙_}
+use mathlib.Core.List.{[], _∷_, _++_, append-assoc, append-nil}
+use mathlib.Core.Option.{some}
 use mathlib.Core.Logic.{_⊎_, inl, inr}
-use Prim.Native.Nat.{ℕ, suc, zero, _+_, _≤_, _<_, _/_, _%_, _*_}
+use Prim.Native.Nat.{ℕ, suc, zero, _+_, _≤_, _<_, _/_, _%_}
 use native.Mathlib.Omega.{arith}
 use native.Mathlib.Decide.{decLt, ℕ-discrete}
-use lib.Dec.{eqb, ltb}
 use lib.ListN.{length, length-append}
-use borrow.Author.Tests.{eqb-true, eq-eqb, ne-eqb, lt-ltb, le-ltb}
+use borrow.Author.Tests.{ne-eqb, lt-ltb, le-ltb}
 use Rattle.syntax.specs.Bytes.{Bytes, ascii, Read, fail, got, next, skip, scan, either}
 use Rattle.syntax.proofs.BytesLaws.{never, next-case, skip-gives, skip-own}
 use Rattle.syntax.proofs.BytesLaws.{scan-gives, either-case, either-own, either-on}
-use Rattle.syntax.specs.Term.{Term, two, Choices, digit, text, readTerm}
+use Rattle.syntax.specs.Term.{Term, Choices, text, readTerm}
 use Rattle.syntax.proofs.TermLaws.{read-text, text-read, text-long, bar-free, brace-free}
 use Rattle.syntax.specs.Rule.{Cmp, lt, le, gt, ge, eq, ne, is, isnt, Count, number, count, Test, member, alike, empty, sized, Clause}
 use Rattle.syntax.specs.Rule.{plain, when, Rule, last, also, spellCmp, digits, countText, testText, clauseText, ruleText, ruleVars}

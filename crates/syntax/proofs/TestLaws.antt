@@ -2,23 +2,20 @@
 -- Assumes nothing.
 use mathlib.Core.Path.{_≡_, refl, sym, ap, subst, _∙_}
 use mathlib.Core.Bool.{Bool, true, false}
-use mathlib.Core.List.{List, [], _∷_}
-use mathlib.Core.Logic.{⊎-elim}
-use Prim.Native.Nat.{ℕ, zero, suc, _+_, _*_, _-_, _<_, _≤_}
-use native.Mathlib.Decide.{decLt}
+use mathlib.Core.List.{List}
+use Prim.Native.Nat.{ℕ, suc, _+_, _*_, _-_, _<_, _≤_}
 use native.Mathlib.Omega.{arith}
 use borrow.Author.Tests.{lt-leb, le-leb, le-ltb}
 use lib.ListN.{length, drop}
-use Rattle.syntax.specs.Bytes.{Bytes, ascii, Read, fail, got, Reader, next, skip, branch, either, scan}
+use Rattle.syntax.specs.Bytes.{Bytes, ascii, fail, got, next, skip, either, scan}
 use Rattle.syntax.specs.Term.{Term, Choices, readTerm}
-use Rattle.syntax.specs.Rule.{Cmp, lt, le, gt, ge, eq, ne, Sign, is, isnt, Count, number, count, Test, member, alike, empty, sized, Clause, plain}
-use Rattle.syntax.specs.Rule.{when, Rule, last, also, Between, isIn, isSign, spellCmp, cmps, spellBetween, betweens, readNumber, readCount}
+use Rattle.syntax.specs.Rule.{Cmp, lt, le, gt, ge, eq, ne, Sign, is, isnt, number, count, Test, member, alike, empty, sized, plain}
+use Rattle.syntax.specs.Rule.{when, last, also, Between, isIn, isSign, spellCmp, cmps, spellBetween, betweens, readNumber, readCount}
 use Rattle.syntax.specs.Rule.{readSecond, readTest, readClause, readRule}
-use Rattle.syntax.specs.Arena.{memberOp, alikeOp, emptyOp, cmpNumber, Both, Holds, HoldsTest, HoldsClause, HoldsRule, hasTwo}
+use Rattle.syntax.specs.Arena.{alikeOp, emptyOp, cmpNumber, Both, Holds, HoldsTest, HoldsClause, hasTwo}
 use Rattle.syntax.specs.Reading.{Stands, Signed, itself, betweenOp, Arena, Fresh, Put, Ready, Found, Agree, counted, sizedTest, relatedTest}
-use Rattle.syntax.specs.Reading.{Stays}
 use Rattle.syntax.specs.declared.arena.Place.{Place}
-use Rattle.syntax.proofs.ArenaLaws.{stays-refl, stays-trans, holds-later, test-later, clause-later, rule-later}
+use Rattle.syntax.proofs.ArenaLaws.{stays-refl, stays-trans, holds-later, test-later}
 use Rattle.syntax.proofs.NameLaws.{Hit, hit, miss}
 use Rattle.syntax.proofs.ReadingLaws.{put-found, agree-from, fresh-two, fresh-number, fresh-pair, one-node, both-node, number-node}
 use Rattle.syntax.proofs.RuleLaws.{number-small}
@@ -186,9 +183,6 @@ module _ (n : ℕ) (σ : Choices) {s : Bytes} {at : ℕ} where
       on : relatedTest n σ (drop at s) ≡ readSecond n σ (f .thing) (x .thing) (drop y s)
       unfolding relatedTest next
       on = rw (f .reads, x .is)
-
-      pub empty-fits : r ≡ true → y + 2 ≤ length s
-      empty-fits e′ = second-empty n σ (x .thing) (f .thing) emptied e′ (x .fits) .fits
 
       pub empty-fresh : {vars : List ℕ} → Ready s at vars a → Fresh b (o + 2) i 0
       empty-fresh g =

@@ -5,7 +5,7 @@ use mathlib.Core.List.{List, [], _∷_, _++_}
 use Prim.Native.Nat.{ℕ, zero, suc, _+_, _/_, _%_, _<_}
 use native.Mathlib.Omega.{arith}
 use native.Mathlib.Numerals.{add-one}
-use lib.ListN.{length, set, length-set, length-append}
+use lib.ListN.{length, set, length-set}
 use lib.Seq.{set-comm}
 use Rattle.words.specs.Words.{itemOf}
 use Rattle.tables.specs.Reads.{put, withNames}
@@ -39,9 +39,6 @@ put-both ws a b i xs ys x y p q l =
     let e : set (put (put ws a xs) b ys) (a + i) x ≡ put (put ws a (xs ++ (x ∷ []))) b ys =
     put-below (put ws a xs) b (a + i) ys x l ∙ ap (λ (v : List ℕ). put v b ys) (rw (← p) (put-more ws a xs x)) in
     rw e (rw (← q) (put-more (put ws a (xs ++ (x ∷ []))) b ys y))
-
-pub length-more : (xs : List ℕ) (x i : ℕ) → length xs ≡ i → length (xs ++ (x ∷ [])) ≡ i + 1
-length-more xs x i q = omega (arith, length-append xs (x ∷ []))
 
 pub tabulate-more : (n : ℕ) (f : ℕ → ℕ) → tabulate (suc n) f ≡ tabulate n f ++ (f n ∷ [])
 unfolding tabulate

@@ -6,12 +6,10 @@ use mathlib.Core.List.{List, [], _∷_}
 use mathlib.Core.Logic.{⊎-elim}
 use Prim.Native.Nat.{ℕ, zero, suc, _+_, _*_, _-_, _%_, _<_, _≤_}
 use native.Mathlib.Nat.{eq-or-lt-of-le}
-use native.Mathlib.Numerals.{add-one}
 use native.Mathlib.Omega.{arith}
 use lib.Dec.{T, eqb, ltb, lit<}
-use lib.ListN.{length, getD, drop, drop-of-length-le, List·getD-eq-default}
-use lib.Seq.{drop-cons}
-use borrow.Author.Tests.{eq-eqb, ne-eqb, lt-ltb, le-ltb}
+use lib.ListN.{length, getD, List·getD-eq-default}
+use borrow.Author.Tests.{lt-ltb, le-ltb}
 use Rattle.words.specs.Words.{itemOf}
 use Rattle.tables.specs.Tables.{Tables}
 use Rattle.tables.specs.Flat.{Fits, counts, sections, flat}
@@ -19,7 +17,7 @@ use Rattle.tables.proofs.FlatLaws.{flat-at}
 use Rattle.rules.specs.Numbers.{kindList, kindOf}
 use Rattle.rules.proofs.TableLaws.{pair}
 use Rattle.values.specs.Values.{baseCount, ofSort, oneValue}
-use Rattle.values.specs.Nodes.{baseAt, sortAt, placeIn}
+use Rattle.values.specs.Nodes.{baseAt, sortAt}
 
 -- What holds of each number below n.
 abbrev Each : (ℕ → Type 0) → ℕ → Type 0
@@ -116,20 +114,3 @@ sort-yes s k h l = ap (λ (b : Bool). b && eqb (k % 6) s) (sym (lt-ltb k 12 l)) 
 
 pub sort-no : (s k : ℕ) → s < 6 → 12 ≤ k → k < 16 → false ≡ ofSort (sortAt s) (kindOf k)
 sort-no s k h l m = ap (λ (b : Bool). b && eqb (k % 6) s) (sym (le-ltb k 12 l)) ∙ is-sort s k h m
-
--- The place of k in a list, from i on.
-module _ (s : List ℕ) (k i : ℕ) where
-  next : i < length s → drop i s ≡ getD s i 0 ∷ drop (i + 1) s
-  next h = rw (add-one, drop-cons s i 0)
-
-  pub place-end : length s ≤ i → placeIn k (drop i s) ≡ 0
-  unfolding placeIn
-  place-end h = rw (drop-of-length-le s h)
-
-  pub place-hit : i < length s → getD s i 0 ≡ k → placeIn k (drop i s) ≡ 0
-  unfolding placeIn
-  place-hit h e = rw (next h, eq-eqb (getD s i 0) k e)
-
-  pub place-miss : i < length s → (getD s i 0 ≡ k → ⊥) → placeIn k (drop i s) ≡ suc (placeIn k (drop (i + 1) s))
-  unfolding placeIn
-  place-miss h e = rw (next h, ne-eqb (getD s i 0) k e)

@@ -134,10 +134,6 @@ order-no-once names n vs p = rw p (sym (and-false (isSmall n vs)))
 pub order-length : (names : ℕ → ℕ → Bool) (n : ℕ) (vs : List ℕ) → isOrder names n vs ≡ true → length vs ≡ n
 order-length names n vs h = once-length n vs (order-once names n vs h)
 
-pub order-at : (names : ℕ → ℕ → Bool) (n : ℕ) (vs : List ℕ) → isOrder names n vs ≡ true → n ≤ 8 → (k : ℕ) → getD vs k 0 < 8
-unfolding isOrder
-order-at names n vs h l k = small-at n vs (and-left (isSmall n vs) _ h) l k
-
 pub order-small : (names : ℕ → ℕ → Bool) (n : ℕ) (vs : List ℕ) → isOrder names n vs ≡ true → (k : ℕ) → k < length vs → getD vs k 0 < n
 unfolding isOrder
 order-small names n vs h k l = small-in n vs (and-left (isSmall n vs) _ h) k l

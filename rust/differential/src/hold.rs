@@ -85,15 +85,17 @@ impl Question {
         );
     }
 
-    /// Holds the library to an answer with outputs of its length L, of L - 1, of 0 and of more.
+    /// Holds the library to an answer with outputs of its length L, of L - 1, of 0 and of more, each
+    /// between guards, and again alone in its allocation, where valgrind sees a byte beyond it.
     pub fn hold_all(&self, expected: &Answer<Vec<u8>>, random: &mut Random) {
         let long = expected
             .as_ref()
             .map_or(random.below(64), |bytes| bytes.len());
         let more = long + 1 + random.below(40);
         for length in [long, long.saturating_sub(1), 0, more] {
-            let guard = [0, 16][random.below(2)];
-            self.hold(expected, length, guard);
+            for guard in [16, 0] {
+                self.hold(expected, length, guard);
+            }
         }
     }
 }

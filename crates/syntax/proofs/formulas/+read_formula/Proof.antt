@@ -13,7 +13,7 @@ use Rattle.syntax.proofs.ArenaLaws.{stays-refl}
 use Rattle.syntax.proofs.NameLaws.{hit, miss}
 use Rattle.syntax.proofs.ReadingLaws.{as-none, as-some, agree-from, ready-at}
 use Rattle.syntax.proofs.FormulaLaws.{formula-open, formula-rule, formula-full, formula-lost, formula-more, knows-more}
-use Prim.Native.Nat.{ℕ, _<_, _+_, _-_}
+use Prim.Native.Nat.{ℕ, _<_, _-_}
 use borrow.Fn.Kinds.{In}
 use borrow.Fn.PlainCycle.{Measures, is, falls, and}
 use Rattle.syntax.proofs.formulas.read_formula.Reads as read-formula

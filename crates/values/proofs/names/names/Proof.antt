@@ -11,9 +11,6 @@ use Rattle.values.specs.Nodes.{Variables, Named}
 use Rattle.values.proofs.NamesLaws.{holds-at, named-none, named-more}
 use Rattle.values.proofs.names.names.Statement.{statement}
 use Rattle.values.proofs.names.names.Tie as tie
-use Rattle.values.proofs.names.names.Reads as reads
-use Rattle.values.proofs.names.names.Lts as lts
-use Rattle.values.proofs.names.named.Reads as named-reads
 
 abbrev Inv-loop : tie.InvT-loop
 Inv-loop nodes n vars words₀ v₀ words v = (v ≤ length vars) × (length words ≡ 8) × ((σ : Choices) → Variables nodes n vars σ → Named v words σ)

@@ -4,8 +4,6 @@ use borrow.Author.Tests.{eq-eqb, ne-eqb}
 use Rattle.values.specs.Nodes.{emptyAt}
 use Rattle.values.proofs.truth.empty.Statement.{statement}
 use Rattle.values.proofs.truth.empty.Tie as tie
-use Rattle.values.proofs.truth.empty.Reads as reads
-use Rattle.values.proofs.truth.empty.Lts as lts
 
 returns : tie.Need-returns
 unfolding emptyAt

@@ -9,9 +9,6 @@ use Rattle.values.specs.Nodes.{relatedAt}
 use borrow.Author.Needs.{needs}
 use Rattle.values.proofs.truth.related.Statement.{statement}
 use Rattle.values.proofs.truth.related.Tie as tie
-use Rattle.values.proofs.truth.related.Reads as reads
-use Rattle.values.proofs.truth.related.Lts as lts
-use Rattle.words.proofs.meet.Reads as meet-reads
 
 meet-requires : tie.Need-meet-requires
 meet-requires c κs = search needs
