@@ -2,6 +2,7 @@
 // Nodes, kinds and variables are slices as crate rules makes them; a choice has an item for each variable.
 mod calls;
 mod items;
+pub mod levels;
 pub mod names;
 pub mod terms;
 pub mod truth;

@@ -113,8 +113,8 @@ pub fn whole(
     requires { ⌜ Lent (now t) (now nodes) n (now kinds) (now vars) root × Listed (now vars) (now order) × InTurn (now nodes) n (now vars) (now order) ⌝ }
     ensures { λ r. ⌜ Walks (now (t .entry)) (now (nodes .entry)) n (now (kinds .entry)) (now (vars .entry)) root (now (order .entry)) (length (now (order .entry))) nothingChosen r ⌝ }
 {
-    let levels = values::names::levels(nodes, n, vars, order);
-    let chains = values::names::chain(&levels, n);
+    let levels = values::levels::levels(nodes, n, vars, order);
+    let chains = values::levels::chain(&levels, n);
     let first = chains.first;
     let next = chains.next;
     let none = [255u8; 8];

@@ -1,4 +1,4 @@
--- `values::names::levels` meets its contract. The invariant: the levels of the first k nodes are right.
+-- `values::levels::levels` meets its contract. The invariant: the levels of the first k nodes are right.
 -- Assumes nothing.
 use mathlib.Core.Path.{_≡_, refl, _∙_}
 use Prim.Native.Nat.{ℕ, _≤_, _<_, _-_}
@@ -6,8 +6,8 @@ use native.Mathlib.Omega.{arith}
 use lib.ListN.{length, getD, length-set}
 use Rattle.values.specs.Levels.{LevelAt}
 use Rattle.values.proofs.LevelLaws.{level-at, more-at}
-use Rattle.values.proofs.names.levels.Statement.{statement}
-use Rattle.values.proofs.names.levels.Tie as tie
+use Rattle.values.proofs.levels.levels.Statement.{statement}
+use Rattle.values.proofs.levels.levels.Tie as tie
 
 abbrev Inv-loop : tie.InvT-loop
 Inv-loop nodes n vars order found₀ k₀ found k = (k ≤ n) × (length found ≡ 256) × ((j : ℕ) → j < k → (getD found j 0 ≤ length order) × LevelAt nodes n vars order j (getD found j 0))

@@ -1,12 +1,12 @@
--- `values::names::chain` meets its contract. The invariant: the chains of the nodes from k on.
+-- `values::levels::chain` meets its contract. The invariant: the chains of the nodes from k on.
 -- Assumes nothing.
 use mathlib.Core.Path.{_≡_, refl}
 use Prim.Native.Nat.{ℕ, _+_, _-_}
 use native.Mathlib.Omega.{arith}
 use lib.ListN.{getD-replicate}
 use Rattle.values.proofs.ChainLaws.{From, from-none, from-next, from-all}
-use Rattle.values.proofs.names.chain.Statement.{statement}
-use Rattle.values.proofs.names.chain.Tie as tie
+use Rattle.values.proofs.levels.chain.Statement.{statement}
+use Rattle.values.proofs.levels.chain.Tie as tie
 
 abbrev Inv-loop : tie.InvT-loop
 Inv-loop levels n end first₀ next₀ k₀ first next k = From n levels first next k

@@ -1,12 +1,12 @@
--- `values::names::level` meets its contract. The invariant: the word has no variable of the order from i on.
+-- `values::levels::level` meets its contract. The invariant: the word has no variable of the order from i on.
 -- Assumes nothing.
 use mathlib.Core.Path.{refl, sym, _∙_}
 use Prim.Native.Nat.{_-_, _≤_}
 use native.Mathlib.Omega.{arith}
 use lib.ListN.{length}
 use Rattle.values.proofs.LevelLaws.{Beyond, level-here, level-next}
-use Rattle.values.proofs.names.level.Statement.{statement}
-use Rattle.values.proofs.names.level.Tie as tie
+use Rattle.values.proofs.levels.level.Statement.{statement}
+use Rattle.values.proofs.levels.level.Tie as tie
 
 abbrev Inv-loop : tie.InvT-loop
 Inv-loop word order i₀ i = (i ≤ length order) × Beyond order word i
