@@ -285,11 +285,7 @@ impl Encoder {
         of: Items,
         rows: &[Vec<usize>],
     ) -> Result<(), Unencodable> {
-        self.count(section, rows.len())?;
-        for (row, items) in rows.iter().enumerate() {
-            self.word(section, row, of, items)?;
-        }
-        Ok(())
+        self.rows(section, &[], of, rows)
     }
 
     /// Rows with a mark, which says that they are entered.
@@ -299,9 +295,20 @@ impl Encoder {
         of: Items,
         rows: &[Vec<usize>],
     ) -> Result<(), Unencodable> {
+        self.rows(section, &[1], of, rows)
+    }
+
+    /// The count, then each row behind its mark.
+    fn rows(
+        &mut self,
+        section: Section,
+        mark: &[u8],
+        of: Items,
+        rows: &[Vec<usize>],
+    ) -> Result<(), Unencodable> {
         self.count(section, rows.len())?;
         for (row, items) in rows.iter().enumerate() {
-            self.0.push(1);
+            self.0.extend(mark);
             self.word(section, row, of, items)?;
         }
         Ok(())
