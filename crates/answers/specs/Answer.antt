@@ -20,6 +20,15 @@ abbrev pub numberOrZero : Option Refusal → ℕ
 numberOrZero none = 0
 numberOrZero (some r) = numberOf r
 
+-- "A refusal gives its number, length 0"; "Success writes the first L bytes, returns L".
+abbrev pub answerNumber : Answer → ℕ
+answerNumber (refused r) = numberOf r
+answerNumber (wrote b) = 0
+
+abbrev pub answerLength : Answer → ℕ
+answerLength (refused r) = 0
+answerLength (wrote b) = length b
+
 -- "short sheet: lent output shorter than L": what is answered where the lent output has n bytes.
 abbrev pub ifRoom : Bool → List ℕ → Answer
 ifRoom true b = wrote b

@@ -13,15 +13,15 @@ use Rattle.answers.specs.declared.Refusal.{Refusal}
 use Rattle.answers.specs.declared.Refusal.the-variants.{NoRulesFormula}
 use Rattle.syntax.specs.Bytes.{Bytes, same}
 use Rattle.syntax.specs.Rule.{Rule, ruleText, ruleVars, formula, readFormula, whole}
-use Rattle.syntax.specs.Arena.{HoldsRule}
-use Rattle.syntax.specs.Reading.{Rooted}
+use Rattle.syntax.specs.code.Arena.{HoldsRule}
+use Rattle.syntax.specs.code.Reading.{Rooted}
 use Rattle.syntax.proofs.BytesLaws.{same-own, same-gives}
 use Rattle.rules.specs.declared.Checked.{Checked}
 use Rattle.rules.specs.declared.Checked.the-variants.{Refused as TurnedBack, Accepted as Taken}
 use Rattle.rules.specs.Accept.{refusal}
 use Rattle.rules.specs.Checked.{checkedOf}
-use Rattle.rules.specs.Parsed.{Parses}
-use Rattle.printer.specs.Printed.{Prints, Ready, formulaIn}
+use Rattle.rules.specs.code.Parsed.{Parses}
+use Rattle.printer.specs.code.Printed.{Prints, Ready, formulaIn}
 use Rattle.printer.proofs.PrintedLaws.{puts-front}
 use Rattle.printer.proofs.RuleTextLaws.{all-length}
 use Rattle.answers.specs.declared.Written.{Written}

@@ -12,11 +12,11 @@ use Rattle.answers.specs.Answer.{Answer, refused, wrote, ifRoom, lent, outputAf
 use Rattle.answers.specs.declared.Refusal.{Refusal}
 use Rattle.syntax.specs.Bytes.{Bytes, same}
 use Rattle.syntax.proofs.BytesLaws.{same-own, same-gives}
-use Rattle.printer.specs.Printed.{Puts}
+use Rattle.printer.specs.code.Printed.{Puts}
 use Rattle.answers.specs.declared.Written.{Written}
 use Rattle.answers.specs.declared.Written.the-variants.{Refused, Wrote}
-use Rattle.answers.specs.Written.{writtenOf, Answers}
-use Rattle.answers.proofs.AnswerLaws.{kept-refused}
+use Rattle.answers.specs.Written.{Answers}
+use Rattle.answers.proofs.AnswerLaws.{writtenOf, answered-case, kept-refused}
 
 -- A refusal leaves the output as it is.
 pub answers-refusal : {r : Refusal} (a : Answer) (n : ℕ) (old : Bytes) → a ≡ refused r → Answers (lent n a) old old (Refused r)
@@ -28,7 +28,7 @@ pub hands-wrote : {w old new : Bytes} {r : ℕ} → length w ≤ length old → 
 unfolding lent outputAfter
 hands-wrote {w} {old} {new} {r} h p =
     rw (le-leb (length w) (length old) h)
-    (record { result = ap Wrote (omega (arith, p .count)); output = p .bytes ∙ rw (take-all (length old) w h) })
+    (record { number = refl; size = omega (arith, p .count); output = p .bytes ∙ rw (take-all (length old) w h) })
 
 -- What was returned says what the answer is.
 
@@ -40,8 +40,8 @@ pub record Kept (a : Answer) (new : Bytes) (m : ℕ) : Type 0 where
 
 pub answers-wrote : (a : Answer) (n : ℕ) {old new : Bytes} {w : Written} {m : ℕ} → Answers (lent n a) old new w → w ≡ Wrote m → Kept a new m
 unfolding lent outputAfter
-answers-wrote (refused r) n p e = let z : _≡_ {A = ℕ} 0 1 = cc (p .result) in absurd (omega arith)
-answers-wrote (wrote b) n {old} {new} {w} {m} p e = go (leb (length b) n) (p .result) (p .output)
+answers-wrote (refused r) n p e = let z : _≡_ {A = ℕ} 0 1 = cc (answered-case p) in absurd (omega arith)
+answers-wrote (wrote b) n {old} {new} {w} {m} p e = go (leb (length b) n) (answered-case p) (p .output)
   where
     go : (x : Bool) → w ≡ writtenOf (ifRoom x b) → new ≡ outputAfter (ifRoom x b) old → Kept (wrote b) new m
     go true r o =
@@ -53,7 +53,7 @@ pub answers-refused : (a : Answer) (n : ℕ) {old new : Bytes} {w : Written} {r 
 unfolding lent
 answers-refused a n {old} {new} {w} {r} b p e h q =
     let z : lent n a ≡ wrote b = rw (q, le-leb (length b) n h) in
-    let y : _≡_ {A = ℕ} 0 1 = cc (ap writtenOf z, p .result) in
+    let y : _≡_ {A = ℕ} 0 1 = cc (ap writtenOf z, answered-case p) in
     omega arith
 
 -- Texts that are equal at every byte.

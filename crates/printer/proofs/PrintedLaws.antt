@@ -13,7 +13,7 @@ use lib.Seq.{take-append-le, drop-drop, take-nil, take-at}
 use borrow.Rule.Slice.PartAt.{part-to-end}
 use borrow.Rule.Slice.PartMut.{midOf, postOf, putMid, mid-len, same-len-mid}
 use Rattle.syntax.specs.Bytes.{Bytes}
-use Rattle.printer.specs.Printed.{Puts, Copied, Room}
+use Rattle.printer.specs.code.Printed.{Puts, Copied, Room}
 
 past : (l : Bytes) (i : ℕ) → length l ≤ i → drop i l ≡ []
 past l i h = drop-of-length-le l h

@@ -12,10 +12,10 @@ use borrow.Author.Tests.{le-leb, lt-ltb}
 use borrow.Rule.Slice.PartMut.{midOf, putMid}
 use Rattle.syntax.specs.Bytes.{Bytes, ascii}
 use Rattle.syntax.specs.Term.{Term, base, call, oe, ao, two, Choices, text, aoText, spell, isChoice, spellMiddle}
-use Rattle.syntax.specs.Arena.{Holds, HoldsAll, Down, hasTwo}
-use Rattle.syntax.specs.Reading.{Sought}
-use Rattle.printer.specs.Signs.{signOf, openOf}
-use Rattle.printer.specs.Printed.{Puts, Prints, Ready}
+use Rattle.syntax.specs.code.Arena.{Holds, HoldsAll, Down, hasTwo}
+use Rattle.syntax.specs.code.Reading.{Sought}
+use Rattle.printer.specs.code.Signs.{signOf, openOf}
+use Rattle.printer.specs.code.Printed.{Puts, Prints, Ready}
 use Rattle.syntax.proofs.ArenaLaws.{base-small, fn-range, two-range, opOf, holds-op}
 use Rattle.printer.proofs.PrintedLaws.{puts-as, puts-then, puts-room, room-then, room-none, puts-none}
 use Rattle.printer.proofs.TextLaws.{Shown, text-leaf, text-call, text-new, text-choice, text-others, text-two}

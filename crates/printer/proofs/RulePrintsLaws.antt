@@ -11,9 +11,9 @@ use borrow.Rule.Slice.PartMut.{midOf, putMid}
 use Rattle.syntax.specs.Bytes.{Bytes, ascii}
 use Rattle.syntax.specs.Term.{Term, Choices, text}
 use Rattle.syntax.specs.Rule.{digits, testText, clauseText, ruleText, quantifiers}
-use Rattle.syntax.specs.Arena.{Holds, HoldsTest, HoldsClause, HoldsRule}
-use Rattle.printer.specs.Signs.{signOf, cmpSignOf}
-use Rattle.printer.specs.Printed.{Prints, Ready, quantifier, quantifiersFrom, Any}
+use Rattle.syntax.specs.code.Arena.{Holds, HoldsTest, HoldsClause, HoldsRule}
+use Rattle.printer.specs.code.Signs.{signOf, cmpSignOf}
+use Rattle.printer.specs.code.Printed.{Prints, Ready, quantifier, quantifiersFrom, Any}
 use Rattle.printer.proofs.PrintedLaws.{puts-as, puts-then, room-then, room-none, puts-empty}
 use Rattle.printer.proofs.PrintsLaws.{prints-as}
 use Rattle.printer.proofs.RuleTextLaws.{test-compared, test-empty, test-number, test-count, clause-plain, clause-when, rule-last}

@@ -10,10 +10,10 @@ use Rattle.syntax.specs.Term.{Term, Choices, text}
 use Rattle.syntax.specs.Rule.{Cmp, lt, le, gt, ge, eq, ne, Sign, is, isnt, number, count, Test, member, alike, empty, sized}
 use Rattle.syntax.specs.Rule.{Clause, plain, when, Rule, last, also, spellCmp, spellBetween, isSign, digits, countText, testText, clauseText, ruleText}
 use Rattle.syntax.specs.Rule.{quantifiers}
-use Rattle.syntax.specs.Arena.{memberOp, alikeOp, emptyOp, cmpNumber, Numbered, Holds, HoldsTest, HoldsClause}
-use Rattle.syntax.specs.Arena.{HoldsRule, HoldsAll}
-use Rattle.printer.specs.Signs.{signs, signOf, cmpSigns, cmpSignOf}
-use Rattle.printer.specs.Printed.{quantifier, quantifiersFrom}
+use Rattle.syntax.specs.code.Arena.{memberOp, alikeOp, emptyOp, cmpNumber, Numbered, Holds, HoldsTest, HoldsClause}
+use Rattle.syntax.specs.code.Arena.{HoldsRule, HoldsAll}
+use Rattle.printer.specs.code.Signs.{signs, signOf, cmpSigns, cmpSignOf}
+use Rattle.printer.specs.code.Printed.{quantifier, quantifiersFrom}
 use Rattle.syntax.proofs.ArenaLaws.{Parts, parts, one-parts, both-parts}
 use Rattle.printer.proofs.TextLaws.{Shown, AtBoth}
 

@@ -10,10 +10,10 @@ use Rattle.syntax.specs.Bytes.{Bytes, ascii}
 use Rattle.syntax.specs.Term.{Base, bU, bR, bOP, bOBJ, bP, bS, bCR, bCP, bCU, Fn, user, roles, roles*, sessions, permissions}
 use Rattle.syntax.specs.Term.{permissions*, object, operations, meet, join, Term, base, call, oe, ao, two, Term≟, Choices, digitFrom, digit}
 use Rattle.syntax.specs.Term.{isBase, isCall, isChoice, spell, oeText, aoText, text}
-use Rattle.syntax.specs.Arena.{baseOp, fnOp, twoOp, One, Holds, HoldsAll, Apart}
-use Rattle.syntax.specs.Reading.{Sought}
-use Rattle.printer.specs.Signs.{signs, signOf, openOf}
-use Rattle.printer.specs.Printed.{Ready}
+use Rattle.syntax.specs.code.Arena.{baseOp, fnOp, twoOp, One, Holds, HoldsAll, Apart}
+use Rattle.syntax.specs.code.Reading.{Sought}
+use Rattle.printer.specs.code.Signs.{signs, signOf, openOf}
+use Rattle.printer.specs.code.Printed.{Ready}
 use Rattle.syntax.proofs.ArenaLaws.{base-small, fn-range, two-range, one-parts, both-parts, opOf, holds-op, holds-once, holds-one}
 
 base-sign : (b : Base) → signOf (baseOp b) ≡ spell (isBase b)

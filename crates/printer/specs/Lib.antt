@@ -1,3 +1,2 @@
 -- What the writers of terms, tests, clauses, rules and formulas leave in a sheet.
-pub mod Printed
-pub mod Signs
+pub mod code

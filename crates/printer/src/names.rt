@@ -7,8 +7,8 @@ ghost use lib.ListN.{getD};
 ghost use Rattle.syntax.specs.Bytes.{ascii};
 ghost use Rattle.syntax.specs.Term.{spell, isChoice};
 ghost use Rattle.syntax.specs.Rule.{digits};
-ghost use Rattle.printer.specs.Printed.{Puts};
-ghost use Rattle.printer.specs.Signs.{signOf, cmpSignOf, openOf};
+ghost use Rattle.printer.specs.code.Printed.{Puts};
+ghost use Rattle.printer.specs.code.Signs.{signOf, cmpSignOf, openOf};
 use crate::sheet::put;
 
 // U to CU: the operations 0 to 8.

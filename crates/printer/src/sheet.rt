@@ -2,7 +2,7 @@
 // Nothing here knows what the bytes say.
 ghost use mathlib.Core.Path.{_≡_};
 ghost use Prim.Native.Nat.{min};
-ghost use Rattle.printer.specs.Printed.{Puts};
+ghost use Rattle.printer.specs.code.Printed.{Puts};
 
 fn least(a: usize, b: usize) -> usize
     ensures { λ r. ⌜ r ≡ min a b ⌝ }

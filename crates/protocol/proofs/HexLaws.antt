@@ -10,12 +10,12 @@ use native.Mathlib.Omega.{arith}
 use borrow.Author.Tests.{lt-ltb, le-ltb, eq-eqb, ne-eqb}
 use lib.ListN.{length, take, drop, getD, set, drop-of-length-le}
 use lib.Seq.{take-suc, take-all, drop-cons}
-use Rattle.texts.specs.Written.{Written}
+use Rattle.texts.specs.code.Written.{Written}
 use Rattle.texts.proofs.WrittenLaws.{none-written, written-byte, written-length}
 use Rattle.protocol.specs.declared.Taken.{Taken}
 use Rattle.protocol.specs.declared.Taken.the-variants.{Malformed, Took}
 use Rattle.protocol.specs.Hex.{hexDigit, hexValue, hexOf, fieldOf, onto, pairs, bytesOf}
-use Rattle.protocol.specs.Taken.{Bytes, no-bytes, some-bytes}
+use Rattle.protocol.specs.code.Taken.{Bytes, no-bytes, some-bytes}
 
 -- Writing
 

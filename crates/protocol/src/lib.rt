@@ -3,10 +3,10 @@
 ghost use mathlib.Core.Path.{_≡_};
 ghost use Prim.Native.Nat.{_≤_, _<_, _+_, _*_};
 ghost use lib.ListN.{length};
-ghost use Rattle.texts.specs.Written.{Written};
+ghost use Rattle.texts.specs.code.Written.{Written};
 ghost use Rattle.protocol.specs.Hex.{hexDigit, hexValue, hexOf, fieldOf, pairs, bytesOf};
 ghost use Rattle.protocol.specs.Numbers.{lengthOf};
-ghost use Rattle.protocol.specs.Taken.{Bytes, took};
+ghost use Rattle.protocol.specs.code.Taken.{Bytes, took};
 
 // A field that was read: how many bytes it gave, or what number.
 pub enum Taken {

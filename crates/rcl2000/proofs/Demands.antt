@@ -26,8 +26,7 @@ use Rattle.walks.specs.Meaning.{FirstBreaking}
 use Rattle.values.specs.Sets.{inSet, names, breaks}
 use Rattle.verdicts.specs.Verdict.{fullCount, breakingCount, firstBreaking, verdictAlong, lowestFirst, written, judged}
 use Rattle.verdicts.proofs.VerdictLaws as verdicts
-use Rattle.answers.proofs.AnswerLaws.{lent-refused, lent-fits, lent-short}
-use Rattle.rcl2000.proofs.ReplyLaws.{number-some, number-few}
+use Rattle.answers.proofs.AnswerLaws.{number-some, number-few, lent-refused, lent-fits, lent-short}
 use Rattle.rcl2000.proofs.JudgedLaws.{Admitted, verdictBytes, admitted-wrote, bytes-length, few-variables, tables-turned, rule-turned}
 use Rattle.rcl2000.proofs.JudgedLaws.{order-turned, written-full, written-breaking}
 use Rattle.rcl2000.proofs.JudgedLaws.{word-broken, word-idle, word-held}

@@ -7,39 +7,11 @@ use lib.ListN.{length}
 use Rattle.answers.specs.Refusal.{numberOf}
 use Rattle.answers.specs.Answer.{Answer, refused, wrote, reply}
 use Rattle.answers.specs.declared.Refusal.{Refusal}
-use Rattle.answers.specs.declared.Refusal.the-variants.{CutShort, Overfull, NotEntered, BadMark, NoSuchItem, Miscounted}
-use Rattle.answers.specs.declared.Refusal.the-variants.{Rank, Overreach, Twin, LeftOver, RuleLength, Deep, NotARule}
-use Rattle.answers.specs.declared.Refusal.the-variants.{Unkind, Choices, NoRulesFormula, ShortSheet, Disordered}
 use Rattle.syntax.specs.Bytes.{Bytes}
 use Rattle.answers.specs.declared.Written.{Written}
-use Rattle.answers.specs.Written.{writtenOf, Answers}
-use Rattle.rcl2000.specs.Reply.{replyOf}
-
-number-range : (r : Refusal) → (1 ≤ numberOf r) × (numberOf r ≤ 18)
-number-range CutShort = (omega arith, omega arith)
-number-range Overfull = (omega arith, omega arith)
-number-range NotEntered = (omega arith, omega arith)
-number-range BadMark = (omega arith, omega arith)
-number-range NoSuchItem = (omega arith, omega arith)
-number-range Miscounted = (omega arith, omega arith)
-number-range Rank = (omega arith, omega arith)
-number-range Overreach = (omega arith, omega arith)
-number-range Twin = (omega arith, omega arith)
-number-range LeftOver = (omega arith, omega arith)
-number-range RuleLength = (omega arith, omega arith)
-number-range Deep = (omega arith, omega arith)
-number-range NotARule = (omega arith, omega arith)
-number-range Unkind = (omega arith, omega arith)
-number-range Choices = (omega arith, omega arith)
-number-range NoRulesFormula = (omega arith, omega arith)
-number-range ShortSheet = (omega arith, omega arith)
-number-range Disordered = (omega arith, omega arith)
-
-pub number-some : (r : Refusal) → 1 ≤ numberOf r
-number-some r = number-range r .0
-
-pub number-few : (r : Refusal) → numberOf r ≤ 18
-number-few r = number-range r .1
+use Rattle.answers.specs.Written.{Answers}
+use Rattle.answers.proofs.AnswerLaws.{writtenOf, number-few, answered-case}
+use Rattle.rcl2000.specs.code.Reply.{replyOf}
 
 pub refusal-small : (r : Refusal) → 65536 * numberOf r < 4294967296
 refusal-small r = omega (arith, number-few r)
@@ -57,7 +29,7 @@ small (wrote b) h = omega (arith, h b refl)
 -- What a call that writes at most 4,096 bytes returned, and what the tracker is told.
 module _ {a : Answer} {old new : Bytes} {w : Written} (p : Answers a old new w) where
   pub reply-fits : ((b : Bytes) → a ≡ wrote b → length b ≤ 4096) → replyOf w < 4294967296
-  reply-fits h = rw (ap replyOf (p .result) ∙ written-reply a) (small a h)
+  reply-fits h = rw (ap replyOf (answered-case p) ∙ written-reply a) (small a h)
 
   pub reply-is : {r : ℕ} → r ≡ replyOf w → r ≡ reply a
-  reply-is e = e ∙ ap replyOf (p .result) ∙ written-reply a
+  reply-is e = e ∙ ap replyOf (answered-case p) ∙ written-reply a

@@ -1,2 +1,2 @@
 -- The tracker's calls.
-pub mod Reply
+pub mod code

@@ -6,7 +6,7 @@ ghost use lib.ListN.{length};
 ghost use Rattle.answers.specs.Answer.{lent, reply, outputAfter};
 ghost use Rattle.formulas.specs.Formulas.{reduced, rebuiltAnswer};
 ghost use Rattle.verdicts.specs.Verdict.{judged};
-ghost use Rattle.rcl2000.specs.Reply.{replyOf};
+ghost use Rattle.rcl2000.specs.code.Reply.{replyOf};
 use answers::Written;
 
 // The tracker's number of what was written.

@@ -9,11 +9,11 @@ use lib.ListN.{length, getD, drop, length-append, drop-of-length-le}
 use lib.Seq.{drop-cons}
 use Rattle.syntax.specs.Term.{Choices}
 use Rattle.syntax.specs.Rule.{Rule, ruleText, ruleVars, formula}
-use Rattle.syntax.specs.Arena.{HoldsAll, HoldsRule}
+use Rattle.syntax.specs.code.Arena.{HoldsAll, HoldsRule}
 use Rattle.syntax.proofs.Closed.{quantifiersIn, formula-in}
-use Rattle.syntax.specs.Reading.{mk, Knows}
-use Rattle.rules.specs.Thing.{term, rule}
-use Rattle.rules.specs.Lengths.{capped, Measured, quantifierLength, FormulaLength}
+use Rattle.syntax.specs.code.Reading.{mk, Knows}
+use Rattle.rules.specs.code.Thing.{term, rule}
+use Rattle.rules.specs.code.Lengths.{capped, Measured, quantifierLength, FormulaLength}
 
 -- The lengths of the quantifiers, which are capped one by one, against those of their texts.
 quantifiers-length : (ns ls : List ℕ) (n : ℕ) (τ : Choices) → Measured ns τ n ls → (vs : List ℕ) (σ xs : Choices) → HoldsAll ns vs xs → ((i : ℕ) → i < length vs → getD vs i 0 < n) → capped (quantifierLength ls vs) ≡ capped (length (quantifiersIn τ σ xs))

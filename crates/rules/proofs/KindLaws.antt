@@ -16,13 +16,13 @@ use Rattle.syntax.specs.Term.{Base, bU, bR, bOP, bOBJ, bP, bS, bCR, bCP, bCU, F
 use Rattle.syntax.specs.Term.{Op, operations, meet, join, Term, base, call, oe, ao, two}
 use Rattle.syntax.specs.Rule.{Cmp, lt, le, gt, ge, eq, ne, Sign, is, isnt, number, count, Test, member, alike, empty, sized}
 use Rattle.syntax.specs.Rule.{Clause, plain, when, Rule, last, also}
-use Rattle.syntax.specs.Arena.{baseOp, fnOp, oeOp, aoOp, memberOp, whenOp, alsoOp, twoOp, alikeOp, emptyOp, cmpNumber, One}
-use Rattle.syntax.specs.Arena.{Holds, HoldsTest, HoldsClause, HoldsRule}
+use Rattle.syntax.specs.code.Arena.{baseOp, fnOp, oeOp, aoOp, memberOp, whenOp, alsoOp, twoOp, alikeOp, emptyOp, cmpNumber, One}
+use Rattle.syntax.specs.code.Arena.{Holds, HoldsTest, HoldsClause, HoldsRule}
 use Rattle.syntax.proofs.ArenaLaws.{base-small, two-range, Parts, none-parts, one-parts, both-parts}
 use Rattle.rules.specs.Kind.{Kind, Kind≟, holds, oneOf, baseKind, takes, makes, ofElement}
 use Rattle.rules.specs.Kind.{callKind, oneKind, othersKind, asSet, joined, twoKind, with, kind, check, countable, isMember, countKinds}
 use Rattle.rules.specs.Kind.{testKinds, clauseKinds, ruleKinds}
-use Rattle.rules.specs.Numbers.{kindList, kindOf, oneArgument, oneTable, oneNumber, setNumber, twoNumber, countableNumber, fitsNumber, nodeNumber, KindAt, Kinded}
+use Rattle.rules.specs.code.Numbers.{kindList, kindOf, oneArgument, oneTable, oneNumber, setNumber, twoNumber, countableNumber, fitsNumber, nodeNumber, KindAt, Kinded}
 use Rattle.rules.proofs.TableLaws.{left-of-and, right-of-and, entry, upto, below, pair}
 use Rattle.rules.proofs.NodeLaws.{opOf, leftOf, rightOf, numbered-parts}
 

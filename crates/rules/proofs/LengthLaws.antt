@@ -17,10 +17,10 @@ use Rattle.syntax.specs.Term.{Op, operations, meet, join, Term, base, call, oe,
 use Rattle.syntax.specs.Term.{spell, spellMiddle, oeText, aoText, text}
 use Rattle.syntax.specs.Rule.{Cmp, lt, le, gt, ge, eq, ne, Sign, is, isnt, number, count, Test, member, alike, empty, sized}
 use Rattle.syntax.specs.Rule.{Clause, plain, when, last, also, spellCmp, isSign, spellBetween, digits, countText, testText, clauseText, ruleText}
-use Rattle.syntax.specs.Arena.{baseOp, fnOp, twoOp, alikeOp, emptyOp, cmpNumber, hasTwo, One, Both, Holds, HoldsTest, HoldsClause, HoldsRule, Apart}
-use Rattle.syntax.specs.Reading.{mk, Knows, Sought}
-use Rattle.rules.specs.Thing.{Thing, term, test, clause, rule, HoldsThing, thingText}
-use Rattle.rules.specs.Lengths.{extraTable, extra, plainLength, knownLength, nodeLength, capped, Measured}
+use Rattle.syntax.specs.code.Arena.{baseOp, fnOp, twoOp, alikeOp, emptyOp, cmpNumber, hasTwo, One, Both, Holds, HoldsTest, HoldsClause, HoldsRule, Apart}
+use Rattle.syntax.specs.code.Reading.{mk, Knows, Sought}
+use Rattle.rules.specs.code.Thing.{Thing, term, test, clause, rule, HoldsThing, thingText}
+use Rattle.rules.specs.code.Lengths.{extraTable, extra, plainLength, knownLength, nodeLength, capped, Measured}
 use Rattle.rules.proofs.TableLaws.{entry}
 use Rattle.syntax.proofs.ArenaLaws.{base-small, fn-range, two-range, Parts, none-parts, one-parts, both-parts}
 use Rattle.rules.proofs.KindLaws.{alike-op, empty-op, cmp-number}

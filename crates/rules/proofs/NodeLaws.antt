@@ -9,7 +9,7 @@ use borrow.Author.Tests.{ltb-true, ltb-false}
 use mathlib.Core.Bool.{Bool, true, false}
 use mathlib.Core.Logic.{_⊎_, inl, inr}
 use native.Mathlib.Nat.{le-of-suc-le-suc, not-suc-le-zero}
-use Rattle.syntax.specs.Arena.{Numbered, hasTwo, Down, Tidy}
+use Rattle.syntax.specs.code.Arena.{Numbered, hasTwo, Down, Tidy}
 use Rattle.syntax.proofs.ArenaLaws.{Parts, parts}
 
 abbrev pub opOf : List ℕ → ℕ → ℕ

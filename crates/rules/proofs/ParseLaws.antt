@@ -15,8 +15,8 @@ use Rattle.answers.specs.declared.Refusal.{Refusal}
 use Rattle.answers.specs.declared.Refusal.the-variants.{RuleLength, Unkind, Choices}
 use Rattle.syntax.specs.Bytes.{Bytes}
 use Rattle.syntax.specs.Rule.{Rule, ruleText, ruleVars, formula, ruleOf}
-use Rattle.syntax.specs.Arena.{HoldsRule}
-use Rattle.syntax.specs.Reading.{Rooted, Reads, noRule, someRule}
+use Rattle.syntax.specs.code.Arena.{HoldsRule}
+use Rattle.syntax.specs.code.Reading.{Rooted, Reads, noRule, someRule}
 use Rattle.syntax.specs.declared.Whole.{Whole}
 use Rattle.syntax.specs.declared.Whole.the-variants.{Nothing, Root}
 use Rattle.syntax.proofs.RuleLaws.{rule-text}
@@ -28,10 +28,10 @@ use Rattle.rules.specs.declared.Found.{Found}
 use Rattle.rules.specs.declared.Found.the-variants.{Turned, Rule as Tree}
 use Rattle.rules.specs.Kind.{ruleKinds}
 use Rattle.rules.specs.Accept.{deep, treeRefusal, refusal}
-use Rattle.rules.specs.Numbers.{Kinded}
-use Rattle.rules.specs.Variables.{VarsOf}
-use Rattle.rules.specs.Lengths.{LengthsOf, FormulaLength}
-use Rattle.rules.specs.Parsed.{RuleAt, Fitted, Weighs, unfit, fit, Finds, turned, found, Parses}
+use Rattle.rules.specs.code.Numbers.{Kinded}
+use Rattle.rules.specs.code.Variables.{VarsOf}
+use Rattle.rules.specs.code.Lengths.{LengthsOf, FormulaLength}
+use Rattle.rules.specs.code.Parsed.{RuleAt, Fitted, Weighs, unfit, fit, Finds, turned, found, Parses}
 use Rattle.rules.proofs.AcceptLaws.{refuse-long, refuse-tree, tree-unkind, tree-choices, tree-fits}
 use Rattle.rules.proofs.NodeLaws.{lt-or-le}
 use Rattle.rules.proofs.VariableLaws.{listed-count}

@@ -17,7 +17,7 @@ use mir.Val.{SFits, toZ, ofZ}
 use mir.ValLaws.{toZ-ofZ}
 use borrow.Author.Tests.{lt-ltb, le-ltb, ltb-false}
 use Rattle.rules.specs.Accept.{deep}
-use Rattle.rules.specs.Surplus.{stepped, Read}
+use Rattle.rules.specs.code.Surplus.{stepped, Read}
 use Rattle.rules.proofs.NodeLaws.{lt-or-le}
 
 -- A difference hangs on nothing but the difference.

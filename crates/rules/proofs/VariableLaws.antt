@@ -15,9 +15,9 @@ use lib.Seq.{getD-take, length-take-le, take-suc-set, getD-set-same, getD-set-ot
 use borrow.Author.Tests.{eq-eqb, ne-eqb, lt-ltb, le-ltb}
 use Rattle.syntax.specs.Term.{Term, Term≟, Choices, digitFrom, digit}
 use Rattle.syntax.specs.Rule.{add}
-use Rattle.syntax.specs.Arena.{Holds, HoldsAll, Apart}
-use Rattle.syntax.specs.Reading.{Sought}
-use Rattle.rules.specs.Variables.{findFrom, Listed, Added, many, known, over, new}
+use Rattle.syntax.specs.code.Arena.{Holds, HoldsAll, Apart}
+use Rattle.syntax.specs.code.Reading.{Sought}
+use Rattle.rules.specs.code.Variables.{findFrom, Listed, Added, many, known, over, new}
 use Rattle.syntax.proofs.ArenaLaws.{holds-once, holds-one}
 use Rattle.rules.proofs.NodeLaws.{lt-or-le}
 

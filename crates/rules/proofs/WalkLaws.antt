@@ -10,9 +10,9 @@ use borrow.Author.Tests.{lt-ltb, le-ltb, le-leb, lt-leb}
 use Rattle.syntax.specs.Term.{Term, base, call, oe, ao, two, Choices}
 use Rattle.syntax.specs.Rule.{number, count, Test, member, alike, empty, sized, Clause, plain, when, last, also}
 use Rattle.syntax.specs.Rule.{add, vars, countVars, testVars, clauseVars, ruleVars}
-use Rattle.syntax.specs.Arena.{twoOp, emptyOp, alikeOp, cmpNumber, hasTwo, Both, Holds, HoldsTest, HoldsClause, HoldsRule, Apart}
-use Rattle.rules.specs.Thing.{Thing, term, test, clause, rule, HoldsThing, thingVars}
-use Rattle.rules.specs.Variables.{Listed, Walked, VarsOf, Added, many, known, over, new}
+use Rattle.syntax.specs.code.Arena.{twoOp, emptyOp, alikeOp, cmpNumber, hasTwo, Both, Holds, HoldsTest, HoldsClause, HoldsRule, Apart}
+use Rattle.rules.specs.code.Thing.{Thing, term, test, clause, rule, HoldsThing, thingVars}
+use Rattle.rules.specs.code.Variables.{Listed, Walked, VarsOf, Added, many, known, over, new}
 use Rattle.syntax.proofs.ArenaLaws.{base-small, fn-range, two-range, Parts, none-parts, one-parts, both-parts}
 use Rattle.rules.proofs.KindLaws.{alike-op, empty-op, cmp-number}
 use Rattle.rules.proofs.NodeLaws.{opOf, leftOf, rightOf, numbered-parts}

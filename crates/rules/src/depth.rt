@@ -5,7 +5,7 @@ ghost use Prim.Native.Nat.{_≤_, _<_};
 ghost use lib.ListN.{length};
 ghost use lib.Signed.{mag};
 ghost use Rattle.rules.specs.Accept.{deep};
-ghost use Rattle.rules.specs.Surplus.{stepped};
+ghost use Rattle.rules.specs.code.Surplus.{stepped};
 
 // The count of `(` less the count of `)`, with one byte more.
 fn surplus_after(b: u8, surplus: i32) -> i32

@@ -3,7 +3,7 @@
 ghost use mathlib.Core.Path.{_≡_};
 ghost use Prim.Native.Nat.{_<_, _≤_};
 ghost use lib.ListN.{length, getD};
-ghost use Rattle.rules.specs.Numbers.{oneNumber, setNumber, twoNumber, countableNumber, fitsNumber, nodeNumber, Kinded};
+ghost use Rattle.rules.specs.code.Numbers.{oneNumber, setNumber, twoNumber, countableNumber, fitsNumber, nodeNumber, Kinded};
 
 // The kind of a call of one argument: a row of 15 kinds for each of user, roles, roles*, sessions, permissions, permissions*, object, OE, AO.
 const ONE: [u8; 135] = [

@@ -5,8 +5,8 @@ use syntax::places::seek;
 ghost use mathlib.Core.Path.{_≡_};
 ghost use Prim.Native.Nat.{_<_, _≤_};
 ghost use lib.ListN.{length, getD};
-ghost use Rattle.syntax.specs.Arena.{Tidy};
-ghost use Rattle.rules.specs.Lengths.{extra, plainLength, knownLength, nodeLength, capped, LengthsOf, FormulaLength};
+ghost use Rattle.syntax.specs.code.Arena.{Tidy};
+ghost use Rattle.rules.specs.code.Lengths.{extra, plainLength, knownLength, nodeLength, capped, LengthsOf, FormulaLength};
 
 // How many bytes an operation adds to what it stands on: names with their brackets, signs, bars.
 const EXTRA: [u32; 40] = [

@@ -3,10 +3,10 @@
 ghost use mathlib.Core.Path.{_≡_};
 ghost use Prim.Native.Nat.{_<_, _≤_};
 ghost use lib.ListN.{length};
-ghost use Rattle.syntax.specs.Arena.{Tidy};
+ghost use Rattle.syntax.specs.code.Arena.{Tidy};
 ghost use Rattle.rules.specs.Accept.{refusal};
 ghost use Rattle.rules.specs.Checked.{checkedOf};
-ghost use Rattle.rules.specs.Parsed.{Weighs, Finds, Parses};
+ghost use Rattle.rules.specs.code.Parsed.{Weighs, Finds, Parses};
 use answers::Refusal;
 use syntax::Whole;
 

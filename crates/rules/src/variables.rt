@@ -3,8 +3,8 @@
 ghost use mathlib.Core.Path.{_≡_};
 ghost use Prim.Native.Nat.{_<_, _≤_};
 ghost use lib.ListN.{length};
-ghost use Rattle.syntax.specs.Arena.{Tidy, hasTwo};
-ghost use Rattle.rules.specs.Variables.{Walked, Added, VarsOf};
+ghost use Rattle.syntax.specs.code.Arena.{Tidy, hasTwo};
+ghost use Rattle.rules.specs.code.Variables.{Walked, Added, VarsOf};
 use syntax::places::seek;
 
 // The count after the node, which is put behind the others unless it is one of them.

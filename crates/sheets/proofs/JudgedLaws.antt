@@ -16,16 +16,16 @@ use Rattle.rules.specs.declared.Checked.{Checked}
 use Rattle.rules.specs.declared.Checked.the-variants.{Accepted as Accepts, Refused as Refuses}
 use Rattle.rules.specs.Accept.{refusal}
 use Rattle.rules.specs.Checked.{checkedOf}
-use Rattle.rules.specs.Parsed.{Parses}
+use Rattle.rules.specs.code.Parsed.{Parses}
 use Rattle.tables.specs.declared.Outcome.{Outcome}
 use Rattle.tables.specs.declared.Outcome.the-variants.{Refused, Accepted}
 use Rattle.tables.specs.Tables.{Tables}
 use Rattle.tables.specs.Reading.{Reading, turned, taken, tablesOf, outcomeOf}
-use Rattle.texts.specs.Written.{Written}
+use Rattle.texts.specs.code.Written.{Written}
 use Rattle.texts.specs.declared.Span.{Span}
 use Rattle.texts.specs.declared.Span.the-variants.{Missing, Found}
 use Rattle.texts.specs.Pieces.{lines}
-use Rattle.texts.specs.Spans.{Spans}
+use Rattle.texts.specs.code.Spans.{Spans}
 use Rattle.texts.proofs.SpansLaws.{missing, lies}
 use Rattle.texts.proofs.WrittenLaws.{none-written}
 use Rattle.verdicts.specs.declared.Verdict.{Verdict}
@@ -33,7 +33,7 @@ use Rattle.verdicts.specs.Verdict.{acceptedVerdict, tablesVerdict, verdictOf}
 use Rattle.sheets.specs.Line.{lineText, numbered}
 use Rattle.walks.specs.Order.{upFrom}
 use Rattle.sheets.specs.Sheet.{orderOf, ruleVerdict, only, unlessLong, sheetBy, sheetOf, sheetLine}
-use Rattle.sheets.specs.Orders.{Counted}
+use Rattle.sheets.specs.code.Orders.{Counted}
 use Rattle.sheets.proofs.SheetLaws.{judged-none, judged-some, no-place}
 
 -- Tables

@@ -11,16 +11,17 @@ use lib.ListN.{length, length-append}
 use Rattle.answers.specs.declared.Written.{Written}
 use Rattle.answers.specs.declared.Written.the-variants.{Wrote}
 use Rattle.answers.specs.Answer.{wrote, ifRoom, lent, outputAfter}
-use Rattle.answers.specs.Written.{writtenOf, Answers}
-use Rattle.texts.specs.Written.{Written as Puts}
+use Rattle.answers.specs.Written.{Answers}
+use Rattle.answers.proofs.AnswerLaws.{writtenOf, answered-case}
+use Rattle.texts.specs.code.Written.{Written as Puts}
 
 pub fits-in : {w old new : List ℕ} {n : ℕ} → Puts w old new n → Answers (lent (length old) (wrote w)) old new (Wrote n)
 unfolding lent outputAfter
-fits-in {w} {old} r = record { result = rw (r .count, le-leb (length w) (length old) (r .fits)); output = rw (le-leb (length w) (length old) (r .fits)) (r .bytes) }
+fits-in {w} {old} r = record { number = rw (le-leb (length w) (length old) (r .fits)); size = rw (le-leb (length w) (length old) (r .fits)) (r .count); output = rw (le-leb (length w) (length old) (r .fits)) (r .bytes) }
 
 pub lent-within : (w : List ℕ) {old new : List ℕ} {r : Written} {n : ℕ} → Answers (lent (length old) (wrote w)) old new r → r ≡ Wrote n → n ≤ length new
 unfolding lent outputAfter
-lent-within w {old} {new} {r} {n} l e = go (leb (length w) (length old)) (l .result) (l .output)
+lent-within w {old} {new} {r} {n} l e = go (leb (length w) (length old)) (answered-case l) (l .output)
   where
     go : (b : Bool) → r ≡ writtenOf (ifRoom b w) → new ≡ outputAfter (ifRoom b w) old → n ≤ length new
     go true a q = let m : length w ≡ n = cc in omega (arith, simp length-append at (ap length q))

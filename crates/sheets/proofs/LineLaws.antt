@@ -9,7 +9,7 @@ use borrow.Author.Tests.{eq-eqb, ne-eqb}
 use lib.ListN.{length, drop, getD, length-append, drop-of-length-le}
 use lib.Seq.{drop-cons}
 use Rattle.syntax.specs.Bytes.{ascii}
-use Rattle.texts.specs.Written.{Written}
+use Rattle.texts.specs.code.Written.{Written}
 use Rattle.texts.proofs.DecimalLaws.{digits-short}
 use Rattle.texts.proofs.WrittenLaws.{none-written}
 use Rattle.verdicts.specs.declared.Verdict.{Verdict}

@@ -9,7 +9,7 @@ use native.Mathlib.Omega.{arith}
 use lib.ListN.{getElem?}
 use Rattle.syntax.specs.Bytes.{Bytes}
 use Rattle.tables.specs.Tables.{Tables}
-use Rattle.texts.specs.Written.{Written}
+use Rattle.texts.specs.code.Written.{Written}
 use Rattle.texts.proofs.WrittenLaws.{none-written}
 use Rattle.sheets.specs.Line.{lineText}
 use Rattle.sheets.specs.Sheet.{ruleVerdict, judgedFrom, only, sheetLine}

@@ -18,10 +18,10 @@ ghost use Rattle.tables.specs.Tables.{Tables};
 ghost use Rattle.tables.specs.Reading.{taken, tablesOf};
 ghost use Rattle.answers.specs.Answer.{lent, wrote};
 ghost use Rattle.answers.specs.Written.{Answers};
-ghost use Rattle.texts.specs.Written.{Written as Puts};
+ghost use Rattle.texts.specs.code.Written.{Written as Puts};
 ghost use Rattle.sheets.specs.Line.{numbered, lineText};
 ghost use Rattle.sheets.specs.Sheet.{only, ruleVerdict, unlessLong, sheetOf, sheetLine};
-ghost use Rattle.sheets.specs.Orders.{Counted};
+ghost use Rattle.sheets.specs.code.Orders.{Counted};
 
 // The line at a place, from 1, without byte 10; no bytes at any other place.
 pub fn line(tables: &[u8], rules: &[u8], place: usize, out: &mut [u8]) -> Written

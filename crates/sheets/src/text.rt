@@ -8,7 +8,7 @@ ghost use mathlib.Core.List.{_++_};
 ghost use Prim.Native.Nat.{_≤_, _+_, _*_, _-_};
 ghost use lib.ListN.{length, drop};
 ghost use Rattle.syntax.specs.Bytes.{ascii};
-ghost use Rattle.texts.specs.Written.{Written};
+ghost use Rattle.texts.specs.code.Written.{Written};
 ghost use Rattle.sheets.specs.Line.{numbered, choicesFrom, countsOf, sharedOf, saysOf, lineText};
 
 // The line of a verdict.

@@ -11,8 +11,8 @@ use lib.Seq.{getD-set-same, getD-set-other}
 use Rattle.syntax.specs.Term.{Base, bU, bR, bOP, bOBJ, bP, bS, bCR, bCP, bCU, Fn, user, roles, roles*, sessions, permissions}
 use Rattle.syntax.specs.Term.{permissions*, object, Op, operations, meet, join, Term, base, call, oe, ao, two, Choices}
 use Rattle.syntax.specs.Rule.{number, count, Test, member, alike, empty, sized, Clause, plain, when, Rule, last, also}
-use Rattle.syntax.specs.Arena.{baseOp, fnOp, oeOp, aoOp, twoOp, None, One, Numbered, Both, Holds, HoldsTest, HoldsClause, HoldsRule, HoldsAll, Apart, Low, Down, Tidy}
-use Rattle.syntax.specs.Reading.{Arena, Stays, Knows}
+use Rattle.syntax.specs.code.Arena.{baseOp, fnOp, oeOp, aoOp, twoOp, None, One, Numbered, Both, Holds, HoldsTest, HoldsClause, HoldsRule, HoldsAll, Apart, Low, Down, Tidy}
+use Rattle.syntax.specs.code.Reading.{Arena, Stays, Knows}
 
 -- The numbers of operations.
 

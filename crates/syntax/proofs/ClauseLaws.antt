@@ -11,9 +11,9 @@ use lib.Seq.{drop-cons, getD-set-same, getD-set-other, getD-append-seam}
 use Rattle.syntax.specs.Bytes.{Bytes, ascii, Read, fail, got, next, skip}
 use Rattle.syntax.specs.Term.{Choices}
 use Rattle.syntax.specs.Rule.{Clause, Rule, last, also, readClause, readRule}
-use Rattle.syntax.specs.Arena.{Both, HoldsClause, HoldsRule, hasTwo, Tidy}
-use Rattle.syntax.specs.Reading.{Arena, mk, Stays, Fresh, Interned, Put, put, Knows, Ready, Found, Agree, someThing, graft, Listed}
-use Rattle.syntax.specs.Reading.{Collected, Collects, noClause, someClauses, Joinable, JoinedAt, Joined, joined}
+use Rattle.syntax.specs.code.Arena.{Both, HoldsClause, HoldsRule, hasTwo, Tidy}
+use Rattle.syntax.specs.code.Reading.{Arena, mk, Stays, Fresh, Interned, Put, put, Knows, Ready, Found, Agree, someThing, graft, Listed}
+use Rattle.syntax.specs.code.Reading.{Collected, Collects, noClause, someClauses, Joinable, JoinedAt, Joined, joined}
 use Rattle.syntax.specs.declared.arena.Place.{Place}
 use Rattle.syntax.specs.declared.arena.Place.the-variants.{Nothing, Got}
 use Rattle.syntax.proofs.BytesLaws.{next-agree, next-next}

@@ -12,8 +12,8 @@ use lib.Seq.{drop-cons, take-suc-set}
 use Rattle.syntax.specs.Bytes.{Bytes, ascii, Read, fail, got, Reader, next, skip, either}
 use Rattle.syntax.specs.Term.{Term, Choices, readTerm}
 use Rattle.syntax.specs.Rule.{Rule, readRule, readFormula, whole}
-use Rattle.syntax.specs.Arena.{Holds, HoldsRule, HoldsAll}
-use Rattle.syntax.specs.Reading.{Arena, mk, Knows, Found, chosenSet, Rooted, Reads, noRule, someRule}
+use Rattle.syntax.specs.code.Arena.{Holds, HoldsRule, HoldsAll}
+use Rattle.syntax.specs.code.Reading.{Arena, mk, Knows, Found, chosenSet, Rooted, Reads, noRule, someRule}
 use Rattle.syntax.specs.declared.Whole.{Whole}
 use Rattle.syntax.specs.declared.Whole.the-variants.{Nothing as NoRoot, Root}
 use Rattle.syntax.proofs.BytesLaws.{next-agree, next-next}

@@ -12,8 +12,8 @@ use lib.ListN.{length, getD, drop, length-drop, length-append, drop-of-length-le
 use lib.Seq.{drop-cons, drop-drop, drop-append-seam}
 use Rattle.syntax.specs.Bytes.{Bytes, Read, fail, got, skip, begins, isGot, either, scan}
 use Rattle.syntax.specs.Term.{Term, Choices, namedFrom, known}
-use Rattle.syntax.specs.Arena.{Holds, HoldsAll}
-use Rattle.syntax.specs.Reading.{Stands, Signed, Named, noName, someName, Choice, Chosen, noChoice, someChoice, Arena, Knows}
+use Rattle.syntax.specs.code.Arena.{Holds, HoldsAll}
+use Rattle.syntax.specs.code.Reading.{Stands, Signed, Named, noName, someName, Choice, Chosen, noChoice, someChoice, Arena, Knows}
 use Rattle.syntax.specs.declared.names.Spelled.{Spelled}
 use Rattle.syntax.specs.declared.names.Spelled.the-variants.{Unknown, Name}
 use Rattle.syntax.proofs.BytesLaws.{skip-gives}

@@ -12,7 +12,7 @@ use lib.ListN.{length, getD, drop, drop-of-length-le}
 use lib.Seq.{drop-cons}
 use Rattle.syntax.specs.Bytes.{Bytes, Read, fail, got, skip, scan}
 use Rattle.syntax.specs.Rule.{digits, down, readNumber}
-use Rattle.syntax.specs.Reading.{Named, noName, someName, digitOf, itself}
+use Rattle.syntax.specs.code.Reading.{Named, noName, someName, digitOf, itself}
 use Rattle.syntax.specs.declared.names.Spelled.the-variants.{Unknown, Name}
 use Rattle.syntax.proofs.BytesLaws.{skip-gives, either-own, either-on}
 use Rattle.syntax.proofs.RuleLaws.{digits-one, digits-two}

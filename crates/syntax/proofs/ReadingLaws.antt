@@ -11,9 +11,9 @@ use Rattle.syntax.specs.Bytes.{Bytes, ascii, Read, fail, got, Reader, ne
 use Rattle.syntax.specs.Term.{Base, Op, operations, meet, join, Term, base, call, oe, ao, two, Choices, Head, isBase, isCall, isOE}
 use Rattle.syntax.specs.Term.{isAO, isOperations, isBracket, isChoice, spell, heads, spellMiddle, middles}
 use Rattle.syntax.specs.Term.{known, closed, second, inner, readTerm}
-use Rattle.syntax.specs.Arena.{baseOp, twoOp, None, One, Numbered, Both, Holds, hasTwo, Down, Tidy}
-use Rattle.syntax.specs.Reading.{Signed, headOp, Choice, Arena, mk, Stays, Fresh, Interned, Put, put, Knows, Ready, Found, Agree, noThing}
-use Rattle.syntax.specs.Reading.{someThing, Makes, Joint, pair, away, jointOp, spellJoint, joints, choice, less, ending, paired}
+use Rattle.syntax.specs.code.Arena.{baseOp, twoOp, None, One, Numbered, Both, Holds, hasTwo, Down, Tidy}
+use Rattle.syntax.specs.code.Reading.{Signed, headOp, Choice, Arena, mk, Stays, Fresh, Interned, Put, put, Knows, Ready, Found, Agree, noThing}
+use Rattle.syntax.specs.code.Reading.{someThing, Makes, Joint, pair, away, jointOp, spellJoint, joints, choice, less, ending, paired}
 use Rattle.syntax.specs.declared.arena.Place.{Place}
 use Rattle.syntax.specs.declared.arena.Place.the-variants.{Nothing, Got}
 use Rattle.syntax.proofs.BytesLaws.{next-agree}

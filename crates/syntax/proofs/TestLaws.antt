@@ -12,8 +12,8 @@ use Rattle.syntax.specs.Term.{Term, Choices, readTerm}
 use Rattle.syntax.specs.Rule.{Cmp, lt, le, gt, ge, eq, ne, Sign, is, isnt, number, count, Test, member, alike, empty, sized, plain}
 use Rattle.syntax.specs.Rule.{when, last, also, Between, isIn, isSign, spellCmp, cmps, spellBetween, betweens, readNumber, readCount}
 use Rattle.syntax.specs.Rule.{readSecond, readTest, readClause, readRule}
-use Rattle.syntax.specs.Arena.{alikeOp, emptyOp, cmpNumber, Both, Holds, HoldsTest, HoldsClause, hasTwo}
-use Rattle.syntax.specs.Reading.{Stands, Signed, itself, betweenOp, Arena, Fresh, Put, Ready, Found, Agree, counted, sizedTest, relatedTest}
+use Rattle.syntax.specs.code.Arena.{alikeOp, emptyOp, cmpNumber, Both, Holds, HoldsTest, HoldsClause, hasTwo}
+use Rattle.syntax.specs.code.Reading.{Stands, Signed, itself, betweenOp, Arena, Fresh, Put, Ready, Found, Agree, counted, sizedTest, relatedTest}
 use Rattle.syntax.specs.declared.arena.Place.{Place}
 use Rattle.syntax.proofs.ArenaLaws.{stays-refl, stays-trans, holds-later, test-later}
 use Rattle.syntax.proofs.NameLaws.{Hit, hit, miss}

@@ -2,5 +2,4 @@
 pub mod Bytes
 pub mod Term
 pub mod Rule
-pub mod Arena
-pub mod Reading
+pub mod code

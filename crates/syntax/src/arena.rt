@@ -3,7 +3,7 @@
 ghost use mathlib.Core.Path.{_≡_};
 ghost use Prim.Native.Nat.{_+_, _*_, _<_, _≤_};
 ghost use lib.ListN.{length};
-ghost use Rattle.syntax.specs.Reading.{mk, Fresh, Put};
+ghost use Rattle.syntax.specs.code.Reading.{mk, Fresh, Put};
 use super::places::seek;
 
 // What a reader found: the node that holds it, the place behind it, and the count of nodes after it.

@@ -5,8 +5,8 @@ ghost use mathlib.Core.List.{List, []};
 ghost use lib.ListN.{length};
 ghost use Rattle.syntax.specs.Bytes.{Read};
 ghost use Rattle.syntax.specs.Rule.{Rule, whole, ruleOf, readFormula};
-ghost use Rattle.syntax.specs.Arena.{HoldsRule};
-ghost use Rattle.syntax.specs.Reading.{mk, Agree, Reads};
+ghost use Rattle.syntax.specs.code.Arena.{HoldsRule};
+ghost use Rattle.syntax.specs.code.Reading.{mk, Agree, Reads};
 
 mod arena;
 mod formulas;

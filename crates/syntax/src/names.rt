@@ -6,8 +6,8 @@ ghost use lib.ListN.{length, drop};
 ghost use Rattle.syntax.specs.Bytes.{scan};
 ghost use Rattle.syntax.specs.Term.{spell, heads, collectionHeads, callHeads, bracketHeads};
 ghost use Rattle.syntax.specs.Rule.{spellCmp, cmps, spellBetween, betweens, readNumber};
-ghost use Rattle.syntax.specs.Arena.{cmpNumber};
-ghost use Rattle.syntax.specs.Reading.{Stands, Named, headOp, spellJoint, joints, jointOp, betweenOp, itself, digitOf};
+ghost use Rattle.syntax.specs.code.Arena.{cmpNumber};
+ghost use Rattle.syntax.specs.code.Reading.{Stands, Named, headOp, spellJoint, joints, jointOp, betweenOp, itself, digitOf};
 
 // A name's number and where the bytes behind it begin, or no name.
 pub enum Spelled {

@@ -2,7 +2,7 @@
 // Nothing here knows what the numbers mean.
 ghost use Prim.Native.Nat.{_≤_};
 ghost use lib.ListN.{length};
-ghost use Rattle.syntax.specs.Reading.{Sought};
+ghost use Rattle.syntax.specs.code.Reading.{Sought};
 
 // The first index below n that has the number, or n.
 pub fn seek(list: &[u32], n: usize, number: u32) -> usize

@@ -14,7 +14,7 @@ use Rattle.words.proofs.RelationLaws.{has-image}
 use Rattle.tables.specs.Tables.{Tables}
 use Rattle.tables.specs.Checks.{allTo, implies, above, reflexive, transitive, antisymmetric, ranked, inReach}
 use Rattle.tables.specs.Flat.{Fits}
-use Rattle.tables.specs.Reads.{Below, belowAt, rankAt, reaching, Bounded}
+use Rattle.tables.specs.code.Reads.{Below, belowAt, rankAt, reaching, Bounded}
 use Rattle.tables.proofs.FlatLaws.{map-at}
 use Rattle.tables.proofs.AllLaws.{all-every, all-at, all-ext}
 

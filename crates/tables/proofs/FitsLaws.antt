@@ -16,7 +16,7 @@ use Rattle.tables.specs.Flat.{Fits}
 use Rattle.tables.specs.Reading.{Bytes, Taken, Reader, stop, took, next, refuse, front, byte, count, wordFrom, wordWithin}
 use Rattle.tables.specs.Reading.{wordRow, markedRow, sessionRow, Session, rows, section, permissions, Rights, rights, Collections, collections}
 use Rattle.tables.specs.Reading.{sections, nothingLeft, whole, taken, readingOf, tablesOf, assembled}
-use Rattle.tables.specs.Reads.{Below, Bounded}
+use Rattle.tables.specs.code.Reads.{Below, Bounded}
 
 -- Where something was taken, all that was read on the way was.
 module _ {A B : Type 0} {C : Type 0} where

@@ -10,7 +10,7 @@ use Rattle.words.specs.Words.{itemOf}
 use Rattle.tables.specs.Tables.{Tables}
 use Rattle.tables.specs.Flat.{padded, tabulate, counts, objectRows, operationRows, sections, laid, flat, Fits}
 use Rattle.tables.specs.Reading.{Session, Rights, Collections}
-use Rattle.tables.specs.Reads.{put, withSection, withSessions, withNames, withRights, withCollections, Filled}
+use Rattle.tables.specs.code.Reads.{put, withSection, withSessions, withNames, withRights, withCollections, Filled}
 use Rattle.tables.proofs.FlatLaws.{length-padded, length-tabulate}
 use Rattle.tables.proofs.SectionsLaws.{product-few}
 

@@ -16,7 +16,7 @@ use Rattle.tables.specs.Tables.{Tables}
 use Rattle.tables.specs.Checks.{ranked, inReach, apart}
 use Rattle.tables.specs.Reading.{Bytes, stop, took, next, refuse, sections, nothingLeft, whole, turned, taken, tablesOf, outcomeOf, wordsOf, Reading}
 use Rattle.tables.specs.Flat.{flat}
-use Rattle.tables.specs.Reads.{lateOf, Filled}
+use Rattle.tables.specs.code.Reads.{lateOf, Filled}
 use Rattle.tables.proofs.ReadLaws.{Got}
 use Rattle.tables.proofs.FitsLaws.{Sound, sections-sound}
 use Rattle.tables.proofs.LaidLaws.{filled-flat}

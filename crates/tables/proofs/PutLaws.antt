@@ -8,7 +8,7 @@ use native.Mathlib.Numerals.{add-one}
 use lib.ListN.{length, set, length-set}
 use lib.Seq.{set-comm}
 use Rattle.words.specs.Words.{itemOf}
-use Rattle.tables.specs.Reads.{put, withNames}
+use Rattle.tables.specs.code.Reads.{put, withNames}
 use Rattle.tables.specs.Flat.{tabulate}
 use Rattle.tables.proofs.FlatLaws.{length-tabulate}
 

@@ -18,7 +18,7 @@ use Rattle.tables.specs.declared.Step.{Step}
 use Rattle.tables.specs.declared.Step.the-variants.{Stopped, Took}
 use Rattle.tables.specs.Reading.{Bytes, Taken, stop, took, next, refuse, front, byte, count, wordFrom, wordWithin}
 use Rattle.tables.specs.Reading.{wordRow, markedRow, sessionRow}
-use Rattle.tables.specs.Reads.{Reads, stops, takes, Is, IsSession}
+use Rattle.tables.specs.code.Reads.{Reads, stops, takes, Is, IsSession}
 
 -- What the code took.
 pub record Got {A : Type 0} (s : Bytes) (Holds : A → ℕ → Type 0) (v n : ℕ) (r : Taken A) : Type 0 where

@@ -9,7 +9,7 @@ use Rattle.answers.specs.declared.Refusal.{Refusal}
 use Rattle.words.specs.Words.{itemOf}
 use Rattle.tables.specs.declared.Step.the-variants.{Took}
 use Rattle.tables.specs.Reading.{Bytes, Taken, Reader, stop, took, next, rows, Session}
-use Rattle.tables.specs.Reads.{Reads, takes, Is, IsSession, put, RowsAt, SessionsAt}
+use Rattle.tables.specs.code.Reads.{Reads, takes, Is, IsSession, put, RowsAt, SessionsAt}
 use Rattle.tables.proofs.ReadLaws.{Got}
 use Rattle.tables.proofs.PutLaws.{length-put, put-more, put-both}
 

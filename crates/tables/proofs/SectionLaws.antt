@@ -11,8 +11,8 @@ use Rattle.answers.specs.declared.Refusal.the-variants.{Miscounted}
 use Rattle.tables.specs.declared.Step.{Step}
 use Rattle.tables.specs.Reading.{Bytes, Reader, stop, next, refuse, byte, count, rows, section}
 use Rattle.tables.specs.Reading.{markedRow, permissions, Session}
-use Rattle.tables.specs.Reads.{Reads, Is, IsCount, RowsAt, SectionAt, SessionsAt, SessionSection}
-use Rattle.tables.specs.Reads.{withSection, withSessions}
+use Rattle.tables.specs.code.Reads.{Reads, Is, IsCount, RowsAt, SectionAt, SessionsAt, SessionSection}
+use Rattle.tables.specs.code.Reads.{withSection, withSessions}
 use Rattle.tables.proofs.ReadLaws.{Got, read-on}
 
 module _ (s : Bytes) (at : ℕ) {A : Type 0} (row : ℕ → Reader A) where

@@ -10,8 +10,8 @@ use Rattle.tables.specs.declared.Step.{Step}
 use Rattle.tables.specs.declared.Step.the-variants.{Took}
 use Rattle.tables.specs.Reading.{Bytes, stop, took, next, count, section, permissions, Rights, rights, Collections, collections}
 use Rattle.tables.specs.Reading.{wordRow, markedRow, sessionRow, sections, assembled}
-use Rattle.tables.specs.Reads.{Reads, stops, takes, IsCount, SectionAt, PermissionsAt, SessionSection, RightsAt, CollectionsAt, Filled}
-use Rattle.tables.specs.Reads.{withNames, withRights, withCollections}
+use Rattle.tables.specs.code.Reads.{Reads, stops, takes, IsCount, SectionAt, PermissionsAt, SessionSection, RightsAt, CollectionsAt, Filled}
+use Rattle.tables.specs.code.Reads.{withNames, withRights, withCollections}
 use Rattle.tables.proofs.ReadLaws.{Got}
 
 pub product-few : {a b : ℕ} → a ≤ 8 → b ≤ 8 → a * b ≤ 64

@@ -3,4 +3,4 @@ pub mod Tables
 pub mod Checks
 pub mod Reading
 pub mod Flat
-pub mod Reads
+pub mod code

@@ -5,7 +5,7 @@ ghost use Prim.Native.Nat.{ℕ, _+_, _≤_, _<_, _^_};
 ghost use lib.ListN.{length, take, drop};
 ghost use mathlib.Core.Bool.{_&&_};
 ghost use Rattle.tables.specs.Checks.{ranked as rankedOf, inReach as inReachOf, apart as apartOf};
-ghost use Rattle.tables.specs.Reads.{Below, rankAt, reaching, newAt, Bounded, CountsFit, lateOf};
+ghost use Rattle.tables.specs.code.Reads.{Below, rankAt, reaching, newAt, Bounded, CountsFit, lateOf};
 ghost use Rattle.tables.specs.Tables.{Tables};
 ghost use Rattle.tables.specs.Flat.{Fits, flat};
 use crate::Outcome;

@@ -8,7 +8,7 @@ use native.Mathlib.Omega.{arith}
 use borrow.Author.Tests.{lt-ltb, le-ltb}
 use lib.Dec.{ltb}
 use lib.ListN.{length, set, length-append}
-use Rattle.texts.specs.Written.{Written}
+use Rattle.texts.specs.code.Written.{Written}
 use Rattle.texts.specs.Decimal.{lastDigit, digitsTo, decimalOf}
 use Rattle.texts.proofs.WrittenLaws.{none-written, written-byte}
 

@@ -14,7 +14,7 @@ use Rattle.texts.specs.declared.Span.the-variants.{Missing, Found}
 use Rattle.texts.specs.declared.Start.{Start}
 use Rattle.texts.specs.declared.Start.the-variants.{Nowhere, At}
 use Rattle.texts.specs.Pieces.{split, onFirst}
-use Rattle.texts.specs.Spans.{Spans, no-piece, piece, Starts, no-start, start}
+use Rattle.texts.specs.code.Spans.{Spans, no-piece, piece, Starts, no-start, start}
 use Rattle.texts.proofs.PiecesLaws.{split-first, split-few, split-one}
 
 -- The first separator of s from `at` on is at e, or none is and e is the end.

@@ -7,7 +7,7 @@ use native.Mathlib.Omega.{arith}
 use lib.ListN.{length, take, drop, getD, set, length-append, length-drop, length-take, drop-of-length-le}
 use borrow.Rule.Slice.PartMut.{midOf, postOf, putMid}
 use lib.Seq.{drop-cons, set-at, take-length, take-all, take-at, drop-at, drop-drop}
-use Rattle.texts.specs.Written.{Written, over}
+use Rattle.texts.specs.code.Written.{Written, over}
 
 pub over-length : (w old : List ℕ) → length w ≤ length old → length (over w old) ≡ length old
 over-length w old h = simp (length-append, length-drop) (omega arith)

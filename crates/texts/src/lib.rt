@@ -3,10 +3,10 @@
 ghost use mathlib.Core.Path.{_≡_};
 ghost use Prim.Native.Nat.{_≤_, _<_, _+_};
 ghost use lib.ListN.{length, getElem?};
-ghost use Rattle.texts.specs.Written.{Written};
+ghost use Rattle.texts.specs.code.Written.{Written};
 ghost use Rattle.texts.specs.Decimal.{digitsTo, decimalOf};
 ghost use Rattle.texts.specs.Pieces.{lines, fields};
-ghost use Rattle.texts.specs.Spans.{Spans, Starts};
+ghost use Rattle.texts.specs.code.Spans.{Spans, Starts};
 
 // Writes the bytes of w.
 pub fn put(w: &[u8], out: &mut [u8]) -> usize

@@ -9,7 +9,7 @@ use native.Mathlib.Nat.{eq-or-lt-of-le}
 use native.Mathlib.Omega.{arith}
 use lib.ListN.{length, getD, set, length-set}
 use lib.Seq.{getD-set-same, getD-set-other}
-use Rattle.values.specs.Levels.{Following, Chained}
+use Rattle.values.specs.code.Levels.{Following, Chained}
 
 -- The chains of the nodes from k on.
 pub record From (n : ℕ) (levels first next : List ℕ) (k : ℕ) : Type 0 where

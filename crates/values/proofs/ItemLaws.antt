@@ -14,10 +14,10 @@ use Rattle.words.specs.Words.{itemOf}
 use Rattle.tables.specs.Tables.{Tables}
 use Rattle.tables.specs.Flat.{Fits, counts, sections, flat}
 use Rattle.tables.proofs.FlatLaws.{flat-at}
-use Rattle.rules.specs.Numbers.{kindList, kindOf}
+use Rattle.rules.specs.code.Numbers.{kindList, kindOf}
 use Rattle.rules.proofs.TableLaws.{pair}
 use Rattle.values.specs.Values.{baseCount, ofSort, oneValue}
-use Rattle.values.specs.Nodes.{baseAt, sortAt}
+use Rattle.values.specs.code.Nodes.{baseAt, sortAt}
 
 -- What holds of each number below n.
 abbrev Each : (ℕ → Type 0) → ℕ → Type 0

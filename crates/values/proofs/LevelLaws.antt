@@ -12,9 +12,9 @@ use lib.Seq.{getD-set-same, getD-set-other}
 use Rattle.words.specs.Words.{has}
 use Rattle.rules.proofs.NodeLaws.{lt-or-le}
 use Rattle.values.specs.Sets.{namesIn}
-use Rattle.values.specs.Nodes.{NamesAt}
-use Rattle.values.specs.Levels.{Level, LevelAt, Levels}
-use Rattle.values.specs.Cache.{Stored}
+use Rattle.values.specs.code.Nodes.{NamesAt}
+use Rattle.values.specs.code.Levels.{Level, LevelAt, Levels}
+use Rattle.values.specs.code.Cache.{Stored}
 use Rattle.values.proofs.ReadsLaws.{value-reads}
 
 -- The word has no variable of the order from i on.

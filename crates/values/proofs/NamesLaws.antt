@@ -15,10 +15,10 @@ use borrow.Author.Tests.{eq-eqb, ne-eqb}
 use Rattle.words.specs.Words.{has, itemOf, joinOf}
 use Rattle.words.proofs.WordsLaws.{has-zero, has-item, has-join}
 use Rattle.syntax.specs.Term.{Term, Choices}
-use Rattle.syntax.specs.Arena.{Holds, HoldsAll, Tidy}
+use Rattle.syntax.specs.code.Arena.{Holds, HoldsAll, Tidy}
 use Rattle.values.specs.Values.{variableOf}
 use Rattle.values.specs.Sets.{namesIn, names}
-use Rattle.values.specs.Nodes.{placeIn, Variables, Named}
+use Rattle.values.specs.code.Nodes.{placeIn, Variables, Named}
 use Rattle.values.proofs.NodeLaws.{is-base, is-call, is-one, is-others, is-two, variable-place, left-below}
 
 eqb-swap : (a b : ℕ) → eqb a b ≡ eqb b a

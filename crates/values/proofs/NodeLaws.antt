@@ -11,10 +11,10 @@ use lib.ListN.{length, getD}
 use borrow.Author.Tests.{eq-eqb, ne-eqb, le-leb, lt-ltb}
 use Rattle.syntax.specs.Term.{Base, bU, bR, bOP, bOBJ, bP, bS, bCR, bCP, bCU, Fn, user, roles, roles*, sessions, permissions}
 use Rattle.syntax.specs.Term.{permissions*, object, Op, operations, meet, join, Term, base, call, oe, ao, two, Term≟, Choices}
-use Rattle.syntax.specs.Arena.{baseOp, fnOp, twoOp, Holds, HoldsAll, hasTwo, Down, Tidy}
-use Rattle.syntax.specs.Reading.{Sought}
+use Rattle.syntax.specs.code.Arena.{baseOp, fnOp, twoOp, Holds, HoldsAll, hasTwo, Down, Tidy}
+use Rattle.syntax.specs.code.Reading.{Sought}
 use Rattle.values.specs.Values.{variableOf}
-use Rattle.values.specs.Nodes.{baseAt, fnAt, opAt, placeIn, Variables}
+use Rattle.values.specs.code.Nodes.{baseAt, fnAt, opAt, placeIn, Variables}
 use Rattle.values.proofs.ReadsLaws.{or-right}
 use Rattle.syntax.proofs.ArenaLaws.{base-small, fn-range, two-range, one-parts, both-parts, holds-once, holds-one, holds-op, opOf}
 

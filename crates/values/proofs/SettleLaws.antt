@@ -13,14 +13,14 @@ use lib.Dec.{eqb}
 use lib.Seq.{getD-set-same, getD-set-other}
 use Rattle.tables.specs.Tables.{Tables}
 use Rattle.syntax.specs.Term.{Term, base, call, oe, ao, two, Choices}
-use Rattle.syntax.specs.Arena.{Holds, Tidy}
+use Rattle.syntax.specs.code.Arena.{Holds, Tidy}
 use Rattle.syntax.proofs.ArenaLaws.{base-small, fn-range, two-range, one-parts, both-parts, holds-op, holds-one, opOf}
 use Rattle.rules.proofs.NodeLaws.{lt-or-le}
 use Rattle.values.specs.Values.{value, variableOf}
 use Rattle.values.specs.Sets.{namesIn}
-use Rattle.values.specs.Nodes.{World, ValueAt}
-use Rattle.values.specs.Levels.{Levels, Following, Linked}
-use Rattle.values.specs.Cache.{Fed, StepAt, Stored}
+use Rattle.values.specs.code.Nodes.{World, ValueAt}
+use Rattle.values.specs.code.Levels.{Levels, Following, Linked}
+use Rattle.values.specs.code.Cache.{Fed, StepAt, Stored}
 use Rattle.values.proofs.ReadsLaws.{or-left, or-right}
 use Rattle.values.proofs.NodeLaws.{left-below, right-below, term-small}
 use Rattle.values.proofs.LevelLaws.{level-below}

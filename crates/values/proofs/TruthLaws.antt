@@ -12,11 +12,11 @@ use Rattle.tables.specs.Tables.{Tables}
 use Rattle.syntax.specs.Term.{Term, Choices}
 use Rattle.syntax.specs.Rule.{Cmp, lt, le, gt, ge, eq, ne, Sign, is, isnt, number, count, Test, member, alike, empty, sized}
 use Rattle.syntax.specs.Rule.{Clause, plain, when, Rule, last, also}
-use Rattle.syntax.specs.Arena.{alikeOp, emptyOp, cmpNumber, memberOp, Numbered, Holds, HoldsTest, HoldsClause, HoldsRule}
+use Rattle.syntax.specs.code.Arena.{alikeOp, emptyOp, cmpNumber, memberOp, Numbered, Holds, HoldsTest, HoldsClause, HoldsRule}
 use Rattle.syntax.proofs.ArenaLaws.{Parts, parts, one-parts, both-parts}
 use Rattle.values.specs.Values.{value}
 use Rattle.values.specs.Truth.{compared, signed, countValue, testTrue, clauseTrue, ruleTrue}
-use Rattle.values.specs.Nodes.{cmpAt, relatedAt, emptyAt}
+use Rattle.values.specs.code.Nodes.{cmpAt, relatedAt, emptyAt}
 
 -- The numbers of the tests.
 pub record Within (low o high : ℕ) : Type 0 where

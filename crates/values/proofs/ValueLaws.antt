@@ -8,12 +8,12 @@ use lib.ListN.{length, getD}
 use Rattle.words.specs.Words.{allOf, itemOf, lessOf}
 use Rattle.tables.specs.Tables.{Tables}
 use Rattle.syntax.specs.Term.{Term, Choices}
-use Rattle.syntax.specs.Arena.{Holds, Tidy}
+use Rattle.syntax.specs.code.Arena.{Holds, Tidy}
 use Rattle.rules.specs.Kind.{kind}
-use Rattle.rules.specs.Numbers.{kindOf}
+use Rattle.rules.specs.code.Numbers.{kindOf}
 use Rattle.rules.proofs.NodeLaws.{getD-any}
 use Rattle.values.specs.Values.{baseCount, callValue, twoValue, itemIn, oneValue, value}
-use Rattle.values.specs.Nodes.{baseAt, fnAt, opAt, placeIn, World}
+use Rattle.values.specs.code.Nodes.{baseAt, fnAt, opAt, placeIn, World}
 use Rattle.values.proofs.NodeLaws.{is-base, is-call, is-one, is-others, is-two, variable-place, left-below}
 
 module _ {ts ns : List ℕ} {n : ℕ} {ks vs : List ℕ} {T : Tables} {σ : Choices} (d : Tidy ns n) (long : n ≤ length ks) (w : World ts ns n ks vs T σ) where

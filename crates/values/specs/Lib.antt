@@ -3,6 +3,4 @@ pub mod Values
 pub mod Truth
 pub mod Sets
 pub mod Counts
-pub mod Nodes
-pub mod Levels
-pub mod Cache
+pub mod code

@@ -6,9 +6,9 @@ ghost use lib.ListN.{length};
 ghost use Rattle.tables.specs.Tables.{Tables};
 ghost use Rattle.tables.specs.Flat.{Fits, flat};
 ghost use Rattle.syntax.specs.Term.{user, roles, roles*};
-ghost use Rattle.rules.specs.Numbers.{kindOf};
+ghost use Rattle.rules.specs.code.Numbers.{kindOf};
 ghost use Rattle.values.specs.Values.{callValue, twoValue};
-ghost use Rattle.values.specs.Nodes.{fnAt, opAt};
+ghost use Rattle.values.specs.code.Nodes.{fnAt, opAt};
 
 // The numbers of the sorts.
 const USERS: u8 = 0;

@@ -6,10 +6,10 @@ ghost use Rattle.words.specs.Words.{allOf};
 ghost use Rattle.tables.specs.Tables.{Tables};
 ghost use Rattle.tables.specs.Flat.{Fits, flat};
 ghost use Rattle.rules.specs.Kind.{Sort};
-ghost use Rattle.rules.specs.Numbers.{kindOf};
+ghost use Rattle.rules.specs.code.Numbers.{kindOf};
 ghost use Rattle.values.specs.Values.{baseCount, ofSort, oneValue};
 ghost use Rattle.values.specs.Truth.{compared};
-ghost use Rattle.values.specs.Nodes.{baseAt, cmpAt, sortAt};
+ghost use Rattle.values.specs.code.Nodes.{baseAt, cmpAt, sortAt};
 
 // Where the tables count users, roles, operations, objects, permissions, sessions, and the words of CR, CP, CU.
 const COUNTS: [usize; 9] = [1, 0, 3, 4, 5, 2, 6, 8, 7];

@@ -3,9 +3,9 @@
 use crate::names;
 ghost use Prim.Native.Nat.{ℕ, _<_, _≤_};
 ghost use lib.ListN.{length, getD};
-ghost use Rattle.syntax.specs.Arena.{Tidy};
+ghost use Rattle.syntax.specs.code.Arena.{Tidy};
 ghost use Rattle.words.specs.Words.{has};
-ghost use Rattle.values.specs.Levels.{Level, Levels, Chained};
+ghost use Rattle.values.specs.code.Levels.{Level, Levels, Chained};
 
 // How many variables of the order stand up to the last one that the word has.
 fn level(word: u64, order: &[u8]) -> u8

@@ -3,8 +3,8 @@ use syntax::places::seek;
 ghost use Prim.Native.Nat.{ℕ, _<_, _≤_};
 ghost use lib.ListN.{length, getD};
 ghost use Rattle.syntax.specs.Term.{Choices};
-ghost use Rattle.syntax.specs.Arena.{Tidy};
-ghost use Rattle.values.specs.Nodes.{NamesAt, Variables, Named};
+ghost use Rattle.syntax.specs.code.Arena.{Tidy};
+ghost use Rattle.values.specs.code.Nodes.{NamesAt, Variables, Named};
 
 // The word of the variables that the term of node k names.
 pub fn named(nodes: &[u32], n: usize, vars: &[u32], k: usize) -> u64

@@ -4,9 +4,9 @@ use crate::items;
 use syntax::places::seek;
 ghost use Prim.Native.Nat.{ℕ, _<_, _≤_};
 ghost use lib.ListN.{length};
-ghost use Rattle.values.specs.Nodes.{Ready};
-ghost use Rattle.values.specs.Levels.{Climbs};
-ghost use Rattle.values.specs.Cache.{StepAt, Settles};
+ghost use Rattle.values.specs.code.Nodes.{Ready};
+ghost use Rattle.values.specs.code.Levels.{Climbs};
+ghost use Rattle.values.specs.code.Cache.{StepAt, Settles};
 
 // The value of node k from those right below it, which the cache has.
 fn step(

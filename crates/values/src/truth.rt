@@ -3,9 +3,9 @@ use crate::items;
 ghost use mathlib.Core.Path.{_≡_};
 ghost use Prim.Native.Nat.{_<_, _≤_};
 ghost use lib.ListN.{length};
-ghost use Rattle.syntax.specs.Arena.{Tidy};
-ghost use Rattle.values.specs.Nodes.{relatedAt, emptyAt};
-ghost use Rattle.values.specs.Cache.{TestAt, ClauseAt, TruthAt};
+ghost use Rattle.syntax.specs.code.Arena.{Tidy};
+ghost use Rattle.values.specs.code.Nodes.{relatedAt, emptyAt};
+ghost use Rattle.values.specs.code.Cache.{TestAt, ClauseAt, TruthAt};
 
 // `@`, `=` and `!=` of two values. An element is in a set where they have an item in common.
 fn related(op: u32, a: u64, b: u64) -> bool

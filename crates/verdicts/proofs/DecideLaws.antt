@@ -23,15 +23,15 @@ use Rattle.syntax.specs.Bytes.{Bytes}
 use Rattle.rules.specs.declared.Checked.the-variants.{Refused as Unfit, Accepted}
 use Rattle.rules.specs.Accept.{refusal}
 use Rattle.rules.specs.Checked.{checkedOf}
-use Rattle.rules.specs.Parsed.{RuleAt}
+use Rattle.rules.specs.code.Parsed.{RuleAt}
 use Rattle.verdicts.specs.declared.Outcome.{Outcome}
 use Rattle.verdicts.specs.declared.Verdict.{Verdict}
 use Rattle.answers.specs.declared.Written.the-variants.{Refused as WasRefused, Wrote}
 use Rattle.verdicts.specs.Verdict.{refusedBy, orderVerdict, treeVerdict, acceptedVerdict, tablesVerdict, verdictOf, lowestFirst, written}
 use Rattle.verdicts.specs.Verdict.{answerBy, judged}
-use Rattle.verdicts.specs.Judging.{Case, Lent, Loaded}
+use Rattle.verdicts.specs.code.Judging.{Case, Lent, Loaded}
 use Rattle.answers.proofs.AnswerLaws.{kept-short}
-use Rattle.verdicts.specs.Writing.{Puts}
+use Rattle.verdicts.specs.code.Writing.{Puts}
 
 -- What the check of a rule said.
 pub checked-none : (q : Option Refusal) → checkedOf q ≡ Accepted → q ≡ none
@@ -113,7 +113,7 @@ unfolding lent outputAfter
 put-whole old new word v e l h =
     let long : length (written word v) ≡ 26 = length-written word v e in
     let yes′ : leb (length (written word v)) (length old) ≡ true = le-leb (length (written word v)) (length old) (omega arith) in
-    rw yes′ (record { result = ap Wrote (sym long); output = h ∙ ap (λ (k : ℕ). written word v ++ drop k old) (sym long) })
+    rw yes′ (record { number = refl; size = sym long; output = h ∙ ap (λ (k : ℕ). written word v ++ drop k old) (sym long) })
 
 -- What judging answers, by the verdict's word.
 pub judged-by : (b s order : Bytes) (v : Verdict) (o : Outcome) → v ≡ verdictOf b s order → v .outcome ≡ o → answerBy o v ≡ judged b s order

@@ -10,16 +10,16 @@ use Rattle.answers.specs.declared.Refusal.the-variants.{Disordered}
 use Rattle.tables.specs.Tables.{Tables}
 use Rattle.syntax.specs.Term.{Choices}
 use Rattle.syntax.specs.Rule.{Rule, ruleVars}
-use Rattle.syntax.specs.Arena.{HoldsAll}
+use Rattle.syntax.specs.code.Arena.{HoldsAll}
 use Rattle.walks.specs.Choices.{nothingChosen}
 use Rattle.walks.specs.Order.{variablesOf, isOrder, namedBy}
 use Rattle.walks.specs.declared.Tally.{Tally}
 use Rattle.walks.proofs.OrderLaws.{order-after, order-length, order-agree, length-variables-of}
 use Rattle.values.specs.Sets.{names}
-use Rattle.values.specs.Nodes.{Variables, Named}
+use Rattle.values.specs.code.Nodes.{Variables, Named}
 use Rattle.verdicts.specs.declared.Verdict.{Verdict}
 use Rattle.verdicts.specs.Verdict.{fullCount, breakingCount, firstBreaking, verdictAlong, refusedBy, orderVerdict}
-use Rattle.verdicts.specs.Judging.{Case, InTurn, WalkedFrom, ruledBy}
+use Rattle.verdicts.specs.code.Judging.{Case, InTurn, WalkedFrom, ruledBy}
 use Rattle.verdicts.proofs.VerdictLaws.{walk-full, walk-breaking, breaking-le-full, full-fits}
 
 -- As many nodes as arguments.

@@ -19,18 +19,18 @@ use Rattle.syntax.specs.Term.{Choices}
 use Rattle.syntax.specs.Rule.{Rule, ruleVars}
 use Rattle.walks.specs.Choices.{nothingChosen}
 use Rattle.walks.specs.Walk.{walk, walkFirst}
-use Rattle.walks.specs.Tally.{Joined}
+use Rattle.walks.specs.code.Tally.{Joined}
 use Rattle.walks.specs.declared.Tally.{Tally}
 use Rattle.walks.proofs.OrderLaws.{at, after-at}
 use Rattle.walks.proofs.StepLaws.{upto-none, upto-in, upto-out, upto-all, room}
 use Rattle.values.specs.Values.{value}
 use Rattle.values.specs.Sets.{setOf, inSet, names, breaks}
-use Rattle.values.specs.Nodes.{Ready, Variables}
-use Rattle.values.specs.Levels.{Level, Levels, Chained, Climbs}
-use Rattle.values.specs.Cache.{Settles, Stored}
+use Rattle.values.specs.code.Nodes.{Ready, Variables}
+use Rattle.values.specs.code.Levels.{Level, Levels, Chained, Climbs}
+use Rattle.values.specs.code.Cache.{Settles, Stored}
 use Rattle.values.proofs.LevelLaws.{stored-other}
 use Rattle.values.proofs.NamesLaws.{holds-at}
-use Rattle.verdicts.specs.Judging.{Leaf, Ends, Case, Lent, Listed, InTurn, Settled, Next, WalkedFrom, UptoFrom}
+use Rattle.verdicts.specs.code.Judging.{Leaf, Ends, Case, Lent, Listed, InTurn, Settled, Next, WalkedFrom, UptoFrom}
 
 module _ (T : Tables) (ρ : Rule) where
   -- The end of the order: one full choice.

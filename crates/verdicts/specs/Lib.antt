@@ -1,4 +1,3 @@
 -- Verdicts: what judging answers.
 pub mod Verdict
-pub mod Judging
-pub mod Writing
+pub mod code

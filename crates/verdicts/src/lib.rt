@@ -8,9 +8,9 @@ ghost use mathlib.Core.Path.{_≡_};
 ghost use lib.ListN.{length};
 ghost use Rattle.answers.specs.Answer.{lent};
 ghost use Rattle.verdicts.specs.Verdict.{verdictOf, judged};
-ghost use Rattle.verdicts.specs.Judging.{Loaded, JudgesOn};
+ghost use Rattle.verdicts.specs.code.Judging.{Loaded, JudgesOn};
 ghost use Rattle.answers.specs.Written.{Answers};
-ghost use Rattle.verdicts.specs.Writing.{Puts};
+ghost use Rattle.verdicts.specs.code.Writing.{Puts};
 
 mod ruling;
 mod sheet;

@@ -7,7 +7,7 @@ use walks::Tally;
 ghost use mathlib.Core.Path.{_≡_};
 ghost use Prim.Native.Nat.{_≤_, _^_};
 ghost use Rattle.verdicts.specs.Verdict.{outcomeOf, refusedBy};
-ghost use Rattle.verdicts.specs.Judging.{Lent, RulesOn, ruledBy};
+ghost use Rattle.verdicts.specs.code.Judging.{Lent, RulesOn, ruledBy};
 
 // A refusal has counts 0, share 255 and choice all 255.
 pub fn refused(refusal: Refusal) -> Verdict

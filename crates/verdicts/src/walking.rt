@@ -2,9 +2,9 @@
 use walks::Tally;
 ghost use Prim.Native.Nat.{_<_, _≤_};
 ghost use lib.ListN.{length};
-ghost use Rattle.syntax.specs.Arena.{Tidy};
+ghost use Rattle.syntax.specs.code.Arena.{Tidy};
 ghost use Rattle.walks.specs.Choices.{nothingChosen};
-ghost use Rattle.verdicts.specs.Judging.{Leaf, Ends, Lent, Listed, InTurn, Settled, Next, Walks};
+ghost use Rattle.verdicts.specs.code.Judging.{Leaf, Ends, Lent, Listed, InTurn, Settled, Next, Walks};
 
 // A whole choice is one full choice, which breaks the rule or not.
 fn leaf(breaks: bool, choice: [u8; 8]) -> Tally

@@ -14,7 +14,7 @@ use Rattle.words.specs.Words.{gate}
 use Rattle.walks.specs.Choices.{Sets, sumTo, each, ifBreaks, nothingChosen}
 use Rattle.walks.specs.Walk.{walk, orElse, gateO, firstTo, walkFirst, bytesOf}
 use Rattle.walks.specs.Meaning.{there}
-use Rattle.walks.specs.Tally.{Says, Walked, Upto, Joined}
+use Rattle.walks.specs.code.Tally.{Says, Walked, Upto, Joined}
 use Rattle.walks.specs.declared.Tally.{Tally}
 use Rattle.walks.proofs.SumLaws.{sum-le, gate-le}
 use Rattle.walks.proofs.PruneLaws.{walk-bound}

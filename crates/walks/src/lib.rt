@@ -5,7 +5,7 @@ ghost use Prim.Native.Nat.{ℕ, _+_, _<_, _≤_, _^_};
 ghost use lib.ListN.{length, getD, drop, take};
 ghost use Rattle.walks.specs.Order.{count, isSmall, isOnce, isFree, isAfter, isOrder, namedBy, numbered, variablesOf};
 ghost use Rattle.walks.specs.Share.{shareOf};
-ghost use Rattle.walks.specs.Tally.{Joined};
+ghost use Rattle.walks.specs.code.Tally.{Joined};
 
 // What judging carries up: full and breaking choices, and the first breaking one (255 where there is none).
 pub struct Tally {

@@ -5,7 +5,7 @@ use Prim.Native.Nat.{_≤_, _-_}
 use native.Mathlib.Omega.{arith}
 use borrow.Author.Needs.{needs}
 use lib.ListN.{length}
-use Rattle.protocol.specs.Taken.{took}
+use Rattle.protocol.specs.code.Taken.{took}
 use Rattle.protocol.proofs.NumbersLaws.{Valued, value-first, value-none, value-next, too-low, too-high, too-much, value-all}
 use Rattle.protocol.proofs.read_length.Statement.{statement}
 use Rattle.protocol.proofs.read_length.Tie as tie

@@ -4,7 +4,7 @@ use mathlib.Core.Path.{ap, sym, _∙_}
 use Prim.Native.Nat.{ℕ, _*_}
 use native.Mathlib.Omega.{arith}
 use borrow.Author.Needs.{needs}
-use Rattle.rcl2000.specs.Reply.{replyOf}
+use Rattle.rcl2000.specs.code.Reply.{replyOf}
 use Rattle.rcl2000.proofs.ReplyLaws.{refusal-small}
 use Rattle.rcl2000.proofs.number.Statement.{statement}
 use Rattle.rcl2000.proofs.number.Tie as tie

@@ -2,7 +2,7 @@
 -- Assumes nothing.
 use mathlib.Core.Path.{sym, _∙_}
 use native.Mathlib.Omega.{arith}
-use Rattle.rules.specs.Parsed.{turned}
+use Rattle.rules.specs.code.Parsed.{turned}
 use Rattle.rules.proofs.AcceptLaws.{refuse-empty, refuse-long, refuse-deep, refuse-text}
 use Rattle.rules.proofs.ParseLaws.{as-nothing, as-root, find-unfit, find-rule}
 use borrow.Author.Needs.{needs}

@@ -4,7 +4,7 @@ use mathlib.Core.Path.{refl}
 use borrow.Author.Needs.{needs}
 use Rattle.syntax.specs.Term.{spellMiddle}
 use Rattle.syntax.specs.Rule.{spellBetween}
-use Rattle.printer.specs.Signs.{signs}
+use Rattle.printer.specs.code.Signs.{signs}
 use Rattle.printer.proofs.PrintedLaws.{puts-at, above, only}
 use Rattle.printer.proofs.names.put_between.Statement.{statement}
 use Rattle.printer.proofs.names.put_between.Tie as tie

@@ -3,7 +3,7 @@
 use mathlib.Core.Path.{refl}
 use borrow.Author.Needs.{needs}
 use Rattle.syntax.specs.Term.{spell}
-use Rattle.printer.specs.Signs.{signs}
+use Rattle.printer.specs.code.Signs.{signs}
 use Rattle.printer.proofs.PrintedLaws.{puts-at, above, only}
 use Rattle.printer.proofs.names.put_call.Statement.{statement}
 use Rattle.printer.proofs.names.put_call.Tie as tie

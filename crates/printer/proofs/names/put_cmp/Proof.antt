@@ -4,7 +4,7 @@ use mathlib.Core.Path.{refl}
 use native.Mathlib.Omega.{arith}
 use borrow.Author.Needs.{needs}
 use Rattle.syntax.specs.Rule.{spellCmp}
-use Rattle.printer.specs.Signs.{cmpSigns}
+use Rattle.printer.specs.code.Signs.{cmpSigns}
 use Rattle.printer.proofs.PrintedLaws.{puts-at, above, only}
 use Rattle.printer.proofs.names.put_cmp.Statement.{statement}
 use Rattle.printer.proofs.names.put_cmp.Tie as tie

@@ -3,7 +3,7 @@
 use Prim.Native.Nat.{_-_}
 use native.Mathlib.Omega.{arith}
 use borrow.Author.Needs.{needs}
-use Rattle.printer.specs.Printed.{Copied}
+use Rattle.printer.specs.code.Printed.{Copied}
 use Rattle.printer.proofs.PrintedLaws.{copied-none, copied-next, copied-all}
 use Rattle.printer.proofs.sheet.put.Statement.{statement}
 use Rattle.printer.proofs.sheet.put.Tie as tie

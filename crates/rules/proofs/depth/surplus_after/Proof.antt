@@ -4,7 +4,7 @@ use lib.IntN.{pos, _+ℤ_, _-ℤ_}
 use mir.Syntax.{w32}
 use mir.ValLaws.{toZ-ofZ}
 use borrow.Author.Tests.{eq-eqb, ne-eqb}
-use Rattle.rules.specs.Surplus.{stepped}
+use Rattle.rules.specs.code.Surplus.{stepped}
 use Rattle.rules.proofs.SurplusLaws.{up-fits, down-fits}
 use Rattle.rules.proofs.depth.surplus_after.Statement.{statement}
 use Rattle.rules.proofs.depth.surplus_after.Tie as tie

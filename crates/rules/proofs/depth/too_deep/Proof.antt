@@ -6,7 +6,7 @@ use native.Mathlib.Omega.{arith}
 use lib.ListN.{length, getD}
 use mir.Syntax.{w32}
 use mir.Val.{toZ}
-use Rattle.rules.specs.Surplus.{Read}
+use Rattle.rules.specs.code.Surplus.{Read}
 use Rattle.rules.proofs.SurplusLaws.{read-none, read-mag, read-end, read-over, read-next, stepped-back}
 use Rattle.rules.proofs.depth.too_deep.Statement.{statement}
 use Rattle.rules.proofs.depth.too_deep.Tie as tie

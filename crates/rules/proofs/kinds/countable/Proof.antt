@@ -1,7 +1,7 @@
 -- `rules::kinds::countable`: sets and collections have the numbers 6 to 14.
 -- Assumes nothing.
 use borrow.Author.Tests.{lt-ltb, le-ltb}
-use Rattle.rules.specs.Numbers.{countableNumber}
+use Rattle.rules.specs.code.Numbers.{countableNumber}
 use Rattle.rules.proofs.kinds.countable.Statement.{statement}
 use Rattle.rules.proofs.kinds.countable.Tie as tie
 

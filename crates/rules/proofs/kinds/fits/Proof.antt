@@ -1,7 +1,7 @@
 -- `rules::kinds::fits`: each way out is one line of `fitsNumber`.
 -- Assumes nothing.
 use borrow.Author.Tests.{lt-ltb, le-ltb, eq-eqb, ne-eqb}
-use Rattle.rules.specs.Numbers.{fitsNumber}
+use Rattle.rules.specs.code.Numbers.{fitsNumber}
 use borrow.Author.Needs.{needs}
 use Rattle.rules.proofs.kinds.fits.Statement.{statement}
 use Rattle.rules.proofs.kinds.fits.Tie as tie

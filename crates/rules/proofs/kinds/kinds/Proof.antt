@@ -6,7 +6,7 @@ use Prim.Native.Nat.{_≤_, _-_}
 use native.Mathlib.Omega.{arith}
 use lib.ListN.{length, length-set}
 use denote.Ref.{now}
-use Rattle.rules.specs.Numbers.{nodeNumber, Kinded}
+use Rattle.rules.specs.code.Numbers.{nodeNumber, Kinded}
 use Rattle.rules.proofs.KindLaws.{kind-step, kind-none}
 use Rattle.rules.proofs.NodeLaws.{opOf}
 use Rattle.rules.proofs.kinds.kinds.Statement.{statement}

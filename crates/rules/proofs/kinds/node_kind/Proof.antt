@@ -1,7 +1,7 @@
 -- `rules::kinds::node_kind`: each way out is one line of `nodeNumber`.
 -- Assumes nothing.
 use borrow.Author.Tests.{lt-ltb, le-ltb}
-use Rattle.rules.specs.Numbers.{nodeNumber}
+use Rattle.rules.specs.code.Numbers.{nodeNumber}
 use borrow.Author.Needs.{needs}
 use Rattle.rules.proofs.kinds.node_kind.Statement.{statement}
 use Rattle.rules.proofs.kinds.node_kind.Tie as tie

@@ -1,7 +1,7 @@
 -- `rules::kinds::one_kind` reads the table of the calls of one argument.
 -- Assumes nothing.
 use borrow.Author.Tests.{lt-ltb, le-ltb}
-use Rattle.rules.specs.Numbers.{oneNumber, oneTable}
+use Rattle.rules.specs.code.Numbers.{oneNumber, oneTable}
 use borrow.Author.Needs.{needs}
 use Rattle.rules.proofs.kinds.one_kind.Statement.{statement}
 use Rattle.rules.proofs.kinds.one_kind.Tie as tie

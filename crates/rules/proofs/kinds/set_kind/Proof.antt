@@ -1,7 +1,7 @@
 -- `rules::kinds::set_kind`: the numbers 0 to 5 of elements become those of their sets.
 -- Assumes nothing.
 use borrow.Author.Tests.{lt-ltb, le-ltb}
-use Rattle.rules.specs.Numbers.{setNumber}
+use Rattle.rules.specs.code.Numbers.{setNumber}
 use borrow.Author.Needs.{needs}
 use Rattle.rules.proofs.kinds.set_kind.Statement.{statement}
 use Rattle.rules.proofs.kinds.set_kind.Tie as tie

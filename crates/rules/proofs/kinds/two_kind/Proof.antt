@@ -1,7 +1,7 @@
 -- `rules::kinds::two_kind`: each way out is one line of `twoNumber`.
 -- Assumes nothing.
 use borrow.Author.Tests.{eq-eqb, ne-eqb}
-use Rattle.rules.specs.Numbers.{twoNumber}
+use Rattle.rules.specs.code.Numbers.{twoNumber}
 use borrow.Author.Needs.{needs}
 use Rattle.rules.proofs.kinds.two_kind.Statement.{statement}
 use Rattle.rules.proofs.kinds.two_kind.Tie as tie

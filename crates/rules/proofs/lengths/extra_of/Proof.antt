@@ -3,7 +3,7 @@
 use mathlib.Core.Path.{refl, sym}
 use native.Mathlib.Omega.{arith}
 use lib.ListN.{List·getD-eq-default}
-use Rattle.rules.specs.Lengths.{extra, extraTable}
+use Rattle.rules.specs.code.Lengths.{extra, extraTable}
 use Rattle.rules.proofs.LengthLaws.{extra-small}
 use borrow.Author.Needs.{needs}
 use Rattle.rules.proofs.lengths.extra_of.Statement.{statement}

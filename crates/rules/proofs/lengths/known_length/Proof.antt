@@ -1,7 +1,7 @@
 -- `rules::lengths::known_length`: each way out is one line of `knownLength`.
 -- Assumes nothing.
 use borrow.Author.Tests.{eq-eqb, ne-eqb}
-use Rattle.rules.specs.Lengths.{knownLength}
+use Rattle.rules.specs.code.Lengths.{knownLength}
 use borrow.Author.Needs.{needs}
 use Rattle.rules.proofs.lengths.known_length.Statement.{statement}
 use Rattle.rules.proofs.lengths.known_length.Tie as tie

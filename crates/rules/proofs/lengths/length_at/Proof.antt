@@ -3,7 +3,7 @@
 use mathlib.Core.Path.{sym, ap}
 use lib.ListN.{List·getD-eq-default}
 use denote.Ref.{now}
-use Rattle.rules.specs.Lengths.{capped}
+use Rattle.rules.specs.code.Lengths.{capped}
 use borrow.Author.Needs.{needs}
 use Rattle.rules.proofs.lengths.length_at.Statement.{statement}
 use Rattle.rules.proofs.lengths.length_at.Tie as tie

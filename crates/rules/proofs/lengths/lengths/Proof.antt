@@ -6,8 +6,8 @@ use Prim.Native.Nat.{_≤_, _-_}
 use native.Mathlib.Omega.{arith}
 use lib.ListN.{length, length-set}
 use Rattle.syntax.specs.Term.{Choices}
-use Rattle.syntax.specs.Reading.{mk, Knows}
-use Rattle.rules.specs.Lengths.{Measured}
+use Rattle.syntax.specs.code.Reading.{mk, Knows}
+use Rattle.rules.specs.code.Lengths.{Measured}
 use Rattle.rules.proofs.LengthLaws.{measured-none, measured-next, step-is}
 use Rattle.rules.proofs.lengths.lengths.Statement.{statement}
 use Rattle.rules.proofs.lengths.lengths.Tie as tie

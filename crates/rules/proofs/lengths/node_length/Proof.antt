@@ -1,7 +1,7 @@
 -- `rules::lengths::node_length`: each way out is one line of `nodeLength`.
 -- Assumes nothing.
 use borrow.Author.Tests.{lt-ltb, le-ltb}
-use Rattle.rules.specs.Lengths.{nodeLength}
+use Rattle.rules.specs.code.Lengths.{nodeLength}
 use borrow.Author.Needs.{needs}
 use Rattle.rules.proofs.lengths.node_length.Statement.{statement}
 use Rattle.rules.proofs.lengths.node_length.Tie as tie

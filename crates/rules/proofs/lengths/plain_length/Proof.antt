@@ -1,7 +1,7 @@
 -- `rules::lengths::plain_length`: each way out is one line of `plainLength`.
 -- Assumes nothing.
 use borrow.Author.Tests.{lt-ltb, le-ltb}
-use Rattle.rules.specs.Lengths.{plainLength}
+use Rattle.rules.specs.code.Lengths.{plainLength}
 use borrow.Author.Needs.{needs}
 use Rattle.rules.proofs.lengths.plain_length.Statement.{statement}
 use Rattle.rules.proofs.lengths.plain_length.Tie as tie

@@ -1,7 +1,7 @@
 -- `rules::variables::add`: each way out is one of those of `Added`.
 -- Assumes nothing.
 use native.Mathlib.Omega.{arith}
-use Rattle.rules.specs.Variables.{many, known, over, new}
+use Rattle.rules.specs.code.Variables.{many, known, over, new}
 use borrow.Author.Needs.{needs}
 use Rattle.rules.proofs.variables.add.Statement.{statement}
 use Rattle.rules.proofs.variables.add.Tie as tie

@@ -3,7 +3,7 @@
 use Prim.Native.Nat.{_<_}
 use native.Mathlib.Omega.{arith}
 use borrow.Author.Tests.{lt-ltb, le-ltb, le-leb, lt-leb}
-use Rattle.syntax.specs.Arena.{hasTwo}
+use Rattle.syntax.specs.code.Arena.{hasTwo}
 use Rattle.rules.proofs.variables.has_two.Statement.{statement}
 use Rattle.rules.proofs.variables.has_two.Tie as tie
 

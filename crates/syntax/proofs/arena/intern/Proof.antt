@@ -6,7 +6,7 @@ use native.Mathlib.Omega.{arith}
 use lib.ListN.{length, length-set}
 use lib.Seq.{getD-set-same, getD-set-other}
 use denote.Ref.{now}
-use Rattle.syntax.specs.Reading.{put}
+use Rattle.syntax.specs.code.Reading.{put}
 use Rattle.syntax.proofs.ArenaLaws.{tidy-more, stays-refl}
 use borrow.Author.Needs.{needs}
 use Rattle.syntax.proofs.arena.intern.Statement.{statement}

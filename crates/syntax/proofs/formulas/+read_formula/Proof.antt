@@ -8,7 +8,7 @@ use borrow.Author.Needs.{needs}
 use borrow.Author.Tests.{not-true, not-false}
 use lib.ListN.{length, length-take, length-set}
 use lib.Seq.{length-take-le}
-use Rattle.syntax.specs.Reading.{noThing}
+use Rattle.syntax.specs.code.Reading.{noThing}
 use Rattle.syntax.proofs.ArenaLaws.{stays-refl}
 use Rattle.syntax.proofs.NameLaws.{hit, miss}
 use Rattle.syntax.proofs.ReadingLaws.{as-none, as-some, agree-from, ready-at}

@@ -6,7 +6,7 @@ use native.Mathlib.Omega.{arith}
 use mathlib.Core.Path.{_∙_, sym, ap}
 use borrow.Author.Tests.{not-true, not-false}
 use lib.ListN.{length}
-use Rattle.syntax.specs.Reading.{noThing, someThing}
+use Rattle.syntax.specs.code.Reading.{noThing, someThing}
 use Rattle.syntax.proofs.NameLaws.{hit, miss, knows-length}
 use Rattle.syntax.proofs.ReadingLaws.{as-none, as-some, ready-at}
 use Rattle.syntax.proofs.FormulaLaws.{set-end, set-other, set-open, set-none, set-left, set-found}

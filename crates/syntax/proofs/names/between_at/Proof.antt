@@ -6,8 +6,8 @@ use denote.Ref.{now}
 use lib.ListN.{drop}
 use borrow.Author.Needs.{needs}
 use Rattle.syntax.specs.Rule.{Between, isIn, isSign, is, isnt, spellBetween, betweens}
-use Rattle.syntax.specs.Arena.{alikeOp}
-use Rattle.syntax.specs.Reading.{betweenOp}
+use Rattle.syntax.specs.code.Arena.{alikeOp}
+use Rattle.syntax.specs.code.Reading.{betweenOp}
 use Rattle.syntax.proofs.NameLaws.{From, from-all, past, here, nowhere}
 use Rattle.syntax.proofs.names.between_at.Statement.{statement}
 use Rattle.syntax.proofs.names.between_at.Tie as tie

@@ -6,8 +6,8 @@ use denote.Ref.{now}
 use lib.ListN.{drop}
 use borrow.Author.Needs.{needs}
 use Rattle.syntax.specs.Term.{Head, isOperations, isBracket, isChoice, spell, bracketHeads}
-use Rattle.syntax.specs.Arena.{baseOp, fnOp}
-use Rattle.syntax.specs.Reading.{headOp}
+use Rattle.syntax.specs.code.Arena.{baseOp, fnOp}
+use Rattle.syntax.specs.code.Reading.{headOp}
 use Rattle.syntax.proofs.NameLaws.{From, from-all, past, here, nowhere}
 use Rattle.syntax.proofs.names.bracket_at.Statement.{statement}
 use Rattle.syntax.proofs.names.bracket_at.Tie as tie

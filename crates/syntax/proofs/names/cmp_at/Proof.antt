@@ -6,7 +6,7 @@ use denote.Ref.{now}
 use lib.ListN.{drop}
 use borrow.Author.Needs.{needs}
 use Rattle.syntax.specs.Rule.{Cmp, le, lt, ge, gt, eq, ne, spellCmp, cmps}
-use Rattle.syntax.specs.Arena.{cmpNumber}
+use Rattle.syntax.specs.code.Arena.{cmpNumber}
 use Rattle.syntax.proofs.NameLaws.{From, from-all, past, here, nowhere}
 use Rattle.syntax.proofs.names.cmp_at.Statement.{statement}
 use Rattle.syntax.proofs.names.cmp_at.Tie as tie

@@ -3,8 +3,8 @@
 use mathlib.Core.List.{[], _∷_}
 use native.Mathlib.Omega.{arith}
 use Rattle.syntax.specs.Term.{operations, meet, join, spellMiddle}
-use Rattle.syntax.specs.Arena.{twoOp}
-use Rattle.syntax.specs.Reading.{pair, away, jointOp, spellJoint}
+use Rattle.syntax.specs.code.Arena.{twoOp}
+use Rattle.syntax.specs.code.Reading.{pair, away, jointOp, spellJoint}
 use Rattle.syntax.proofs.NameLaws.{from-these, past, here, nowhere}
 use Rattle.syntax.proofs.ReadingLaws.{joints-comma, joints-sign}
 use borrow.Author.Needs.{needs}

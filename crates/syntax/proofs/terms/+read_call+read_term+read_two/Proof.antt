@@ -5,7 +5,7 @@ use borrow.Author.Tests.{not-true, not-false}
 use denote.Ref.{now}
 use native.Mathlib.Omega.{arith}
 use Rattle.syntax.specs.Term.{readTerm}
-use Rattle.syntax.specs.Reading.{noThing}
+use Rattle.syntax.specs.code.Reading.{noThing}
 use Rattle.syntax.proofs.ArenaLaws.{stays-refl, knows-later}
 use Rattle.syntax.proofs.NameLaws.{hit, miss, as-unknown, as-name}
 use Rattle.syntax.proofs.ReadingLaws.{as-none, as-some, agree-from, ready-at, ready-on, fresh-leaf, fresh-on, fresh-pair, leaf-found}

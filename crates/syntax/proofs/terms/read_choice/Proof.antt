@@ -1,6 +1,6 @@
 -- `read_choice` reads a known choice as OE of its argument.
 -- Assumes nothing.
-use Rattle.syntax.specs.Reading.{noThing}
+use Rattle.syntax.specs.code.Reading.{noThing}
 use Rattle.syntax.proofs.NameLaws.{as-no-choice, as-choice, knows-length}
 use Rattle.syntax.proofs.ReadingLaws.{choice-none, choice-fresh, choice-found}
 use borrow.Author.Needs.{needs}

@@ -2,7 +2,7 @@
 -- Assumes nothing.
 use native.Mathlib.Omega.{arith}
 use borrow.Author.Tests.{not-true, not-false}
-use Rattle.syntax.specs.Reading.{noThing}
+use Rattle.syntax.specs.code.Reading.{noThing}
 use Rattle.syntax.proofs.NameLaws.{hit, miss, as-no-choice, as-choice, knows-length}
 use Rattle.syntax.proofs.ReadingLaws.{fresh-two, less-none, less-lost, less-found}
 use borrow.Author.Needs.{needs}

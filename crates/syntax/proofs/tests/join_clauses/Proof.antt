@@ -4,7 +4,7 @@ use mathlib.Core.Path.{refl}
 use Prim.Native.Nat.{_-_}
 use native.Mathlib.Omega.{arith}
 use borrow.Author.Needs.{needs}
-use Rattle.syntax.specs.Reading.{mk}
+use Rattle.syntax.specs.code.Reading.{mk}
 use Rattle.syntax.proofs.ClauseLaws.{Joining, join-start, join-fresh, join-next, join-end, as-put, put-some}
 use Rattle.syntax.proofs.tests.join_clauses.Statement.{statement}
 use Rattle.syntax.proofs.tests.join_clauses.Tie as tie

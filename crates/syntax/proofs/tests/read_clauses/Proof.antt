@@ -7,7 +7,7 @@ use denote.Ref.{now}
 use lib.ListN.{length, length-set}
 use borrow.Author.Needs.{needs}
 use borrow.Author.Tests.{not-true, not-false}
-use Rattle.syntax.specs.Reading.{mk, noClause, someClauses}
+use Rattle.syntax.specs.code.Reading.{mk, noClause, someClauses}
 use Rattle.syntax.proofs.ArenaLaws.{knows-later}
 use Rattle.syntax.proofs.NameLaws.{hit, miss}
 use Rattle.syntax.proofs.ReadingLaws.{as-none, as-some}

@@ -2,7 +2,7 @@
 -- Assumes nothing.
 use native.Mathlib.Omega.{arith}
 use borrow.Author.Tests.{not-true, not-false}
-use Rattle.syntax.specs.Reading.{noThing}
+use Rattle.syntax.specs.code.Reading.{noThing}
 use Rattle.syntax.proofs.NameLaws.{hit, miss, as-unknown, as-name}
 use Rattle.syntax.proofs.ReadingLaws.{as-none, as-some, ready-at, fresh-two}
 use Rattle.syntax.proofs.TestLaws.{count-lost, number-fresh, number-found, count-none, count-open, count-found}

@@ -1,7 +1,7 @@
 -- `read_related` reads a test that begins with a term.
 -- Assumes nothing.
 use native.Mathlib.Omega.{arith}
-use Rattle.syntax.specs.Reading.{noThing}
+use Rattle.syntax.specs.code.Reading.{noThing}
 use Rattle.syntax.proofs.ArenaLaws.{knows-later}
 use Rattle.syntax.proofs.NameLaws.{as-unknown, as-name}
 use Rattle.syntax.proofs.ReadingLaws.{as-none, as-some, ready-on}

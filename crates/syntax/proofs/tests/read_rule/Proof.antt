@@ -1,6 +1,6 @@
 -- `read_rule` reads the clauses into a list and joins them.
 -- Assumes nothing.
-use Rattle.syntax.specs.Reading.{noThing}
+use Rattle.syntax.specs.code.Reading.{noThing}
 use Rattle.syntax.proofs.ClauseLaws.{as-no-clause, as-clauses, joinable, rule-found}
 use borrow.Author.Needs.{needs}
 use Rattle.syntax.proofs.tests.read_rule.Statement.{statement}

@@ -5,7 +5,7 @@ use Prim.Native.Nat.{_-_}
 use lib.ListN.{length}
 use borrow.Author.Tests.{not-true, not-false}
 use Rattle.tables.specs.Checks.{apart}
-use Rattle.tables.specs.Reads.{newAt}
+use Rattle.tables.specs.code.Reads.{newAt}
 use Rattle.tables.proofs.AllLaws.{Passed, passed-none, passed-more, passed-not, passed-all}
 use Rattle.tables.proofs.checks.apart.Statement.{statement}
 use Rattle.tables.proofs.checks.apart.Tie as tie

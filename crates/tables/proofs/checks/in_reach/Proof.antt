@@ -7,7 +7,7 @@ use lib.Dec.{eqb}
 use lib.ListN.{length, getD}
 use borrow.Author.Tests.{eq-eqb, ne-eqb}
 use Rattle.words.specs.Words.{lessOf, imageOf}
-use Rattle.tables.specs.Reads.{reaching}
+use Rattle.tables.specs.code.Reads.{reaching}
 use Rattle.tables.proofs.AllLaws.{Passed, passed-none, passed-more, passed-not, passed-all}
 use Rattle.tables.proofs.checks.in_reach.Statement.{statement}
 use Rattle.tables.proofs.checks.in_reach.Tie as tie

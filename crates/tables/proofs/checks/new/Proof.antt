@@ -8,7 +8,7 @@ use lib.Dec.{eqb}
 use lib.ListN.{getD}
 use borrow.Author.Tests.{eq-eqb, ne-eqb}
 use borrow.Author.Needs.{needs}
-use Rattle.tables.specs.Reads.{newAt}
+use Rattle.tables.specs.code.Reads.{newAt}
 use Rattle.tables.proofs.AllLaws.{Noted, noted-none, noted-more, noted-not, noted-all}
 use Rattle.tables.proofs.checks.new.Statement.{statement}
 use Rattle.tables.proofs.checks.new.Tie as tie

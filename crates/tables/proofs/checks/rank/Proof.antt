@@ -6,7 +6,7 @@ use Prim.Native.Nat.{ℕ}
 use lib.ListN.{getD}
 use borrow.Author.Tests.{not-true, not-false}
 use Rattle.words.specs.Words.{has, lessOf, imageOf}
-use Rattle.tables.specs.Reads.{belowAt}
+use Rattle.tables.specs.code.Reads.{belowAt}
 use Rattle.tables.proofs.CheckLaws.{rank-not-own, rank-open, rank-one-way}
 use borrow.Author.Needs.{needs}
 use Rattle.tables.proofs.checks.rank.Statement.{statement}

@@ -5,7 +5,7 @@ use mathlib.Core.Path.{_∙_}
 use lib.ListN.{length}
 use borrow.Author.Tests.{not-true, not-false}
 use borrow.Author.Needs.{needs}
-use Rattle.tables.specs.Reads.{rankAt}
+use Rattle.tables.specs.code.Reads.{rankAt}
 use Rattle.tables.proofs.CheckLaws.{ranked-rows}
 use Rattle.tables.proofs.AllLaws.{Passed, passed-none, passed-more, passed-not, passed-all}
 use Rattle.tables.proofs.checks.ranked.Statement.{statement}

@@ -3,7 +3,7 @@
 use mathlib.Core.Path.{sym}
 use Prim.Native.Nat.{_+_}
 use native.Mathlib.Omega.{arith}
-use Rattle.tables.specs.Reads.{stops, takes}
+use Rattle.tables.specs.code.Reads.{stops, takes}
 use Rattle.tables.proofs.ReadLaws.{byte-took, byte-cut}
 use borrow.Author.Needs.{needs}
 use Rattle.tables.proofs.rows.byte.Statement.{statement}

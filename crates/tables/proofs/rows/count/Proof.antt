@@ -1,7 +1,7 @@
 -- `tables::rows::count` reads a byte and refuses one above the limit.
 -- Assumes nothing.
 use mathlib.Core.Path.{refl}
-use Rattle.tables.specs.Reads.{stops, takes}
+use Rattle.tables.specs.code.Reads.{stops, takes}
 use Rattle.tables.proofs.ReadLaws.{as-took, as-stop, stops-as, count-stop, count-over, count-took}
 use borrow.Author.Needs.{needs}
 use Rattle.tables.proofs.rows.count.Statement.{statement}

@@ -1,7 +1,7 @@
 -- `tables::rows::marked_row`: nine bytes, then the mark, then the word.
 -- Assumes nothing.
 use native.Mathlib.Omega.{arith}
-use Rattle.tables.specs.Reads.{stops}
+use Rattle.tables.specs.code.Reads.{stops}
 use Rattle.tables.proofs.ReadLaws.{marked-cut, marked-none, marked-bad, marked-row}
 use borrow.Author.Needs.{needs}
 use Rattle.tables.proofs.rows.marked_row.Statement.{statement}

@@ -1,7 +1,7 @@
 -- `tables::rows::session_row`: nine bytes, then the user number, then the word.
 -- Assumes nothing.
 use native.Mathlib.Omega.{arith}
-use Rattle.tables.specs.Reads.{stops}
+use Rattle.tables.specs.code.Reads.{stops}
 use Rattle.tables.proofs.ReadLaws.{session-cut, session-none, session-row}
 use borrow.Author.Needs.{needs}
 use Rattle.tables.proofs.rows.session_row.Statement.{statement}

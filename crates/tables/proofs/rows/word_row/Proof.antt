@@ -1,7 +1,7 @@
 -- `tables::rows::word_row`: eight bytes, then the word that they are.
 -- Assumes nothing.
 use native.Mathlib.Omega.{arith}
-use Rattle.tables.specs.Reads.{stops}
+use Rattle.tables.specs.code.Reads.{stops}
 use Rattle.tables.proofs.ReadLaws.{word-row-cut, word-row}
 use borrow.Author.Needs.{needs}
 use Rattle.tables.proofs.rows.word_row.Statement.{statement}

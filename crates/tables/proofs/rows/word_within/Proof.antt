@@ -3,7 +3,7 @@
 use Prim.Native.Nat.{_+_}
 use mathlib.Core.Path.{refl}
 use lib.ListN.{take, drop}
-use Rattle.tables.specs.Reads.{stops, takes}
+use Rattle.tables.specs.code.Reads.{stops, takes}
 use Rattle.tables.proofs.ReadLaws.{within-over, within-took}
 use borrow.Author.Needs.{needs}
 use Rattle.tables.proofs.rows.word_within.Statement.{statement}

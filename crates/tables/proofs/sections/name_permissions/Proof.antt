@@ -5,7 +5,7 @@ use Prim.Native.Nat.{_+_, _-_, _≤_}
 use mathlib.Core.Path.{_≡_, _∙_, sym}
 use native.Mathlib.Omega.{arith}
 use lib.ListN.{length, length-set}
-use Rattle.tables.specs.Reads.{withNames}
+use Rattle.tables.specs.code.Reads.{withNames}
 use Rattle.tables.proofs.PutLaws.{names-none, names-more, names-long}
 use Rattle.tables.proofs.sections.name_permissions.Statement.{statement}
 use Rattle.tables.proofs.sections.name_permissions.Tie as tie

@@ -4,7 +4,7 @@ use mathlib.Core.Path.{_∙_}
 use native.Mathlib.Omega.{arith}
 use lib.ListN.{length-set}
 use Rattle.tables.proofs.ReadLaws.{as-took, as-stop, stops-as, reads-as}
-use Rattle.tables.specs.Reads.{stops}
+use Rattle.tables.specs.code.Reads.{stops}
 use Rattle.tables.proofs.SectionLaws.{permissions-stop, permissions-wrong, permissions-on, counted}
 use borrow.Author.Needs.{needs}
 use Rattle.tables.proofs.sections.permissions.Statement.{statement}

@@ -3,7 +3,7 @@
 use mathlib.Core.Path.{_≡_}
 use native.Mathlib.Omega.{arith}
 use Rattle.values.specs.Values.{callValue}
-use Rattle.values.specs.Nodes.{fnAt}
+use Rattle.values.specs.code.Nodes.{fnAt}
 use borrow.Author.Needs.{needs}
 use Rattle.values.proofs.calls.call.Statement.{statement}
 use Rattle.values.proofs.calls.call.Tie as tie

@@ -1,7 +1,7 @@
 -- `values::calls::ranked` meets its contract.
 -- Assumes nothing.
 use Rattle.values.specs.Values.{callValue}
-use Rattle.values.specs.Nodes.{sortAt}
+use Rattle.values.specs.code.Nodes.{sortAt}
 use mathlib.Core.Path.{sym, _∙_}
 use borrow.Author.Needs.{needs}
 use Rattle.values.proofs.calls.ranked.Statement.{statement}

@@ -3,7 +3,7 @@
 use mathlib.Core.Path.{_≡_}
 use native.Mathlib.Omega.{arith}
 use Rattle.values.specs.Values.{twoValue}
-use Rattle.values.specs.Nodes.{opAt}
+use Rattle.values.specs.code.Nodes.{opAt}
 use borrow.Author.Needs.{needs}
 use Rattle.values.proofs.calls.two.Statement.{statement}
 use Rattle.values.proofs.calls.two.Tie as tie

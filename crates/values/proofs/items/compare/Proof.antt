@@ -3,7 +3,7 @@
 use mathlib.Core.Path.{_≡_}
 use native.Mathlib.Omega.{arith}
 use Rattle.values.specs.Truth.{compared}
-use Rattle.values.specs.Nodes.{cmpAt}
+use Rattle.values.specs.code.Nodes.{cmpAt}
 use Rattle.values.proofs.items.compare.Statement.{statement}
 use Rattle.values.proofs.items.compare.Tie as tie
 

@@ -4,7 +4,7 @@ use mathlib.Core.Path.{_≡_, refl, _∙_}
 use Prim.Native.Nat.{ℕ, _≤_, _<_, _-_}
 use native.Mathlib.Omega.{arith}
 use lib.ListN.{length, getD, length-set}
-use Rattle.values.specs.Levels.{LevelAt}
+use Rattle.values.specs.code.Levels.{LevelAt}
 use Rattle.values.proofs.LevelLaws.{level-at, more-at}
 use Rattle.values.proofs.levels.levels.Statement.{statement}
 use Rattle.values.proofs.levels.levels.Tie as tie

@@ -7,7 +7,7 @@ use borrow.Author.Needs.{needs}
 use lib.ListN.{length, length-set}
 use Rattle.syntax.specs.Term.{Choices}
 use Rattle.values.specs.Sets.{setOf}
-use Rattle.values.specs.Nodes.{Variables, Named}
+use Rattle.values.specs.code.Nodes.{Variables, Named}
 use Rattle.values.proofs.NamesLaws.{holds-at, named-none, named-more}
 use Rattle.values.proofs.names.names.Statement.{statement}
 use Rattle.values.proofs.names.names.Tie as tie

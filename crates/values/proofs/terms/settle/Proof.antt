@@ -6,8 +6,8 @@ use Prim.Native.Nat.{ℕ, _-_}
 use native.Mathlib.Omega.{arith}
 use lib.ListN.{length, length-set}
 use borrow.Author.Needs.{needs}
-use Rattle.values.specs.Levels.{Levels, Linked, Following}
-use Rattle.values.specs.Cache.{Stored}
+use Rattle.values.specs.code.Levels.{Levels, Linked, Following}
+use Rattle.values.specs.code.Cache.{Stored}
 use Rattle.values.proofs.SettleLaws.{Partly, partly-none, partly-next, partly-all}
 use Rattle.values.proofs.terms.settle.Statement.{statement}
 use Rattle.values.proofs.terms.settle.Tie as tie

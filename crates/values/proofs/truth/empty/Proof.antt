@@ -1,7 +1,7 @@
 -- `values::truth::empty` meets its contract.
 -- Assumes nothing.
 use borrow.Author.Tests.{eq-eqb, ne-eqb}
-use Rattle.values.specs.Nodes.{emptyAt}
+use Rattle.values.specs.code.Nodes.{emptyAt}
 use Rattle.values.proofs.truth.empty.Statement.{statement}
 use Rattle.values.proofs.truth.empty.Tie as tie
 

@@ -5,7 +5,7 @@ use mathlib.Core.Bool.{not}
 use Prim.Native.Nat.{ℕ}
 use lib.Dec.{eqb}
 use borrow.Author.Tests.{eq-eqb, ne-eqb}
-use Rattle.values.specs.Nodes.{relatedAt}
+use Rattle.values.specs.code.Nodes.{relatedAt}
 use borrow.Author.Needs.{needs}
 use Rattle.values.proofs.truth.related.Statement.{statement}
 use Rattle.values.proofs.truth.related.Tie as tie

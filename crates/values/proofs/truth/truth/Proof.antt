@@ -3,7 +3,7 @@
 use mathlib.Core.Bool.{Bool}
 use native.Mathlib.Omega.{arith}
 use Prim.Native.Nat.{_<_}
-use Rattle.values.specs.Cache.{TruthAt}
+use Rattle.values.specs.code.Cache.{TruthAt}
 use Rattle.values.proofs.NodeLaws.{left-in, right-in₂, right-below₂}
 use Rattle.values.proofs.TruthLaws.{rule-clause, rule-also}
 use Rattle.values.proofs.truth.truth.Statement.{statement}

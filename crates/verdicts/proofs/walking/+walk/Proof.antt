@@ -12,7 +12,7 @@ use Rattle.tables.specs.Tables.{Tables}
 use Rattle.syntax.specs.Rule.{Rule}
 use Rattle.words.specs.Words.{has}
 use Rattle.walks.specs.declared.Tally.{Tally}
-use Rattle.verdicts.specs.Judging.{Case, Walks, Settled, UptoFrom}
+use Rattle.verdicts.specs.code.Judging.{Case, Walks, Settled, UptoFrom}
 use Rattle.verdicts.proofs.WalkingLaws.{walk-none, walk-in, walk-skip, walk-all, walk-room, ready-any, climbs, set-known, end-walked, settled-next, settled-back}
 use Prim.Native.Nat.{ℕ, _<_, _≤_, _+_, _-_}
 use borrow.Fn.Kinds.{In}

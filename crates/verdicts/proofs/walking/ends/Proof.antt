@@ -4,7 +4,7 @@ use mathlib.Core.Path.{ap, subst}
 use mathlib.Core.Bool.{Bool, not}
 use mathlib.Core.List.{[]}
 use Rattle.syntax.specs.Rule.{ruleVars}
-use Rattle.verdicts.specs.Judging.{Leaf}
+use Rattle.verdicts.specs.code.Judging.{Leaf}
 use borrow.Author.Needs.{needs}
 use Rattle.verdicts.proofs.walking.ends.Statement.{statement}
 use Rattle.verdicts.proofs.walking.ends.Tie as tie

@@ -5,7 +5,7 @@ use Prim.Native.Nat.{ℕ}
 use Rattle.syntax.specs.Bytes.{Bytes}
 use Rattle.syntax.specs.Term.{Term, Choices, text}
 use Rattle.syntax.specs.Rule.{Test, Clause, Rule, testText, clauseText, ruleText, vars, testVars, clauseVars, ruleVars}
-use Rattle.syntax.specs.Arena.{Holds, HoldsTest, HoldsClause, HoldsRule}
+use Rattle.syntax.specs.code.Arena.{Holds, HoldsTest, HoldsClause, HoldsRule}
 
 pub data Thing : Type 0 where
   term : Term → Thing

@@ -11,10 +11,10 @@ use Rattle.tables.specs.Flat.{Fits, flat}
 use Rattle.syntax.specs.Term.{Base, bU, bR, bOP, bOBJ, bP, bS, bCR, bCP, bCU, Fn, user, roles, roles*, sessions, permissions}
 use Rattle.syntax.specs.Term.{permissions*, object, Op, operations, meet, join, Term, Choices}
 use Rattle.syntax.specs.Rule.{Cmp, lt, le, gt, ge, eq, ne}
-use Rattle.syntax.specs.Arena.{Holds, Tidy}
-use Rattle.syntax.specs.Reading.{mk, Knows}
+use Rattle.syntax.specs.code.Arena.{Holds, Tidy}
+use Rattle.syntax.specs.code.Reading.{mk, Knows}
 use Rattle.rules.specs.Kind.{Sort, sU, sR, sOP, sOBJ, sP, sS}
-use Rattle.rules.specs.Numbers.{Kinded}
+use Rattle.rules.specs.code.Numbers.{Kinded}
 use Rattle.words.specs.Words.{has, meetOf}
 use Rattle.values.specs.Values.{value}
 use Rattle.values.specs.Sets.{namesIn, names}

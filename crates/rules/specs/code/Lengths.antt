@@ -8,9 +8,9 @@ use lib.Dec.{eqb, ltb}
 use lib.ListN.{length, getD}
 use Rattle.syntax.specs.Term.{Choices}
 use Rattle.syntax.specs.Rule.{Rule, ruleVars, formula}
-use Rattle.syntax.specs.Arena.{hasTwo, HoldsRule}
-use Rattle.syntax.specs.Reading.{mk, Knows}
-use Rattle.rules.specs.Thing.{Thing, HoldsThing, thingText}
+use Rattle.syntax.specs.code.Arena.{hasTwo, HoldsRule}
+use Rattle.syntax.specs.code.Reading.{mk, Knows}
+use Rattle.rules.specs.code.Thing.{Thing, HoldsThing, thingText}
 
 -- How many bytes an operation adds to what it stands on, by its number.
 unfoldable pub extraTable : List ℕ

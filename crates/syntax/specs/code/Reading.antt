@@ -11,7 +11,7 @@ use Rattle.syntax.specs.Bytes.{Bytes, ascii, Read, fail, got, Reader, _>
 use Rattle.syntax.specs.Term.{Base, Fn, Op, operations, meet, join, Term, oe, ao, two, Choices, Head, isBase, isCall, isOE, isAO}
 use Rattle.syntax.specs.Term.{isOperations, isBracket, isChoice, Middle, isMeet, isJoin, isLess, spellMiddle, middles, known, closed, readTerm}
 use Rattle.syntax.specs.Rule.{Between, isIn, isSign, Cmp, Test, Clause, Rule, last, also, sized, spellCmp, cmps, spellBetween, betweens, readCount, readSecond}
-use Rattle.syntax.specs.Arena.{baseOp, fnOp, oeOp, aoOp, twoOp, memberOp, alikeOp, cmpNumber, One, Holds, HoldsAll, HoldsClause, HoldsRule, Low, Tidy}
+use Rattle.syntax.specs.code.Arena.{baseOp, fnOp, oeOp, aoOp, twoOp, memberOp, alikeOp, cmpNumber, One, Holds, HoldsAll, HoldsClause, HoldsRule, Low, Tidy}
 use Rattle.syntax.specs.declared.names.Spelled.{Spelled}
 use Rattle.syntax.specs.declared.names.Spelled.the-variants.{Unknown, Name}
 use Rattle.syntax.specs.declared.arena.Place.{Place}

@@ -9,7 +9,7 @@ use lib.Dec.{eqb, ltb}
 use lib.ListN.{getD}
 use Rattle.syntax.specs.Term.{Term, user, roles, roles*, sessions, permissions, permissions*, object}
 use Rattle.syntax.specs.Rule.{Test, Clause, Rule}
-use Rattle.syntax.specs.Arena.{Holds, HoldsTest, HoldsClause, HoldsRule}
+use Rattle.syntax.specs.code.Arena.{Holds, HoldsTest, HoldsClause, HoldsRule}
 use Rattle.rules.specs.Kind.{Kind, element, set, collection, sU, sR, sOP, sOBJ, sP, sS, callKind, oneKind, othersKind}
 use Rattle.rules.specs.Kind.{kind, testKinds, clauseKinds, ruleKinds}
 

@@ -12,19 +12,19 @@ use Rattle.tables.specs.Flat.{flat}
 use Rattle.tables.proofs.FitsLaws.{Sound}
 use Rattle.syntax.specs.Term.{Choices}
 use Rattle.syntax.specs.Rule.{Rule, ruleVars}
-use Rattle.syntax.specs.Arena.{HoldsRule}
+use Rattle.syntax.specs.code.Arena.{HoldsRule}
 use Rattle.rules.specs.Accept.{refusal}
 use Rattle.walks.specs.declared.Tally.{Tally}
 use Rattle.walks.specs.Walk.{gateO, bytesOf}
 use Rattle.walks.specs.Meaning.{After}
-use Rattle.walks.specs.Tally.{Walked, Upto}
+use Rattle.walks.specs.code.Tally.{Walked, Upto}
 use Rattle.walks.specs.Share.{shareOf}
 use Rattle.verdicts.specs.Verdict.{outcomeOf, orderVerdict, acceptedVerdict}
 use Rattle.verdicts.specs.declared.Verdict.{Verdict}
 use Rattle.values.specs.Sets.{inSet, names, breaks}
-use Rattle.values.specs.Nodes.{Ready, Variables, World}
-use Rattle.values.specs.Levels.{Levels, Chained}
-use Rattle.values.specs.Cache.{Valued, Stored}
+use Rattle.values.specs.code.Nodes.{Ready, Variables, World}
+use Rattle.values.specs.code.Levels.{Levels, Chained}
+use Rattle.values.specs.code.Cache.{Valued, Stored}
 
 -- The tables T and the rule ρ are what the slices hold.
 pub record Case (ts ns : List ℕ) (n : ℕ) (ks vs : List ℕ) (root : ℕ) (T : Tables) (ρ : Rule) : Type 0 where

@@ -7,7 +7,7 @@ use lib.ListN.{length, take, drop, getD}
 use Rattle.syntax.specs.Bytes.{Bytes, ascii}
 use Rattle.syntax.specs.Term.{Term, Choices, text}
 use Rattle.syntax.specs.Rule.{Rule, ruleText, quantifiers}
-use Rattle.syntax.specs.Arena.{Tidy, HoldsAll}
+use Rattle.syntax.specs.code.Arena.{Tidy, HoldsAll}
 
 -- The text w was put at the front of the sheet, and r bytes of it had room there.
 pub record Puts (w old new : Bytes) (r : ℕ) : Type 0 where

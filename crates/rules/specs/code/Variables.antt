@@ -9,9 +9,9 @@ use lib.Dec.{eqb}
 use lib.ListN.{length, getD, take, set}
 use Rattle.syntax.specs.Term.{Choices}
 use Rattle.syntax.specs.Rule.{Rule, ruleVars}
-use Rattle.syntax.specs.Arena.{HoldsAll, HoldsRule}
-use Rattle.syntax.specs.Reading.{Sought}
-use Rattle.rules.specs.Thing.{Thing, HoldsThing, thingVars}
+use Rattle.syntax.specs.code.Arena.{HoldsAll, HoldsRule}
+use Rattle.syntax.specs.code.Reading.{Sought}
+use Rattle.rules.specs.code.Thing.{Thing, HoldsThing, thingVars}
 
 -- The digit of the choice whose argument is node v, where the first of vs has the digit d.
 unfoldable pub findFrom : ℕ → List ℕ → ℕ → Option ℕ

@@ -8,8 +8,8 @@ use lib.ListN.{length, take}
 use Rattle.answers.specs.declared.Refusal.{Refusal}
 use Rattle.syntax.specs.Bytes.{Bytes}
 use Rattle.syntax.specs.Rule.{Rule, ruleVars, ruleOf}
-use Rattle.syntax.specs.Arena.{HoldsRule, Tidy}
-use Rattle.syntax.specs.Reading.{mk, Knows}
+use Rattle.syntax.specs.code.Arena.{HoldsRule, Tidy}
+use Rattle.syntax.specs.code.Reading.{mk, Knows}
 use Rattle.rules.specs.declared.Checked.{Checked}
 use Rattle.rules.specs.declared.Weighed.{Weighed}
 use Rattle.rules.specs.declared.Weighed.the-variants.{Unfit, Variables}
@@ -17,7 +17,7 @@ use Rattle.rules.specs.declared.Found.{Found}
 use Rattle.rules.specs.declared.Found.the-variants.{Turned, Rule as Tree}
 use Rattle.rules.specs.Checked.{checkedOf}
 use Rattle.rules.specs.Accept.{treeRefusal, refusal}
-use Rattle.rules.specs.Numbers.{Kinded}
+use Rattle.rules.specs.code.Numbers.{Kinded}
 
 -- The tree of an accepted text s, at root in the first n nodes; the kinds ks of the nodes; the nodes of its variables, the first of vs.
 pub record RuleAt (s : Bytes) (ns : List ℕ) (n root : ℕ) (ks vs : List ℕ) (count : ℕ) : Type 0 where

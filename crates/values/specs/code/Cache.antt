@@ -8,11 +8,11 @@ use lib.ListN.{length, getD}
 use Rattle.tables.specs.Tables.{Tables}
 use Rattle.syntax.specs.Term.{Term, Choices}
 use Rattle.syntax.specs.Rule.{Test, Clause, Rule}
-use Rattle.syntax.specs.Arena.{Holds, HoldsTest, HoldsClause, HoldsRule}
+use Rattle.syntax.specs.code.Arena.{Holds, HoldsTest, HoldsClause, HoldsRule}
 use Rattle.values.specs.Values.{value}
 use Rattle.values.specs.Truth.{testTrue, clauseTrue, ruleTrue}
-use Rattle.values.specs.Nodes.{World, ValueAt}
-use Rattle.values.specs.Levels.{Levels, Linked, Following}
+use Rattle.values.specs.code.Nodes.{World, ValueAt}
+use Rattle.values.specs.code.Levels.{Levels, Linked, Following}
 
 -- The cache has, under the choice c, the values of the terms at node k's left and right, where its operation is of them.
 pub record Fed (T : Tables) (σ : Choices) (c ns cache : List ℕ) (k : ℕ) : Type 0 where

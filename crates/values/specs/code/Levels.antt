@@ -6,9 +6,9 @@ use mathlib.Core.List.{List}
 use Prim.Native.Nat.{ℕ, _+_, _-_, _<_, _≤_}
 use lib.ListN.{length, getD}
 use Rattle.syntax.specs.Term.{Term, Choices}
-use Rattle.syntax.specs.Arena.{Holds}
+use Rattle.syntax.specs.code.Arena.{Holds}
 use Rattle.values.specs.Sets.{namesIn}
-use Rattle.values.specs.Nodes.{Variables}
+use Rattle.values.specs.code.Nodes.{Variables}
 
 -- r is how many variables of the order stand up to the last one that `named` says.
 pub record Level (order : List ℕ) (named : ℕ → Bool) (r : ℕ) : Type 0 where
