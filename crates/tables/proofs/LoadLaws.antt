@@ -1,6 +1,6 @@
 -- Laws of the whole reading: what follows the sections, in the order 10, 7, 8, 9.
 -- Assumes nothing.
-use mathlib.Core.Path.{_≡_, refl, sym, _∙_}
+use mathlib.Core.Path.{_≡_, refl, sym, ap, _∙_}
 use mathlib.Core.Bool.{Bool, true, false, _&&_}
 use mathlib.Core.List.{List}
 use Prim.Native.Nat.{ℕ, _≤_, _<_}
@@ -14,9 +14,11 @@ use Rattle.tables.specs.declared.Outcome.{Outcome}
 use Rattle.tables.specs.declared.Outcome.the-variants.{Refused, Accepted}
 use Rattle.tables.specs.Tables.{Tables}
 use Rattle.tables.specs.Checks.{ranked, inReach, apart}
-use Rattle.tables.specs.Reading.{Bytes, stop, took, next, refuse, sections, nothingLeft, whole, turned, taken, tablesOf, outcomeOf, wordsOf, Reading}
+use Rattle.tables.specs.Reading.{Bytes, stop, took, next, refuse, sections, nothingLeft, whole, turned, taken, tablesOf, wordsOf, Reading}
+use Rattle.tables.specs.Reading.{outcomeNumber, readingNumber}
 use Rattle.tables.specs.Flat.{flat}
-use Rattle.tables.specs.code.Reads.{lateOf, Filled}
+use Rattle.tables.specs.code.Reads.{outcomeOf, lateOf, Filled}
+use Rattle.answers.proofs.AnswerLaws.{number-some, same-number}
 use Rattle.tables.proofs.ReadLaws.{Got}
 use Rattle.tables.proofs.FitsLaws.{Sound, sections-sound}
 use Rattle.tables.proofs.LaidLaws.{filled-flat}
@@ -78,3 +80,14 @@ never q = let z : _≡_ {A = ℕ} 0 1 = cc in absurd (omega arith)
 pub refused-words : (r : Reading) {o : Outcome} {e : Refusal} → o ≡ outcomeOf r → o ≡ Refused e → replicate 704 0 ≡ wordsOf r
 refused-words (turned e) p q = refl
 refused-words (taken T) p q = never (sym q ∙ p)
+
+-- The number of an outcome says which case it is.
+pub outcome-number : (R : Reading) {o : Outcome} → o ≡ outcomeOf R → outcomeNumber o ≡ readingNumber R
+outcome-number (turned e) q = rw q
+outcome-number (taken T) q = rw q
+
+pub outcome-case : (R : Reading) (o : Outcome) → outcomeNumber o ≡ readingNumber R → o ≡ outcomeOf R
+outcome-case (turned e) (Refused f) q = ap Refused (same-number f e q)
+outcome-case (turned e) Accepted q = absurd (omega (arith, number-some e))
+outcome-case (taken T) (Refused f) q = absurd (omega (arith, number-some f))
+outcome-case (taken T) Accepted q = refl

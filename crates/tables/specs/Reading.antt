@@ -5,6 +5,7 @@ use mathlib.Core.List.{List, [], _∷_, map}
 use Prim.Native.Nat.{ℕ, zero, suc, _+_, _*_, _^_}
 use lib.Dec.{eqb, ltb, leb}
 use lib.ListN.{length, getD, take, drop, replicate}
+use Rattle.answers.specs.Refusal.{numberOf}
 use Rattle.answers.specs.declared.Refusal.{Refusal}
 use Rattle.answers.specs.declared.Refusal.the-variants.{CutShort, Overfull, NotEntered, BadMark, NoSuchItem, Miscounted}
 use Rattle.answers.specs.declared.Refusal.the-variants.{Rank, Overreach, Twin, LeftOver}
@@ -198,10 +199,16 @@ readingOf (took T s) = taken T
 unfoldable pub tablesOf : Bytes → Reading
 tablesOf s = readingOf (whole s)
 
--- What `read` answers: the refusal, or acceptance with the flat tables; the words of refused tables are all 0.
-abbrev pub outcomeOf : Reading → Outcome
-outcomeOf (turned e) = Refused e
-outcomeOf (taken T) = Accepted
+-- "When an answer is an enum, a definition gives this paper's number and values for each of its cases": "A refusal gives its number";
+-- "An accepted input has number 0."
+abbrev pub outcomeNumber : Outcome → ℕ
+outcomeNumber (Refused e) = numberOf e
+outcomeNumber Accepted = 0
+
+-- What `read` answers: the refusal's number, or 0 with the flat tables; the words of refused tables are all 0.
+abbrev pub readingNumber : Reading → ℕ
+readingNumber (turned e) = numberOf e
+readingNumber (taken T) = 0
 
 abbrev pub wordsOf : Reading → List ℕ
 wordsOf (turned e) = replicate 704 0

@@ -3,7 +3,8 @@
 ghost use mathlib.Core.Path.{_≡_};
 ghost use lib.ListN.{replicate};
 ghost use Rattle.tables.specs.declared.Outcome.the-variants.{Accepted as AcceptedOutcome};
-ghost use Rattle.tables.specs.Reading.{tablesOf, outcomeOf, wordsOf};
+ghost use Rattle.tables.specs.Reading.{tablesOf, outcomeNumber, readingNumber, wordsOf};
+ghost use Rattle.tables.specs.code.Reads.{outcomeOf};
 use crate::checks::checked;
 use crate::sections::sections;
 use answers::Refusal;
@@ -48,7 +49,7 @@ fn load(bytes: &[u8], words: &mut [u64]) -> Outcome
 
 // Document 01, "Tables": the outcome of reading, and the flat tables where they are accepted.
 pub fn read(bytes: &[u8]) -> Loaded
-    ensures { λ r. ⌜ r .outcome ≡ outcomeOf (tablesOf (now (bytes .entry))) ⌝ }
+    ensures { λ r. ⌜ outcomeNumber (r .outcome) ≡ readingNumber (tablesOf (now (bytes .entry))) ⌝ }
     ensures { λ r. ⌜ r .words ≡ wordsOf (tablesOf (now (bytes .entry))) ⌝ }
 {
     let mut words = [0u64; 704];

@@ -1,7 +1,7 @@
 -- `tables::read`: what `load` found, and no words where the tables were refused.
 -- Assumes nothing.
 use Rattle.tables.specs.Reading.{tablesOf}
-use Rattle.tables.proofs.LoadLaws.{refused-words}
+use Rattle.tables.proofs.LoadLaws.{refused-words, outcome-number}
 use borrow.Author.Needs.{needs}
 use Rattle.tables.proofs.read.Statement.{statement}
 use Rattle.tables.proofs.read.Tie as tie
@@ -22,12 +22,14 @@ returns : tie.Need-returns
 returns c =
     let args = c .before .before .before .before .before .before .args in
     let load = c .before .before .before .load in
-    (load .ensures .0, refused-words (tablesOf (args .bytes .now)) (load .ensures .0) (c .enum-told2 .given .1))
+    let R = tablesOf (args .bytes .now) in
+    (outcome-number R (load .ensures .0), refused-words R (load .ensures .0) (c .enum-told2 .given .1))
 
 returns-2 : tie.Need-returns-2
 returns-2 c =
+    let args = c .before .before .before .before .before .before .args in
     let load = c .before .before .before .load in
-    (load .ensures .0, load .ensures .1 (c .enum-told .given .1))
+    (outcome-number (tablesOf (args .bytes .now)) (load .ensures .0), load .ensures .1 (c .enum-told .given .1))
 
 pub read-spec : {M : Type 1} → statement M
 read-spec =

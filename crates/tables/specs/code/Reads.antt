@@ -14,7 +14,7 @@ use Rattle.tables.specs.declared.Step.the-variants.{Stopped, Took}
 use Rattle.tables.specs.declared.Outcome.{Outcome}
 use Rattle.tables.specs.declared.Outcome.the-variants.{Refused, Accepted}
 use Rattle.tables.specs.Tables.{Tables}
-use Rattle.tables.specs.Reading.{Bytes, Taken, stop, took, Session, Rights, Collections}
+use Rattle.tables.specs.Reading.{Bytes, Taken, stop, took, Session, Rights, Collections, Reading, turned, taken}
 use Rattle.tables.specs.Checks.{allTo, above, ranked, inReach, apart}
 use Rattle.tables.specs.Flat.{tabulate}
 
@@ -22,6 +22,11 @@ use Rattle.tables.specs.Flat.{tabulate}
 pub data Reads {A : Type 0} (s : Bytes) (Holds : A → ℕ → Type 0) : Step → Taken A → Type 0 where
   stops : {e : Refusal} {r : Taken A} → r ≡ stop e → Reads s Holds (Stopped e) r
   takes : {v n : ℕ} {a : A} {r : Taken A} → r ≡ took a (drop n s) → n ≤ length s → Holds a v → Reads s Holds (Took v n) r
+
+-- The case of the outcome that a reading has.
+abbrev pub outcomeOf : Reading → Outcome
+outcomeOf (turned e) = Refused e
+outcomeOf (taken T) = Accepted
 
 -- A count within its limit.
 pub record IsCount (limit a v : ℕ) : Type 0 where
