@@ -20,7 +20,9 @@ use Rattle.rules.specs.code.Parsed.{Parses}
 use Rattle.tables.specs.declared.Outcome.{Outcome}
 use Rattle.tables.specs.declared.Outcome.the-variants.{Refused, Accepted}
 use Rattle.tables.specs.Tables.{Tables}
-use Rattle.tables.specs.Reading.{Reading, turned, taken, tablesOf, outcomeOf}
+use Rattle.tables.specs.Reading.{Reading, turned, taken, tablesOf, outcomeNumber, readingNumber}
+use Rattle.tables.specs.code.Reads.{outcomeOf}
+use Rattle.tables.proofs.LoadLaws.{outcome-case}
 use Rattle.texts.specs.code.Written.{Written}
 use Rattle.texts.specs.declared.Span.{Span}
 use Rattle.texts.specs.declared.Span.the-variants.{Missing, Found}
@@ -109,14 +111,14 @@ module _ (T : Tables) (rules : Bytes) (place : ℕ) where
 
 -- The line at a place of any tables
 
-module _ (tables rules : Bytes) (place : ℕ) {o : Outcome} (r : o ≡ outcomeOf (tablesOf tables)) where
+module _ (tables rules : Bytes) (place : ℕ) (o : Outcome) (r : outcomeNumber o ≡ readingNumber (tablesOf tables)) where
   pub turned-made : {e : Refusal} {old new : List ℕ} {n : ℕ} → o ≡ Refused e
       → Written (sheetLine (only (numbered (ascii "tables refused ") (numberOf e))) place) old new n → Written (sheetLine (sheetOf tables rules) place) old new n
   unfolding sheetOf sheetBy
-  turned-made q w = rw (was-turned (tablesOf tables) (sym r ∙ q)) w
+  turned-made q w = rw (was-turned (tablesOf tables) (sym (outcome-case (tablesOf tables) o r) ∙ q)) w
 
   pub taken-made : {old new : List ℕ} {n : ℕ} → o ≡ Accepted
       → ((T : Tables) → tablesOf tables ≡ taken T → Written (sheetLine (unlessLong (leb (length rules) 32768) T rules) place) old new n)
       → Written (sheetLine (sheetOf tables rules) place) old new n
   unfolding sheetOf sheetBy
-  taken-made q f = let t = was-taken (tablesOf tables) (sym r ∙ q) in rw (t .is) (f (t .tables) (t .is))
+  taken-made q f = let t = was-taken (tablesOf tables) (sym (outcome-case (tablesOf tables) o r) ∙ q) in rw (t .is) (f (t .tables) (t .is))

@@ -15,7 +15,10 @@ use Rattle.answers.specs.declared.Refusal.{Refusal}
 use Rattle.answers.specs.declared.Refusal.the-variants.{ShortSheet}
 use Rattle.tables.specs.Tables.{Tables}
 use Rattle.tables.specs.Flat.{flat}
-use Rattle.tables.specs.Reading.{Reading, turned, taken, tablesOf, outcomeOf, wordsOf}
+use Rattle.tables.specs.Reading.{Reading, turned, taken, tablesOf, outcomeNumber, readingNumber, wordsOf}
+use Rattle.tables.specs.code.Reads.{outcomeOf}
+use Rattle.tables.specs.declared.Outcome.{Outcome as Reached}
+use Rattle.tables.proofs.LoadLaws.{outcome-case}
 use Rattle.tables.specs.declared.Outcome.the-variants.{Refused as Turned, Accepted as Taken}
 use Rattle.tables.proofs.FlatLaws.{length-flat}
 use Rattle.tables.proofs.FitsLaws.{Sound, accepted-sound}
@@ -70,9 +73,10 @@ module _ {s : Bytes} {ns : List ℕ} {n root : ℕ} {ks vs : List ℕ} {count : 
   rule-accepted T order r h e = rw (h, P .reads) e
 
 -- What reading the tables said.
-pub tables-refused : (b s order : Bytes) (e : Refusal) → outcomeOf (tablesOf b) ≡ Turned e → refusedBy e ≡ verdictOf b s order
+pub tables-refused : (b s order : Bytes) (e : Refusal) (o : Reached) → outcomeNumber o ≡ readingNumber (tablesOf b) → o ≡ Turned e
+    → refusedBy e ≡ verdictOf b s order
 unfolding verdictOf tablesVerdict
-tables-refused b s order e h = go (tablesOf b) h
+tables-refused b s order e o n h = go (tablesOf b) (sym (outcome-case (tablesOf b) o n) ∙ h)
   where
     go : (q : Reading) → outcomeOf q ≡ Turned e → refusedBy e ≡ tablesVerdict q s order
     go (turned p) k = let same : e ≡ p = cc in ap refusedBy same
@@ -82,8 +86,8 @@ pub record Took (b : Bytes) : Type 0 where
   pub tables : Tables
   pub is : tablesOf b ≡ taken tables
 
-pub tables-taken : (b : Bytes) → outcomeOf (tablesOf b) ≡ Taken → Took b
-tables-taken b h = go (tablesOf b) refl h
+pub tables-taken : (b : Bytes) (o : Reached) → outcomeNumber o ≡ readingNumber (tablesOf b) → o ≡ Taken → Took b
+tables-taken b o n h = go (tablesOf b) refl (sym (outcome-case (tablesOf b) o n) ∙ h)
   where
     go : (q : Reading) → tablesOf b ≡ q → outcomeOf q ≡ Taken → Took b
     go (turned p) e k = let z : _≡_ {A = ℕ} 0 1 = cc in absurd (omega arith)

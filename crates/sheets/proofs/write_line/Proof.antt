@@ -24,13 +24,13 @@ same-length : tie.Need-same-length
 same-length c = search needs
 
 returns : tie.Need-returns
-returns c = turned-made _ _ _ (c .before .before .before .before .before .before .before .read .ensures .0) (c .before .before .before .before .before .outcome .given .1) (c .before .before .refused-tables .ensures)
+returns c = turned-made _ _ _ _ (c .before .before .before .before .before .before .before .read .ensures .0) (c .before .before .before .before .before .outcome .given .1) (c .before .before .refused-tables .ensures)
 
 same-length-2 : tie.Need-same-length-2
 same-length-2 c = search needs
 
 returns-2 : tie.Need-returns-2
-returns-2 c = taken-made _ _ _ (c .before .before .before .before .before .before .read .ensures .0) (c .before .before .before .before .enum-told .given .1) (c .before .before .judged-line .ensures)
+returns-2 c = taken-made _ _ _ _ (c .before .before .before .before .before .before .read .ensures .0) (c .before .before .before .before .enum-told .given .1) (c .before .before .judged-line .ensures)
 
 pub write-line-spec : {M : Type 1} → statement M
 write-line-spec =

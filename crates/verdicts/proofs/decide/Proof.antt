@@ -1,6 +1,6 @@
 -- `verdicts::decide` meets its contract: refused tables give their refusal, accepted ones go on to the rule.
 -- Assumes nothing.
-use mathlib.Core.Path.{sym, _∙_}
+use mathlib.Core.Path.{_∙_}
 use Rattle.tables.proofs.FitsLaws.{accepted-sound}
 use Rattle.verdicts.proofs.DecideLaws.{tables-refused, tables-taken, took-words, took-loaded, took-verdict}
 use borrow.Author.Needs.{needs}
@@ -25,18 +25,18 @@ slice-aggregate-on-tables c = search needs
 on-tables-requires : tie.Need-on-tables-requires
 on-tables-requires c κs =
     let b = c .before .before .before .before .before .before .before .before .args .tables .now in
-    took-loaded b (c .before .before .before .before .read .result .words) (tables-taken b (sym (c .before .before .before .before .read .ensures .0) ∙ c .before .before .enum-told .given .1)) (c .before .before .before .before .read .ensures .1)
+    took-loaded b (c .before .before .before .before .read .result .words) (tables-taken b _ (c .before .before .before .before .read .ensures .0) (c .before .before .enum-told .given .1)) (c .before .before .before .before .read .ensures .1)
 
 returns : tie.Need-returns
 returns c =
     let S = c .before .before .before .before .before .before .before .before in
-    c .refused .ensures ∙ tables-refused (S .args .tables .now) (S .args .rule .now) (S .args .order .now) (c .before .before .outcome .given .0 .0) (sym (c .before .before .before .before .read .ensures .0) ∙ c .before .before .outcome .given .1)
+    c .refused .ensures ∙ tables-refused (S .args .tables .now) (S .args .rule .now) (S .args .order .now) (c .before .before .outcome .given .0 .0) _ (c .before .before .before .before .read .ensures .0) (c .before .before .outcome .given .1)
 
 returns-2 : tie.Need-returns-2
 returns-2 c =
     let S = c .before .before .before .before .before .before .before .before .before in
     let b = S .args .tables .now in
-    let q = tables-taken b (sym (c .before .before .before .before .before .read .ensures .0) ∙ c .before .before .before .enum-told .given .1) in
+    let q = tables-taken b _ (c .before .before .before .before .before .read .ensures .0) (c .before .before .before .enum-told .given .1) in
     took-verdict b (S .args .rule .now) (S .args .order .now) q (c .on-tables .result)
     (c .on-tables .ensures (q .tables) (accepted-sound b (q .is)) (took-words b (c .before .before .before .before .before .read .result .words) q (c .before .before .before .before .before .read .ensures .1)))
 
