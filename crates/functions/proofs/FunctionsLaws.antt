@@ -14,7 +14,8 @@ use Rattle.words.specs.Words.{has, anyTo, itemOf, meetOf, imageOf, preimageOf}
 use Rattle.words.proofs.WordsLaws.{word-ext, both, and-true, and-both, any-here, any-witness, any-ext, has-zero, has-item, has-meet}
 use Rattle.words.proofs.RelationLaws.{reach, reach-ext, image-reach, preimage-reach, image-image, preimage-image, has-preimage}
 use Rattle.tables.specs.Tables.{Tables}
-use Rattle.tables.specs.Flat.{Fits, counts, objectRows, operationRows, sections}
+use Rattle.tables.specs.Accepted.{Fits}
+use Rattle.tables.specs.Flat.{counts, objectRows, operationRows, sections}
 use Rattle.tables.proofs.FlatLaws.{map-at, length-tabulate, tabulate-at}
 use Rattle.functions.specs.Functions.{sessionOf, isPermission, userOfSessions, userOfRoles, rolesOfUsers, rolesOfSessions, rolesOfPermissions}
 use Rattle.functions.specs.Functions.{juniorsOfUsers, juniorsOfSessions, seniorsOfPermissions, sessionsOfUsers}

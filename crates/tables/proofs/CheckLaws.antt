@@ -13,8 +13,8 @@ use Rattle.words.proofs.WordsLaws.{word-none, has-zero, has-out, has-in, has-le
 use Rattle.words.proofs.RelationLaws.{has-image}
 use Rattle.tables.specs.Tables.{Tables}
 use Rattle.tables.specs.Checks.{allTo, implies, above, reflexive, transitive, antisymmetric, ranked, inReach}
-use Rattle.tables.specs.Flat.{Fits}
-use Rattle.tables.specs.code.Reads.{Below, belowAt, rankAt, reaching, Bounded}
+use Rattle.tables.specs.Accepted.{Fits, Below, Bounded}
+use Rattle.tables.specs.code.Reads.{belowAt, rankAt, reaching}
 use Rattle.tables.proofs.FlatLaws.{map-at}
 use Rattle.tables.proofs.AllLaws.{all-every, all-at, all-ext}
 

@@ -1,7 +1,7 @@
 -- What reading leaves: accepted tables keep document 01's limits, and no word has a bit at or above its count.
 -- Assumes nothing.
 use mathlib.Core.Path.{_≡_, refl, sym, ap, _∙_}
-use mathlib.Core.Bool.{Bool, true, false, not}
+use mathlib.Core.Bool.{Bool, true, false, _&&_, not}
 use mathlib.Core.List.{List, [], _∷_, map}
 use Prim.Native.Nat.{ℕ, zero, suc, _*_, _^_, _≤_, _<_}
 use native.Mathlib.Omega.{arith}
@@ -11,12 +11,14 @@ use lib.Pow.{pow-pos}
 use borrow.Author.Tests.{ltb-false, leb-false, eqb-true, not-false}
 use Rattle.answers.specs.declared.Refusal.{Refusal}
 use Rattle.answers.specs.declared.Refusal.the-variants.{NoSuchItem}
+use Rattle.words.proofs.WordsLaws.{and-true}
 use Rattle.tables.specs.Tables.{Tables}
-use Rattle.tables.specs.Flat.{Fits}
+use Rattle.tables.specs.Checks.{ranked, inReach, apart}
+pub use Rattle.tables.specs.Accepted.{Sound}
+use Rattle.tables.specs.Accepted.{Below, Passes}
 use Rattle.tables.specs.Reading.{Bytes, Taken, Reader, stop, took, next, refuse, front, byte, count, wordFrom, wordWithin}
 use Rattle.tables.specs.Reading.{wordRow, markedRow, sessionRow, Session, rows, section, permissions, Rights, rights, Collections, collections}
 use Rattle.tables.specs.Reading.{sections, nothingLeft, whole, taken, readingOf, tablesOf, assembled}
-use Rattle.tables.specs.code.Reads.{Below, Bounded}
 
 -- Where something was taken, all that was read on the way was.
 module _ {A B : Type 0} {C : Type 0} where
@@ -74,7 +76,7 @@ session-known users roles s {a} {t} q =
     rw (← d) (record { user = leb-false users (getD b 0 0) c; active = within-below roles _ u f })
 
 -- n rows, each as its reader leaves it.
-abbrev Every : {A : Type 0} → (A → Type 0) → List A → Type 0
+abbrev pub Every : {A : Type 0} → (A → Type 0) → List A → Type 0
 Every P [] = Unit {0}
 Every P (x ∷ xs) = P x × Every P xs
 
@@ -83,7 +85,7 @@ pub record Rows {A : Type 0} (P : A → Type 0) (n : ℕ) (xs : List A) : Type 0
   pub every : Every P xs
 
 module _ {A : Type 0} (P : A → Type 0) (row : Reader A) (h : (s : Bytes) (a : A) (t : Bytes) → row s ≡ took a t → P a) where
-  rows-are : (n : ℕ) (s : Bytes) {xs : List A} {t : Bytes} → rows row n s ≡ took xs t → Rows P n xs
+  pub rows-are : (n : ℕ) (s : Bytes) {xs : List A} {t : Bytes} → rows row n s ≡ took xs t → Rows P n xs
   unfolding rows
   rows-are zero s {xs} {t} q = let e : [] ≡ xs = cc in rw (← e) (record { size = refl; every = tt })
   rows-are (suc n) s {xs} {t} q =
@@ -185,10 +187,6 @@ collections-fit r u p s {c} {t} e =
       cpBelow = every-below p z (fz .every);
     })
 
-pub record Sound (T : Tables) : Type 0 where
-  pub fits : Fits T
-  pub bounded : Bounded T
-
 pub sections-sound : (s : Bytes) {T : Tables} {t : Bytes} → sections s ≡ took T t → Sound T
 unfolding sections
 sections-sound s {T} {t} e =
@@ -238,6 +236,7 @@ pub record Read (b : Bytes) (T : Tables) : Type 0 where
   pub rest : Bytes
   pub reads : sections b ≡ took T rest
   pub none : length rest ≤ 0
+  pub passes : Passes T
 
 pub accepted-read : (b : Bytes) {T : Tables} → tablesOf b ≡ taken T → Read b T
 unfolding tablesOf whole nothingLeft
@@ -248,11 +247,32 @@ accepted-read b {T} q = go (whole b) refl q
     go (took U u) p k =
         next-case (sections b) _ p
         λ S v e h. refuse-case (ltb 0 (length v)) _ v _ h
-        λ c₀ h₀. refuse-case _ _ v _ h₀
-        λ c₁ h₁. refuse-case _ _ v _ h₁
-        λ c₂ h₂. refuse-case _ _ v _ h₂
-        λ c₃ h₃. let d : S ≡ T = cc in record { rest = v; reads = rw d at e; none = ltb-false 0 (length v) c₀ }
+        λ c₀ h₀. refuse-case (not (ranked (S .roleRows))) _ v _ h₀
+        λ c₁ h₁. refuse-case (not (inReach S)) _ v _ h₁
+        λ c₂ h₂. refuse-case (not (apart (S .cr) && (apart (S .cu) && apart (S .cp)))) _ v _ h₂
+        λ c₃ h₃.
+        let d : S ≡ T = cc in
+        let (r, up) = and-true (apart (S .cr)) (apart (S .cu) && apart (S .cp)) (not-false _ c₃) in
+        let (u, p) = and-true (apart (S .cu)) (apart (S .cp)) up in
+        let x : Read b S =
+        record {
+          rest = v;
+          reads = e;
+          none = ltb-false 0 (length v) c₀;
+          passes = record {
+            sound = sections-sound b e;
+            rank = not-false (ranked (S .roleRows)) c₁;
+            reach = not-false (inReach S) c₂;
+            crs = r;
+            cus = u;
+            cps = p;
+          };
+        } in
+        rw d at x
 
--- Accepted tables keep the limits.
+-- What accepted tables are.
+pub accepted-passes : (b : Bytes) {T : Tables} → tablesOf b ≡ taken T → Passes T
+accepted-passes b q = accepted-read b q .passes
+
 pub accepted-sound : (b : Bytes) {T : Tables} → tablesOf b ≡ taken T → Sound T
-accepted-sound b q = sections-sound b (accepted-read b q .reads)
+accepted-sound b q = accepted-passes b q .sound

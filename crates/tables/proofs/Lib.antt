@@ -8,6 +8,8 @@ pub mod FlatLaws
 pub mod AllLaws
 pub mod CheckLaws
 pub mod FitsLaws
+pub mod BytesLaws
+pub mod EncodeLaws
 pub mod SizeLaws
 pub mod LocalLaws
 pub mod PageLaws

@@ -1,11 +1,11 @@
 -- The accepted tables as one list of 704 words, in which the code holds them: eleven sections of 64 words each. Internal.
 -- Assumes nothing.
-use mathlib.Core.Path.{_≡_}
 use mathlib.Core.List.{List, [], _∷_, _++_, map}
-use Prim.Native.Nat.{ℕ, zero, suc, _*_, _/_, _%_, _≤_}
+use Prim.Native.Nat.{ℕ, zero, suc, _/_, _%_}
 use lib.ListN.{length}
 use Rattle.words.specs.Words.{itemOf}
 use Rattle.tables.specs.Tables.{Tables}
+pub use Rattle.tables.specs.Accepted.{Fits}
 
 -- The first n of the words and of zeros after them.
 unfoldable pub padded : ℕ → List ℕ → List ℕ
@@ -45,16 +45,3 @@ laid (s ∷ ss) = padded 64 s ++ laid ss
 
 unfoldable pub flat : Tables → List ℕ
 flat T = laid (sections T)
-
--- What document 01's limits leave: no section is cut, and every permission is one operation on one object.
-pub record Fits (T : Tables) : Type 0 where
-  pub roles : length (T .roleRows) ≤ 64
-  pub users : length (T .userRows) ≤ 64
-  pub sessionsUsers : length (T .sessionUsers) ≤ 64
-  pub sessionsRoles : length (T .sessionRows) ≤ 64
-  pub operations : T .operationCount ≤ 8
-  pub objects : T .objectCount ≤ 8
-  pub permissions : length (T .permissionRows) ≡ T .operationCount * T .objectCount
-  pub crs : length (T .cr) ≤ 64
-  pub cus : length (T .cu) ≤ 64
-  pub cps : length (T .cp) ≤ 64

@@ -1,6 +1,10 @@
--- The tables: their record, the checks on the whole, reading them from bytes, the flat words that hold them, and what the readers in code give.
+-- The tables: their record, the checks on the whole, what accepted tables are, reading them from bytes, their bytes, the flat words that hold
+-- them, and what the readers in code give.
 pub mod Tables
 pub mod Checks
+pub mod Accepted
+pub mod Bytes
 pub mod Reading
+pub mod Encode
 pub mod Flat
 pub mod code

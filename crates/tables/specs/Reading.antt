@@ -2,7 +2,7 @@
 -- Assumes nothing.
 use mathlib.Core.Bool.{Bool, true, false, _&&_, not, cond}
 use mathlib.Core.List.{List, [], _∷_, map}
-use Prim.Native.Nat.{ℕ, zero, suc, _+_, _*_, _^_}
+use Prim.Native.Nat.{ℕ, zero, suc, _*_, _^_}
 use lib.Dec.{eqb, ltb, leb}
 use lib.ListN.{length, getD, take, drop, replicate}
 use Rattle.answers.specs.Refusal.{numberOf}
@@ -14,9 +14,7 @@ use Rattle.tables.specs.declared.Outcome.the-variants.{Refused, Accepted
 use Rattle.tables.specs.Tables.{Tables}
 use Rattle.tables.specs.Checks.{ranked, inReach, apart}
 use Rattle.tables.specs.Flat.{flat}
-
-abbrev pub Bytes : Type 0
-Bytes = List ℕ
+unfoldable pub use Rattle.tables.specs.Bytes.{Bytes, wordFrom}
 
 -- "the first refusal met is the answer and nothing further is read": a refusal, or what was taken and the bytes left.
 pub data Taken (A : Type 0) : Type 0 where
@@ -63,12 +61,7 @@ count limit = do
   refuse (ltb limit n) Overfull
   give n
 
--- "A word is 8 bytes, lowest byte first; bit i stands for item i."
-unfoldable pub wordFrom : Bytes → ℕ
-wordFrom [] = 0
-wordFrom (b ∷ s) = b + 256 * wordFrom s
-
--- The word of these bytes, of items below n. 5: "bit .. at or above its count": a word has one where it is 2 ^ n or more.
+-- The word of these bytes, of items below n: "A word is 8 bytes, lowest byte first; bit i stands for item i." 5: "bit .. at or above its count": a word has one where it is 2 ^ n or more.
 unfoldable pub wordWithin : ℕ → Bytes → Reader ℕ
 wordWithin n b = do
   refuse (leb (2 ^ n) (wordFrom b)) NoSuchItem

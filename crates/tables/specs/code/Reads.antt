@@ -3,7 +3,7 @@
 use mathlib.Core.Path.{_≡_}
 use mathlib.Core.List.{List, [], _∷_, map}
 use mathlib.Core.Bool.{Bool, _&&_, not, cond}
-use Prim.Native.Nat.{ℕ, suc, _%_, _/_, _^_, _≤_, _<_}
+use Prim.Native.Nat.{ℕ, suc, _%_, _/_, _≤_, _<_}
 use lib.Dec.{eqb}
 use lib.ListN.{length, getD, drop, set}
 use Rattle.answers.specs.declared.Refusal.{Refusal}
@@ -17,6 +17,8 @@ use Rattle.tables.specs.Tables.{Tables}
 use Rattle.tables.specs.Reading.{Bytes, Taken, stop, took, Session, Rights, Collections, Reading, turned, taken}
 use Rattle.tables.specs.Checks.{allTo, above, ranked, inReach, apart}
 use Rattle.tables.specs.Flat.{tabulate}
+unfoldable pub use Rattle.tables.specs.Accepted.{Below}
+pub use Rattle.tables.specs.Accepted.{Bounded}
 
 -- The code stopped with the reader's refusal, or took what the reader took, up to the same byte; Holds relates the two values.
 pub data Reads {A : Type 0} (s : Bytes) (Holds : A → ℕ → Type 0) : Step → Taken A → Type 0 where
@@ -123,22 +125,6 @@ reaching assigned users active =
 
 unfoldable pub newAt : List ℕ → ℕ → Bool
 newAt ws i = allTo i (λ j. not (eqb (getD ws j 0) (getD ws i 0)))
-
--- No word has a bit at or above n.
-unfoldable pub Below : ℕ → List ℕ → Type 0
-Below n ws = (i : ℕ) → getD ws i 0 < 2 ^ n
-
--- What reading holds every word and user number of accepted tables to.
-pub record Bounded (T : Tables) : Type 0 where
-  pub roles : Below (length (T .roleRows)) (T .roleRows)
-  pub users : Below (length (T .roleRows)) (T .userRows)
-  pub sessions : Below (length (T .roleRows)) (T .sessionRows)
-  pub permissions : Below (length (T .roleRows)) (T .permissionRows)
-  pub crs : Below (length (T .roleRows)) (T .cr)
-  pub cus : Below (length (T .userRows)) (T .cu)
-  pub cps : Below (length (T .permissionRows)) (T .cp)
-  pub paired : length (T .sessionUsers) ≡ length (T .sessionRows)
-  pub numbers : (i : ℕ) → i < length (T .sessionUsers) → getD (T .sessionUsers) i 0 < length (T .userRows)
 
 -- The counts that the code takes parts of the words by.
 pub record CountsFit (ws : List ℕ) : Type 0 where

@@ -1,0 +1,53 @@
+-- Document 01, "Tables" and "Turned back" 2 to 9: what accepted tables are.
+-- Assumes nothing.
+use mathlib.Core.Path.{_≡_}
+use mathlib.Core.Bool.{true}
+use mathlib.Core.List.{List}
+use Prim.Native.Nat.{ℕ, _*_, _^_, _≤_, _<_}
+use lib.ListN.{length, getD}
+use Rattle.tables.specs.Tables.{Tables}
+use Rattle.tables.specs.Checks.{ranked, inReach, apart}
+
+-- The counts: "Roles, at most 64", "Users, at most 64", "Sessions, at most 64", "Operations, at most 8", "Objects, at most 8",
+-- "Permissions, exactly operations × objects", CR, CU, CP: "At most 64 words each".
+pub record Fits (T : Tables) : Type 0 where
+  pub roles : length (T .roleRows) ≤ 64
+  pub users : length (T .userRows) ≤ 64
+  pub sessionsUsers : length (T .sessionUsers) ≤ 64
+  pub sessionsRoles : length (T .sessionRows) ≤ 64
+  pub operations : T .operationCount ≤ 8
+  pub objects : T .objectCount ≤ 8
+  pub permissions : length (T .permissionRows) ≡ T .operationCount * T .objectCount
+  pub crs : length (T .cr) ≤ 64
+  pub cus : length (T .cu) ≤ 64
+  pub cps : length (T .cp) ≤ 64
+
+-- No word has a "bit .. at or above its count", which is n.
+unfoldable pub Below : ℕ → List ℕ → Type 0
+Below n ws = (i : ℕ) → getD ws i 0 < 2 ^ n
+
+-- The rows: words of roles, of users and of permissions; each session has a user, and its number is below the count of users.
+pub record Bounded (T : Tables) : Type 0 where
+  pub roles : Below (length (T .roleRows)) (T .roleRows)
+  pub users : Below (length (T .roleRows)) (T .userRows)
+  pub sessions : Below (length (T .roleRows)) (T .sessionRows)
+  pub permissions : Below (length (T .roleRows)) (T .permissionRows)
+  pub crs : Below (length (T .roleRows)) (T .cr)
+  pub cus : Below (length (T .userRows)) (T .cu)
+  pub cps : Below (length (T .permissionRows)) (T .cp)
+  pub paired : length (T .sessionUsers) ≡ length (T .sessionRows)
+  pub numbers : (i : ℕ) → i < length (T .sessionUsers) → getD (T .sessionUsers) i 0 < length (T .userRows)
+
+-- What is checked while the sections are read.
+pub record Sound (T : Tables) : Type 0 where
+  pub fits : Fits T
+  pub bounded : Bounded T
+
+-- "Tables are accepted when no check on them refuses": those, and "After the last section" rank, overreach and twin.
+pub record Passes (T : Tables) : Type 0 where
+  pub sound : Sound T
+  pub rank : ranked (T .roleRows) ≡ true
+  pub reach : inReach T ≡ true
+  pub crs : apart (T .cr) ≡ true
+  pub cus : apart (T .cu) ≡ true
+  pub cps : apart (T .cp) ≡ true

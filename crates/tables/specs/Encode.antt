@@ -1,0 +1,53 @@
+-- Document 01, "Tables": the bytes of tables. A section is one line of `sectionBytes`.
+-- Assumes nothing.
+use mathlib.Core.List.{List, [], _∷_, _++_, map}
+use Prim.Native.Nat.{ℕ}
+use lib.ListN.{length}
+use Rattle.tables.specs.Tables.{Tables}
+use Rattle.tables.specs.Bytes.{Bytes, lowestFirst}
+use Rattle.tables.specs.Reading.{Session}
+
+-- "A row is a word"; "A row is a mark byte (1 entered ..), then a word"; "A row is a user number (1 byte), then a word of active roles."
+unfoldable pub wordBytes : ℕ → Bytes
+wordBytes w = lowestFirst 8 w
+
+unfoldable pub markedBytes : ℕ → Bytes
+markedBytes w = 1 ∷ lowestFirst 8 w
+
+unfoldable pub sessionBytes : Session → Bytes
+sessionBytes s = s .user ∷ lowestFirst 8 (s .active)
+
+-- One after another.
+unfoldable pub joined : List Bytes → Bytes
+joined [] = []
+joined (b ∷ bs) = b ++ joined bs
+
+-- Rows "after a one-byte count"; a "count only".
+unfoldable pub counted : {A : Type 0} → (A → Bytes) → List A → Bytes
+counted row xs = length xs ∷ joined (map row xs)
+
+abbrev pub countOnly : ℕ → Bytes
+countOnly n = n ∷ []
+
+-- Sessions of their users and their active roles.
+unfoldable pub sessionsOf : List ℕ → List ℕ → List Session
+sessionsOf [] ws = []
+sessionsOf (u ∷ us) [] = []
+sessionsOf (u ∷ us) (w ∷ ws) = record { user = u; active = w } ∷ sessionsOf us ws
+
+-- "Sections follow in this order".
+unfoldable pub sectionBytes : Tables → List Bytes
+sectionBytes T =
+    counted wordBytes (T .roleRows)
+    ∷ counted markedBytes (T .userRows)
+    ∷ counted sessionBytes (sessionsOf (T .sessionUsers) (T .sessionRows))
+    ∷ countOnly (T .operationCount)
+    ∷ countOnly (T .objectCount)
+    ∷ counted markedBytes (T .permissionRows)
+    ∷ counted wordBytes (T .cr)
+    ∷ counted wordBytes (T .cu)
+    ∷ counted wordBytes (T .cp)
+    ∷ []
+
+unfoldable pub encode : Tables → Bytes
+encode T = joined (sectionBytes T)
