@@ -8,7 +8,8 @@ use lib.ListN.{length, getD, set, length-set, length-append, length-map, replica
 use lib.Seq.{set-append-left, set-getD, set-set, getD-set-same}
 use Rattle.words.specs.Words.{itemOf}
 use Rattle.tables.specs.Tables.{Tables}
-use Rattle.tables.specs.Flat.{padded, tabulate, counts, objectRows, operationRows, sections, laid, flat, Fits}
+use Rattle.tables.specs.Accepted.{Fits}
+use Rattle.tables.specs.Flat.{padded, tabulate, counts, objectRows, operationRows, sections, laid, flat}
 use Rattle.tables.specs.Reading.{Session, Rights, Collections}
 use Rattle.tables.specs.code.Reads.{put, withSection, withSessions, withNames, withRights, withCollections, Filled}
 use Rattle.tables.proofs.FlatLaws.{length-padded, length-tabulate}

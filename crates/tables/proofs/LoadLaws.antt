@@ -9,7 +9,8 @@ use lib.Dec.{ltb}
 use lib.ListN.{length, drop, length-drop, replicate}
 use borrow.Author.Tests.{lt-ltb, le-ltb}
 use Rattle.answers.specs.declared.Refusal.{Refusal}
-use Rattle.answers.specs.declared.Refusal.the-variants.{LeftOver}
+use Rattle.answers.specs.declared.Refusal.the-variants.{Rank, Overreach, Twin, LeftOver}
+use Rattle.answers.specs.Refusal.{numberOf}
 use Rattle.tables.specs.declared.Outcome.{Outcome}
 use Rattle.tables.specs.declared.Outcome.the-variants.{Refused, Accepted}
 use Rattle.tables.specs.Tables.{Tables}
@@ -30,6 +31,23 @@ load-stop b q = rw q
 pub left-over : (b : Bytes) {T : Tables} {t : Bytes} → sections b ≡ took T t → 0 < length t → tablesOf b ≡ turned LeftOver
 unfolding tablesOf whole next nothingLeft refuse
 left-over b {T} {t} q l = rw (q, lt-ltb 0 (length t) l)
+
+-- Once the sections are read, a refusal is one of 7 to 10.
+pub late-refusal : (b : Bytes) {T : Tables} {t : Bytes} {e : Refusal} → sections b ≡ took T t → tablesOf b ≡ turned e → 7 ≤ numberOf e
+unfolding tablesOf whole next nothingLeft refuse
+late-refusal b {T} {t} {e} q h =
+    go (ltb 0 (length t)) (ranked (T .roleRows)) (inReach T) (apart (T .cr) && (apart (T .cu) && apart (T .cp))) refl refl refl refl
+  where
+    late : (f : Refusal) → 7 ≤ numberOf f → f ≡ e → 7 ≤ numberOf e
+    late f l d = rw (← d) l
+
+    go : (w x y z : Bool) → ltb 0 (length t) ≡ w → ranked (T .roleRows) ≡ x → inReach T ≡ y → (apart (T .cr) && (apart (T .cu) && apart (T .cp))) ≡ z
+        → 7 ≤ numberOf e
+    go true x y z e₀ e₁ e₂ e₃ = late LeftOver (omega arith) (cc (rw (q, e₀) at h))
+    go false false y z e₀ e₁ e₂ e₃ = late Rank (omega arith) (cc (rw (q, e₀, e₁) at h))
+    go false true false z e₀ e₁ e₂ e₃ = late Overreach (omega arith) (cc (rw (q, e₀, e₁, e₂) at h))
+    go false true true false e₀ e₁ e₂ e₃ = late Twin (omega arith) (cc (rw (q, e₀, e₁, e₂, e₃) at h))
+    go false true true true e₀ e₁ e₂ e₃ = let o : _≡_ {A = ℕ} 0 1 = cc (rw (q, e₀, e₁, e₂, e₃) at h) in absurd (omega arith)
 
 module _ (b : Bytes) {T : Tables} {n : ℕ} (q : sections b ≡ took T (drop n b)) where
   pub load-left : n < length b → tablesOf b ≡ turned LeftOver

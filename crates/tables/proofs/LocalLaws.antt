@@ -1,4 +1,5 @@
--- Document 01, "Day sheet": "first 4,096 bytes suffice": reading looks at no more than 3,785 bytes, and then for one that is left over.
+-- Document 01: "the first refusal met is the answer and nothing further is read", whatever bytes follow; "first 4,096 bytes suffice": reading
+-- looks at no more than 3,785 bytes, and then for one that is left over.
 -- Assumes nothing.
 use mathlib.Core.Path.{_≡_, refl, sym, ap, _∙_}
 use mathlib.Core.Bool.{Bool, true, false, not, cond}
@@ -11,41 +12,61 @@ use lib.ListN.{length, getD, take, drop, length-append, length-drop, take-append
 use lib.Seq.{take-append-le, drop-append-le, take-all, length-take-le}
 use borrow.Author.Tests.{ltb-true, ltb-false, le-ltb, eqb-true, not-false}
 use Rattle.answers.specs.declared.Refusal.{Refusal}
-use Rattle.answers.specs.declared.Refusal.the-variants.{CutShort}
+use Rattle.answers.specs.declared.Refusal.the-variants.{CutShort, Overfull, NotEntered, BadMark, NoSuchItem, Miscounted}
+use Rattle.answers.specs.Refusal.{numberOf}
+use Rattle.answers.proofs.AnswerLaws.{number-some, same-number}
 use Rattle.tables.specs.Tables.{Tables}
 use Rattle.tables.specs.Reading.{Bytes, Taken, Reader, stop, took, next, refuse, front, byte, count, wordFrom, wordWithin, wordRow, markedRow}
-use Rattle.tables.specs.Reading.{sessionRow, rows, section, permissions, rights, collections, sections, tablesOf}
+use Rattle.tables.specs.Reading.{sessionRow, rows, section, permissions, rights, collections, sections, turned, taken, tablesOf}
 use Rattle.tables.proofs.SectionsLaws.{product-few}
-use Rattle.tables.proofs.FitsLaws.{next-case, count-few}
-use Rattle.tables.proofs.LoadLaws.{load-stop, left-over}
+use Rattle.tables.proofs.FitsLaws.{next-case, count-few, Read, accepted-read}
+use Rattle.tables.proofs.LoadLaws.{load-stop, left-over, late-refusal}
 
 -- What is read of bytes with more behind them.
 abbrev extend : {A : Type 0} → Bytes → Taken A → Taken A
 extend x (stop e) = stop e
 extend x (took a t) = took a (t ++ x)
 
--- A reader that uses at most k bytes, and to which k bytes tell all.
+-- A refusal that is not "cut short".
+told : {A : Type 0} {e : Refusal} → 2 ≤ numberOf e → _≡_ {A = Taken A} (stop e) (stop CutShort) → ⊥
+told {e = e} l q = let z : e ≡ CutShort = cc in absurd (omega (arith, ap numberOf z))
+
+not-cut : {A : Type 0} {a : A} {t : Bytes} → took a t ≡ stop CutShort → ⊥
+not-cut q = let z : _≡_ {A = ℕ} 0 1 = cc in absurd (omega arith)
+
+-- A reader that is told no more by bytes behind, unless its own are cut short; it uses at most k bytes, and k bytes are not cut short.
 record Local {A : Type 0} (k : ℕ) (m : Reader A) : Type 0 where
-  same : (s x : Bytes) → k ≤ length s → m (s ++ x) ≡ extend x (m s)
+  same : (s x : Bytes) → (m s ≡ stop CutShort → ⊥) → m (s ++ x) ≡ extend x (m s)
   uses : (s : Bytes) (a : A) (t : Bytes) → m s ≡ took a t → length s ≤ k + length t
+  enough : (s : Bytes) → k ≤ length s → m s ≡ stop CutShort → ⊥
 
 weaken : {A : Type 0} {m : Reader A} (j k : ℕ) → j ≤ k → Local j m → Local k m
-weaken j k l h = record { same = λ s x p. h .same s x (omega arith); uses = λ s a t q. omega (arith, h .uses s a t q) }
+weaken j k l h = record { same = h .same; uses = λ s a t q. omega (arith, h .uses s a t q); enough = λ s p. h .enough s (omega arith) }
 
 local-give : {A : Type 0} (a : A) → Local 0 (λ s. took a s)
-local-give a = record { same = λ s x p. refl; uses = λ s b t q. let d : s ≡ t = cc in omega (arith, ap length d) }
+local-give a =
+    record { same = λ s x p. refl; uses = λ s b t q. let d : s ≡ t = cc in omega (arith, ap length d); enough = λ s p q. not-cut q }
 
 local-front : (n : ℕ) → Local n (front n)
 unfolding front
 local-front n =
     record {
-      same = λ s x p. rw (le-ltb (length (s ++ x)) n (omega (arith, length-append s x)), le-ltb (length s) n p, take-append-le n s x p, drop-append-le n s x p);
+      same = λ s x p. keep s x p (ltb (length s) n) refl;
       uses = λ s b t q. go s t b (ltb (length s) n) refl q;
+      enough = λ s p q. not-cut (rw (le-ltb (length s) n p) at q);
     }
   where
     go : (s t b : Bytes) (c : Bool) → ltb (length s) n ≡ c → cond c (stop CutShort) (took (take n s) (drop n s)) ≡ took b t → length s ≤ n + length t
     go s t b true e k = let z : _≡_ {A = ℕ} 0 1 = cc in absurd (omega arith)
     go s t b false e k = let d : drop n s ≡ t = cc in omega (arith, sym (length-drop n s) ∙ ap length d)
+
+    keep : (s x : Bytes) → (cond (ltb (length s) n) (stop CutShort) (took (take n s) (drop n s)) ≡ stop CutShort → ⊥) → (c : Bool) → ltb (length s) n ≡ c
+        → cond (ltb (length (s ++ x)) n) (stop CutShort) (took (take n (s ++ x)) (drop n (s ++ x)))
+        ≡ extend x (cond (ltb (length s) n) (stop CutShort) (took (take n s) (drop n s)))
+    keep s x p true e = absurd (p (rw e))
+    keep s x p false e =
+        let l = ltb-false (length s) n e in
+        rw (le-ltb (length (s ++ x)) n (omega (arith, length-append s x)), e, take-append-le n s x l, drop-append-le n s x l)
 
 -- One reader behind another; P is what the first leaves.
 module _ {A B : Type 0} (P : A → Type 0) {m : Reader A} {f : A → Reader B} (j k : ℕ) where
@@ -53,18 +74,25 @@ module _ {A B : Type 0} (P : A → Type 0) {m : Reader A} {f : A → Reader B} (
   unfolding next
   local-next p h g =
       record {
-        same = λ s x l. go s x l (m s) refl;
+        same = λ s x c. go s x c (m s) refl;
         uses = λ s b t q. next-case (m s) f q λ a u e r. omega (arith, h .uses s a u e, g a (p s a u e) .uses u b t r);
+        enough = λ s l q. cut s l (m s) refl q;
       }
     where
-      go : (s x : Bytes) → j + k ≤ length s → (r : Taken A) → m s ≡ r → next (m (s ++ x)) f ≡ extend x (next (m s) f)
-      go s x l (stop e) q = rw (h .same s x (omega arith), q)
-      go s x l (took a t) q = rw (h .same s x (omega arith), q) (g a (p s a t q) .same t x (omega (arith, h .uses s a t q)))
+      go : (s x : Bytes) → (next (m s) f ≡ stop CutShort → ⊥) → (r : Taken A) → m s ≡ r → next (m (s ++ x)) f ≡ extend x (next (m s) f)
+      go s x c (stop e) q = rw (h .same s x (λ z. c (rw z)), q)
+      go s x c (took a t) q = rw (h .same s x (λ z. not-cut (sym q ∙ z)), q) (g a (p s a t q) .same t x (λ z. c (rw q z)))
 
-local-refuse : {B : Type 0} {f : Reader B} (c : Bool) (e : Refusal) (k : ℕ) → (c ≡ false → Local k f) → Local k (λ s. next (refuse c e s) (λ _. f))
+      cut : (s : Bytes) → j + k ≤ length s → (r : Taken A) → m s ≡ r → next r f ≡ stop CutShort → ⊥
+      cut s l (stop e) q z = let d : e ≡ CutShort = cc in h .enough s (omega arith) (rw d at q)
+      cut s l (took a t) q z = g a (p s a t q) .enough t (omega (arith, h .uses s a t q)) z
+
+local-refuse : {B : Type 0} {f : Reader B} (c : Bool) (e : Refusal) (k : ℕ) → 2 ≤ numberOf e → (c ≡ false → Local k f)
+    → Local k (λ s. next (refuse c e s) (λ _. f))
 unfolding next refuse
-local-refuse true e k h = record { same = λ s x l. refl; uses = λ s b t q. let z : _≡_ {A = ℕ} 0 1 = cc in absurd (omega arith) }
-local-refuse false e k h = h refl
+local-refuse true e k l h =
+    record { same = λ s x p. refl; uses = λ s b t q. let z : _≡_ {A = ℕ} 0 1 = cc in absurd (omega arith); enough = λ s p q. told l q }
+local-refuse false e k l h = h refl
 
 -- Whatever the first reader leaves.
 abbrev Any : {A : Type 0} → A → Type 0
@@ -76,11 +104,11 @@ local-byte = local-next Any 1 0 (λ s a t q. tt) (local-front 1) (λ b u. local-
 
 local-count : (limit : ℕ) → Local 1 (count limit)
 unfolding count
-local-count limit = local-next Any 1 0 (λ s a t q. tt) local-byte (λ n u. local-refuse (ltb limit n) _ 0 (λ c. local-give n))
+local-count limit = local-next Any 1 0 (λ s a t q. tt) local-byte (λ n u. local-refuse (ltb limit n) Overfull 0 (omega arith) (λ c. local-give n))
 
 local-within : (n : ℕ) (b : Bytes) → Local 0 (wordWithin n b)
 unfolding wordWithin
-local-within n b = local-refuse _ _ 0 (λ c. local-give (wordFrom b))
+local-within n b = local-refuse _ NoSuchItem 0 (omega arith) (λ c. local-give (wordFrom b))
 
 local-word : (n : ℕ) → Local 8 (wordRow n)
 unfolding wordRow
@@ -89,13 +117,14 @@ local-word n = local-next Any 8 0 (λ s a t q. tt) (local-front 8) (λ b u. loca
 local-marked : (n : ℕ) → Local 9 (markedRow n)
 unfolding markedRow
 local-marked n =
-    local-next Any 9 0 (λ s a t q. tt) (local-front 9) (λ b u. local-refuse _ _ 0 (λ c. local-refuse _ _ 0 (λ d. local-within n (drop 1 b))))
+    local-next Any 9 0 (λ s a t q. tt) (local-front 9)
+    (λ b u. local-refuse _ NotEntered 0 (omega arith) (λ c. local-refuse _ BadMark 0 (omega arith) (λ d. local-within n (drop 1 b))))
 
 local-session : (users roles : ℕ) → Local 9 (sessionRow users roles)
 unfolding sessionRow
 local-session users roles =
     local-next Any 9 0 (λ s a t q. tt) (local-front 9)
-    (λ b u. local-refuse _ _ 0 (λ c. local-next Any 0 0 (λ s a t q. tt) (local-within roles (drop 1 b)) (λ w v. local-give _)))
+    (λ b u. local-refuse _ NoSuchItem 0 (omega arith) (λ c. local-next Any 0 0 (λ s a t q. tt) (local-within roles (drop 1 b)) (λ w v. local-give _)))
 
 module _ {A : Type 0} (k : ℕ) (row : Reader A) (h : Local k row) where
   local-rows : (n : ℕ) → Local (k * n) (rows row n)
@@ -116,7 +145,7 @@ local-permissions : (product roles : ℕ) → product ≤ 64 → Local (1 + 576)
 unfolding permissions
 local-permissions product roles l =
     local-next Any 1 576 (λ s a t q. tt) local-byte
-    (λ n u. local-refuse (not (eqb n product)) _ 576
+    (λ n u. local-refuse (not (eqb n product)) Miscounted 576 (omega arith)
     (λ c.
     let e = eqb-true n product (not-false (eqb n product) c) in
     weaken (9 * n) 576 (omega arith) (local-rows 9 (markedRow roles) (local-marked roles) n)))
@@ -144,15 +173,60 @@ local-sections =
     (λ ss k. local-next Any 579 1539 (λ s a t q. tt) (local-rights (length rs))
     (λ q l. local-next Any 1539 0 (λ s a t q. tt) (local-collections _ _ _) (λ c m. local-give _)))))
 
+-- "the first refusal met is the answer and nothing further is read": a refusal 2 to 6 is the answer whatever bytes follow.
+pub first-refusal : (s x : Bytes) (e : Refusal) → sections s ≡ stop e → 2 ≤ numberOf e → tablesOf (s ++ x) ≡ turned e
+first-refusal s x e q l = load-stop (s ++ x) (local-sections .same s x (λ z. told l (sym q ∙ z)) ∙ ap (extend x) q)
+
+pub refusal-stays : (s x : Bytes) (e : Refusal) → tablesOf s ≡ turned e → 2 ≤ numberOf e → numberOf e ≤ 6 → tablesOf (s ++ x) ≡ turned e
+refusal-stays s x e h l k = go (sections s) refl
+  where
+    go : (r : Taken Tables) → sections s ≡ r → tablesOf (s ++ x) ≡ turned e
+    go (stop f) q =
+        let d : f ≡ e = cc (load-stop s q) in
+        first-refusal s x e (rw d at q) l
+    go (took T t) q = absurd (omega (arith, late-refusal s q h))
+
+-- 1: "bytes end where a count or row is due, or inside a row": accepted tables that are cut anywhere are cut short.
+pub cut-anywhere : (b : Bytes) {T : Tables} → tablesOf b ≡ taken T → (n : ℕ) → n < length b → tablesOf (take n b) ≡ turned CutShort
+cut-anywhere b {T} q n l = go (sections s) refl
+  where
+    s : Bytes
+    s = take n b
+
+    x : Bytes
+    x = drop n b
+
+    again : s ++ x ≡ b
+    again = take-append-drop n b
+
+    read : Read b T
+    read = accepted-read b q
+
+    go : (r : Taken Tables) → sections s ≡ r → tablesOf s ≡ turned CutShort
+    go (took U t) p =
+        let e = local-sections .same s x (λ z. not-cut (sym p ∙ z)) ∙ ap (extend x) p in
+        let d : t ++ x ≡ read .rest = cc (rw again at e, read .reads) in
+        absurd (omega (arith, length-append t x, length-drop n b, ap length d, read .none))
+    go (stop e) p = cases (ltb 1 (numberOf e)) refl
+      where
+        cases : (c : Bool) → ltb 1 (numberOf e) ≡ c → tablesOf s ≡ turned CutShort
+        cases false z =
+            let one : numberOf e ≡ 1 = omega (arith, ltb-false 1 (numberOf e) z, number-some e) in
+            load-stop s (p ∙ ap stop (same-number e CutShort one))
+        cases true z =
+            let f = sym (first-refusal s x e p (ltb-true 1 (numberOf e) z)) ∙ ap tablesOf again ∙ q in
+            let o : _≡_ {A = ℕ} 0 1 = cc in
+            absurd (omega arith)
+
 -- Any first 3,786 bytes or more suffice.
 pub more-behind : (s x : Bytes) → 3785 < length s → tablesOf (s ++ x) ≡ tablesOf s
 more-behind s x l = go (sections s) refl
   where
     go : (r : Taken Tables) → sections s ≡ r → tablesOf (s ++ x) ≡ tablesOf s
-    go (stop e) q = load-stop (s ++ x) (local-sections .same s x (omega arith) ∙ ap (extend x) q) ∙ sym (load-stop s q)
+    go (stop e) q = load-stop (s ++ x) (local-sections .same s x (local-sections .enough s (omega arith)) ∙ ap (extend x) q) ∙ sym (load-stop s q)
     go (took T t) q =
         let u = local-sections .uses s T t q in
-        left-over (s ++ x) (local-sections .same s x (omega arith) ∙ ap (extend x) q) (omega (arith, length-append t x)) ∙ sym (left-over s q (omega arith))
+        left-over (s ++ x) (local-sections .same s x (local-sections .enough s (omega arith)) ∙ ap (extend x) q) (omega (arith, length-append t x)) ∙ sym (left-over s q (omega arith))
 
 pub first-suffice : (n : ℕ) (b : Bytes) → 3785 < n → tablesOf (take n b) ≡ tablesOf b
 first-suffice n b l = go (ltb n (length b)) refl

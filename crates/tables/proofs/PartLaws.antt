@@ -10,8 +10,8 @@ use lib.Seq.{take-append-le, drop-append-add, length-take-le}
 use Rattle.words.specs.Words.{itemOf}
 use Rattle.tables.specs.Tables.{Tables}
 use Rattle.tables.specs.Checks.{ranked, inReach}
-use Rattle.tables.specs.Flat.{padded, counts, sections, laid, flat, Fits}
-use Rattle.tables.specs.Accepted.{Below, Bounded}
+use Rattle.tables.specs.Flat.{padded, counts, sections, laid, flat}
+use Rattle.tables.specs.Accepted.{Fits, Below, Bounded}
 use Rattle.tables.specs.code.Reads.{reaching, CountsFit}
 use Rattle.tables.proofs.FlatLaws.{length-padded, length-flat, flat-at}
 use Rattle.tables.proofs.CheckLaws.{reach-words}
