@@ -6,15 +6,16 @@ use mathlib.Core.List.{List, [], _∷_, _++_}
 use Prim.Native.Nat.{ℕ, _≤_, _<_, _^_}
 use native.Mathlib.Omega.{arith}
 use lib.Dec.{leb}
-use lib.ListN.{replicate}
-use borrow.Author.Tests.{leb-true, leb-false, le-leb}
-use Rattle.answers.specs.declared.Refusal.the-variants.{NotEntered, CutShort}
+use lib.ListN.{length, getD, take, drop, replicate}
+use borrow.Author.Tests.{leb-true, leb-false, le-leb, lt-leb}
+use Rattle.answers.specs.declared.Refusal.the-variants.{CutShort, NotEntered, BadMark, NoSuchItem}
 use Rattle.words.specs.Words.{has, anyTo}
 use Rattle.words.proofs.WordsLaws.{has-out, word-self, word-more, any-here, any-witness, both, and-true, and-both, word-lt}
 use Rattle.tables.specs.Tables.{Tables}
 use Rattle.tables.specs.Checks.{allTo, reflexive, transitive, antisymmetric, ranked, inReach, apart}
-use Rattle.tables.specs.Reading.{Bytes, turned, taken, tablesOf, next, refuse, front, byte, count, wordFrom, wordWithin, wordRow, markedRow}
+use Rattle.tables.specs.Reading.{Bytes, stop, took, turned, taken, tablesOf, next, refuse, front, byte, count, wordFrom, wordWithin, wordRow, markedRow, sessionRow}
 use Rattle.tables.specs.Reading.{rows, section, permissions, rights, collections, sections, nothingLeft, whole}
+use Rattle.tables.proofs.ReadLaws.{nine, word-row-cut, marked-cut, session-cut, word-row, marked-none, marked-bad, marked-row, session-none, within-over, within-took}
 
 -- "bit i stands for item i"; "bit .. at or above its count": a word of 64 bits is 2 ^ n or more exactly where it has a bit at or above n.
 pub outside-bits : (n w : ℕ) → n ≤ 64 → w < 2 ^ 64 → leb (2 ^ n) w ≡ anyTo 64 (λ i. leb n i && has w i)
@@ -92,7 +93,45 @@ pub never-entered : tablesOf (oneUser 0 0) ≡ turned NotEntered
 unfolding everything
 never-entered = refl
 
--- The row is complete before its mark is looked at.
-pub cut-row : tablesOf (1 ∷ 1 ∷ replicate 7 0 ++ 1 ∷ 0 ∷ []) ≡ turned CutShort
-unfolding everything
-cut-row = refl
+-- "A row must be complete before it is examined": fewer bytes than the row has are 1, whatever they are.
+module _ (s : Bytes) where
+  pub cut-word-row : (n : ℕ) → length s < 8 → wordRow n s ≡ stop CutShort
+  cut-word-row n h = word-row-cut s 0 n (omega arith)
+
+  pub cut-marked-row : (n : ℕ) → length s < 9 → markedRow n s ≡ stop CutShort
+  cut-marked-row n h = marked-cut s 0 n (omega arith)
+
+  pub cut-session-row : (users n : ℕ) → length s < 9 → sessionRow users n s ≡ stop CutShort
+  cut-session-row users n h = session-cut s 0 users n (omega arith)
+
+-- "mark, then user number, then word": of a complete row, whatever its later bytes are.
+module _ (s : Bytes) (whole : 9 ≤ length s) where
+  pub mark-zero : (n : ℕ) → getD s 0 0 ≡ 0 → markedRow n s ≡ stop NotEntered
+  mark-zero n e = marked-none s 0 n whole e
+
+  pub mark-above : (n : ℕ) → 1 < getD s 0 0 → markedRow n s ≡ stop BadMark
+  mark-above n l = marked-bad s 0 n whole l
+
+  pub marked-over : (n : ℕ) → getD s 0 0 ≡ 1 → 2 ^ n ≤ wordFrom (take 8 (drop 1 s)) → markedRow n s ≡ stop NoSuchItem
+  marked-over n e l = marked-row s 0 n whole (λ z. absurd (omega arith)) (omega arith) ∙ within-over n (take 8 (drop 1 s)) (drop 9 s) refl refl (le-leb (2 ^ n) _ l)
+
+  pub marked-taken : (n : ℕ) → getD s 0 0 ≡ 1 → wordFrom (take 8 (drop 1 s)) < 2 ^ n → markedRow n s ≡ took (wordFrom (take 8 (drop 1 s))) (drop 9 s)
+  marked-taken n e l = marked-row s 0 n whole (λ z. absurd (omega arith)) (omega arith) ∙ within-took n (take 8 (drop 1 s)) (drop 9 s) refl refl (lt-leb (2 ^ n) _ l)
+
+  pub user-above : (users n : ℕ) → users ≤ getD s 0 0 → sessionRow users n s ≡ stop NoSuchItem
+  user-above users n l = session-none s 0 users n whole l
+
+  pub session-over : (users n : ℕ) → getD s 0 0 < users → 2 ^ n ≤ wordFrom (take 8 (drop 1 s)) → sessionRow users n s ≡ stop NoSuchItem
+  unfolding sessionRow next refuse
+  session-over users n h l = rw (nine s 0 whole, lt-leb users (getD s 0 0) h, within-over n (take 8 (drop 1 s)) (drop 9 s) refl refl (le-leb (2 ^ n) _ l))
+
+  pub session-taken : (users n : ℕ) → getD s 0 0 < users → wordFrom (take 8 (drop 1 s)) < 2 ^ n → sessionRow users n s ≡ took (record { user = getD s 0 0; active = wordFrom (take 8 (drop 1 s)) }) (drop 9 s)
+  unfolding sessionRow next refuse
+  session-taken users n h l = rw (nine s 0 whole, lt-leb users (getD s 0 0) h, within-took n (take 8 (drop 1 s)) (drop 9 s) refl refl (lt-leb (2 ^ n) _ l))
+
+module _ (s : Bytes) (whole : 8 ≤ length s) where
+  pub word-over : (n : ℕ) → 2 ^ n ≤ wordFrom (take 8 s) → wordRow n s ≡ stop NoSuchItem
+  word-over n l = word-row s 0 n whole ∙ within-over n (take 8 s) (drop 8 s) refl refl (le-leb (2 ^ n) _ l)
+
+  pub word-taken : (n : ℕ) → wordFrom (take 8 s) < 2 ^ n → wordRow n s ≡ took (wordFrom (take 8 s)) (drop 8 s)
+  word-taken n l = word-row s 0 n whole ∙ within-took n (take 8 s) (drop 8 s) refl refl (lt-leb (2 ^ n) _ l)

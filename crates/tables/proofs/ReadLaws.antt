@@ -180,7 +180,7 @@ module _ (s : Bytes) (at : ℕ) where
   word-row n h = rw (front-took s at 8 h)
 
   -- A row of nine bytes: what stands in front of its word, the word, and what is behind.
-  nine : at + 9 ≤ length s → front 9 (drop at s) ≡ took (getD s at 0 ∷ take 8 (drop (at + 1) s)) (drop (at + 1 + 8) s)
+  pub nine : at + 9 ≤ length s → front 9 (drop at s) ≡ took (getD s at 0 ∷ take 8 (drop (at + 1) s)) (drop (at + 1 + 8) s)
   nine h =
       let q : at + 1 + 8 ≡ at + 9 = omega arith in
       let l : at < length s = omega arith in
