@@ -23,7 +23,7 @@ use Rattle.functions.specs.Functions.{permissionsOfRoles, permissionsOfJ
 
 -- ---- the rows of one item
 
-eqb-comm : (a b : ℕ) → eqb a b ≡ eqb b a
+pub eqb-comm : (a b : ℕ) → eqb a b ≡ eqb b a
 eqb-comm a b = both (eqb a b) (eqb b a) (λ e. eq-eqb b a (sym (eqb-true a b e))) (λ e. eq-eqb a b (sym (eqb-true b a e)))
 
 -- Row i is the word of the item y, or 0 past the last row.

@@ -1,3 +1,4 @@
 -- The laws of the functions.
 pub mod SectionLaws
 pub mod FunctionsLaws
+pub mod UnionLaws

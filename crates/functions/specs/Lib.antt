@@ -1,2 +1,3 @@
--- The functions of Figure 2.
+-- The functions of Figure 2, and what "the union over its members" is.
 pub mod Functions
+pub mod Union
