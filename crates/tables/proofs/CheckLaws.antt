@@ -49,7 +49,7 @@ less-zero n w v l h = both (eqb (lessOf w v) 0) (allTo n (λ i. implies (has w i
 clash : true ≡ false → ⊥
 clash z = let o : _≡_ {A = ℕ} 0 1 = cc in absurd (omega arith)
 
-implied : (a b c : Bool) → (a ≡ true → b ≡ true → c ≡ true) → implies (a && b) c ≡ true
+pub implied : (a b c : Bool) → (a ≡ true → b ≡ true → c ≡ true) → implies (a && b) c ≡ true
 implied true true c h = implies-true c (h refl refl)
   where
     implies-true : (c : Bool) → c ≡ true → implies true c ≡ true

@@ -300,7 +300,7 @@ module _ (r u p : ℕ) (lr : r ≤ 64) (lu : u ≤ 64) (lp : p ≤ 64) where
       rw (← d, ← f) (fx ∙ ap (λ (s : Bytes). counted wordBytes x ++ s) (fy ∙ ap (λ (s : Bytes). counted wordBytes y ++ s) fz))
 
 -- Sessions as two lists.
-sessions-users : (us ws : List ℕ) → length us ≡ length ws → map (λ s. s .user) (sessionsOf us ws) ≡ us
+pub sessions-users : (us ws : List ℕ) → length us ≡ length ws → map (λ s. s .user) (sessionsOf us ws) ≡ us
 unfolding sessionsOf
 sessions-users [] ws l = refl
 sessions-users (u ∷ us) [] l = absurd (omega arith)

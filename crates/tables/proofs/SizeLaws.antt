@@ -14,6 +14,7 @@ use Rattle.tables.specs.Tables.{Tables}
 use Rattle.tables.specs.Reading.{Bytes, Reader, stop, took, front, byte, count, wordWithin, wordRow, markedRow, sessionRow}
 use Rattle.tables.specs.Reading.{Session, rows, section, permissions, Rights, rights, Collections, collections, sections, assembled}
 use Rattle.tables.specs.Reading.{taken, tablesOf}
+use Rattle.tables.specs.Encode.{bytesOf}
 use Rattle.tables.proofs.SectionsLaws.{product-few}
 use Rattle.tables.proofs.FitsLaws.{next-case, refuse-case, accepted-read, accepted-sound}
 
@@ -112,12 +113,6 @@ collections-size r u p s {c} {t} e =
       section-size 8 (λ _. wordRow u) (λ m z y y′ h. word-size u z h) v ey,
       section-size 8 (λ _. wordRow p) (λ m z y y′ h. word-size p z h) w ez,
     ))
-
--- The bytes of tables: nine counts, rows of eight bytes, and rows of nine.
-abbrev pub bytesOf : Tables → ℕ
-bytesOf T =
-    9 + 8 * (length (T .roleRows) + length (T .cr) + length (T .cu) + length (T .cp))
-    + 9 * (length (T .userRows) + length (T .sessionUsers) + length (T .permissionRows))
 
 pub sections-size : (s : Bytes) {T : Tables} {t : Bytes} → sections s ≡ took T t → length s ≡ bytesOf T + length t
 unfolding sections

@@ -1,7 +1,7 @@
 -- Document 01, "Tables": the bytes of tables. A section is one line of `sectionBytes`.
 -- Assumes nothing.
 use mathlib.Core.List.{List, [], _∷_, _++_, map}
-use Prim.Native.Nat.{ℕ}
+use Prim.Native.Nat.{ℕ, _+_, _*_}
 use lib.ListN.{length}
 use Rattle.tables.specs.Tables.{Tables}
 use Rattle.tables.specs.Bytes.{Bytes, lowestFirst}
@@ -51,3 +51,9 @@ sectionBytes T =
 
 unfoldable pub encode : Tables → Bytes
 encode T = joined (sectionBytes T)
+
+-- How many bytes: nine counts, rows of eight bytes, and rows of nine.
+abbrev pub bytesOf : Tables → ℕ
+bytesOf T =
+    9 + 8 * (length (T .roleRows) + length (T .cr) + length (T .cu) + length (T .cp))
+    + 9 * (length (T .userRows) + length (T .sessionUsers) + length (T .permissionRows))

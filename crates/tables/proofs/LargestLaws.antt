@@ -1,0 +1,181 @@
+-- Document 01: "The largest tables take 3,785 bytes": the length of encoded tables, and tables of that length that are accepted.
+-- Assumes nothing.
+use mathlib.Core.Path.{_≡_, refl, sym, ap, _∙_}
+use mathlib.Core.Bool.{true, _&&_}
+use mathlib.Core.List.{List, [], _∷_, map}
+use Prim.Native.Nat.{ℕ, zero, suc, _+_, _*_, _^_, _≤_, _<_}
+use native.Mathlib.Nat.{mul-suc}
+use native.Mathlib.Omega.{arith}
+use lib.Dec.{eqb}
+use lib.ListN.{length, getD, length-append, length-map}
+use borrow.Author.Tests.{eqb-true, eq-eqb, ne-eqb}
+use Rattle.words.specs.Words.{has, itemOf}
+use Rattle.words.proofs.WordsLaws.{has-zero, has-item, item-lt, and-both}
+use Rattle.tables.specs.Tables.{Tables}
+use Rattle.tables.specs.Checks.{allTo, implies, above, reflexive, transitive, antisymmetric, ranked, inReach, apart}
+use Rattle.tables.specs.Bytes.{Bytes}
+use Rattle.tables.specs.Accepted.{Below, Passes}
+use Rattle.tables.specs.Reading.{Session, taken, tablesOf}
+use Rattle.tables.specs.Flat.{tabulate}
+use Rattle.tables.specs.Encode.{wordBytes, markedBytes, sessionBytes, joined, counted, sessionsOf, sectionBytes, encode, bytesOf}
+use Rattle.tables.proofs.FlatLaws.{length-tabulate, tabulate-at}
+use Rattle.tables.proofs.AllLaws.{all-every}
+use Rattle.tables.proofs.CheckLaws.{implied}
+use Rattle.tables.proofs.BytesLaws.{lowest-length}
+use Rattle.tables.proofs.EncodeLaws.{sessions-users, passes-accepted}
+
+-- Rows of k bytes each, after their count.
+module _ {A : Type 0} (k : ℕ) (row : A → Bytes) (h : (x : A) → length (row x) ≡ k) where
+  rows-length : (xs : List A) → length (joined (map row xs)) ≡ k * length xs
+  unfolding joined
+  rows-length [] = omega arith
+  rows-length (x ∷ xs) = omega (arith, length-append (row x) (joined (map row xs)), h x, rows-length xs, mul-suc k (length xs))
+
+  counted-length : (xs : List A) → length (counted row xs) ≡ 1 + k * length xs
+  unfolding counted
+  counted-length xs = omega (arith, rows-length xs)
+
+words-length : (ws : List ℕ) → length (counted wordBytes ws) ≡ 1 + 8 * length ws
+unfolding wordBytes
+words-length ws = counted-length 8 wordBytes (λ w. lowest-length 8 w) ws
+
+marked-length : (ws : List ℕ) → length (counted markedBytes ws) ≡ 1 + 9 * length ws
+unfolding markedBytes
+marked-length ws = counted-length 9 markedBytes (λ w. ap suc (lowest-length 8 w)) ws
+
+sessions-length : (ss : List Session) → length (counted sessionBytes ss) ≡ 1 + 9 * length ss
+unfolding sessionBytes
+sessions-length ss = counted-length 9 sessionBytes (λ s. ap suc (lowest-length 8 (s .active))) ss
+
+-- Tables whose sessions each have a user have the bytes that their counts say.
+pub encode-length : (T : Tables) → length (T .sessionUsers) ≡ length (T .sessionRows) → length (encode T) ≡ bytesOf T
+unfolding encode sectionBytes joined
+encode-length T l =
+    let ss = sessionsOf (T .sessionUsers) (T .sessionRows) in
+    let n : length ss ≡ length (T .sessionUsers) =
+    sym (length-map ss (λ s. s .user)) ∙ ap length (sessions-users (T .sessionUsers) (T .sessionRows) l) in
+    simp length-append
+    (omega (
+      arith,
+      words-length (T .roleRows),
+      marked-length (T .userRows),
+      sessions-length ss,
+      marked-length (T .permissionRows),
+      words-length (T .cr),
+      words-length (T .cu),
+      words-length (T .cp),
+    ))
+
+-- Full sections: roles that dominate themselves alone, users and permissions without roles, 64 sessions of user 0, and the words 0 to 63.
+abbrev alone : List ℕ
+alone = tabulate 64 itemOf
+
+abbrev zeros : List ℕ
+zeros = tabulate 64 (λ _. 0)
+
+abbrev first : List ℕ
+first = tabulate 64 (λ i. i)
+
+full : Tables
+full =
+    record {
+      roleRows = alone;
+      userRows = zeros;
+      sessionUsers = zeros;
+      sessionRows = zeros;
+      operationCount = 8;
+      objectCount = 8;
+      permissionRows = zeros;
+      cr = first;
+      cu = first;
+      cp = first;
+    }
+
+-- What holds of each is so of the list.
+tabulate-less : (b n : ℕ) (f : ℕ → ℕ) → 0 < b → ((i : ℕ) → i < n → f i < b) → (i : ℕ) → getD (tabulate n f) i 0 < b
+unfolding tabulate
+tabulate-less b zero f p h i = p
+tabulate-less b (suc n) f p h zero = h 0 (omega arith)
+tabulate-less b (suc n) f p h (suc i) = tabulate-less b n (λ j. f (suc j)) p (λ j l. h (suc j) (omega arith)) i
+
+-- Rows that are single items are ranked, and words that differ are apart.
+single-ranked : (rows : List ℕ) → length rows ≤ 64 → ((r : ℕ) → r < length rows → getD rows r 0 ≡ itemOf r) → ranked rows ≡ true
+unfolding ranked reflexive transitive antisymmetric
+single-ranked rows few h = and-both (all-every n _ self) (and-both (all-every n _ along) (all-every n _ not-both))
+  where
+    n : ℕ
+    n = length rows
+
+    is : (r q : ℕ) → r < n → q < n → above rows r q ≡ eqb q r
+    is r q lr lq = ap (λ (w : ℕ). has w q) (h r lr) ∙ has-item r q (omega arith)
+
+    self : (r : ℕ) → r < n → above rows r r ≡ true
+    self r l = is r r l l ∙ eq-eqb r r refl
+
+    along : (r : ℕ) → r < n → allTo n (λ q. allTo n (λ p. implies (above rows r q && above rows q p) (above rows r p))) ≡ true
+    along r lr = all-every n _ λ q lq. all-every n _ λ p lp.
+        implied (above rows r q) (above rows q p) (above rows r p) λ a b.
+        is r p lr lp ∙ eq-eqb p r (eqb-true p q (sym (is q p lq lp) ∙ b) ∙ eqb-true q r (sym (is r q lr lq) ∙ a))
+
+    not-both : (r : ℕ) → r < n → allTo n (λ q. implies (above rows r q && above rows q r) (eqb r q)) ≡ true
+    not-both r lr = all-every n _ λ q lq.
+        implied (above rows r q) (above rows q r) (eqb r q) λ a b. eq-eqb r q (eqb-true r q (sym (is q r lq lr) ∙ b))
+
+differing-apart : (ws : List ℕ) → ((i : ℕ) → i < length ws → getD ws i 0 ≡ i) → apart ws ≡ true
+unfolding apart
+differing-apart ws h = all-every (length ws) _ λ i l. all-every i _ λ j k. rw (h i l, h j (omega arith), ne-eqb j i (λ e. omega arith))
+
+idle-reach : (T : Tables) → ((s : ℕ) → s < length (T .sessionRows) → getD (T .sessionRows) s 0 ≡ 0) → inReach T ≡ true
+unfolding inReach
+idle-reach T h = all-every (length (T .sessionRows)) _ λ s l. all-every (length (T .roleRows)) _ λ r k. rw (h s l, has-zero r)
+
+-- Words of 64 bits, held against 64 items.
+sixty-four : (n : ℕ) (f : ℕ → ℕ) (m : ℕ) → m ≡ 64 → ((i : ℕ) → i < n → f i < 2 ^ 64) → Below m (tabulate n f)
+unfolding Below
+sixty-four n f m e h = rw e (tabulate-less (2 ^ 64) n f (omega arith) h)
+
+full-passes : Passes full
+unfolding full
+full-passes =
+    let la : length alone ≡ 64 = length-tabulate 64 itemOf in
+    let lz : length zeros ≡ 64 = length-tabulate 64 (λ _. 0) in
+    let lf : length first ≡ 64 = length-tabulate 64 (λ i. i) in
+    let none : Below (length alone) zeros = sixty-four 64 (λ _. 0) (length alone) la (λ i l. omega arith) in
+    let apart : apart first ≡ true = differing-apart first (λ i l. tabulate-at 64 (λ i. i) i (omega arith)) in
+    record {
+      sound = record {
+        fits = record {
+          roles = omega arith;
+          users = omega arith;
+          sessionsUsers = omega arith;
+          sessionsRoles = omega arith;
+          operations = omega arith;
+          objects = omega arith;
+          permissions = lz;
+          crs = omega arith;
+          cus = omega arith;
+          cps = omega arith;
+        };
+        bounded = record {
+          roles = sixty-four 64 itemOf (length alone) la (λ i l. item-lt i);
+          users = none;
+          sessions = none;
+          permissions = none;
+          crs = sixty-four 64 (λ i. i) (length alone) la (λ i l. omega arith);
+          cus = sixty-four 64 (λ i. i) (length zeros) lz (λ i l. omega arith);
+          cps = sixty-four 64 (λ i. i) (length zeros) lz (λ i l. omega arith);
+          paired = refl;
+          numbers = λ i l. tabulate-less (length zeros) 64 (λ _. 0) (omega arith) (λ j k. omega arith) i;
+        };
+      };
+      rank = single-ranked alone (omega arith) (λ r l. tabulate-at 64 itemOf r (omega arith));
+      reach = idle-reach full (λ s l. tabulate-at 64 (λ _. 0) s (omega arith));
+      crs = apart;
+      cus = apart;
+      cps = apart;
+    }
+
+-- "The largest tables take 3,785 bytes": bytes that many are accepted.
+pub largest : (b : Bytes) × (length b ≡ 3785) × (T : Tables) × (tablesOf b ≡ taken T)
+unfolding full
+largest = (encode full, encode-length full refl ∙ rw (length-tabulate 64 itemOf, length-tabulate 64 (λ _. 0), length-tabulate 64 (λ i. i)), full, passes-accepted full full-passes)
