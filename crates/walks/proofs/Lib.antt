@@ -8,3 +8,4 @@ pub mod OrderLaws
 pub mod TurnLaws
 pub mod LoopLaws
 pub mod StepLaws
+pub mod ShareLaws
