@@ -6,13 +6,13 @@ use mathlib.Core.List.{List}
 use mathlib.Core.Option.{Option}
 use Prim.Native.Nat.{ℕ, _+_, _*_, _<_, _≤_}
 use native.Mathlib.Decide.{decLt}
-use native.Mathlib.Nat.{mul-le-mul-right}
+use native.Mathlib.Nat.{mul-le-mul, mul-le-mul-right}
 use native.Mathlib.Omega.{arith}
 use lib.Dec.{eqb, ltb}
 use lib.ListN.{length, getD, List·getD-eq-default}
-use borrow.Author.Tests.{eqb-true, ltb-true}
-use Rattle.words.specs.Words.{has, anyTo}
-use Rattle.words.proofs.WordsLaws.{has-out, has-zero, word-has, and-true, any-witness}
+use borrow.Author.Tests.{eqb-true, ltb-true, lt-ltb}
+use Rattle.words.specs.Words.{has, anyTo, allOf}
+use Rattle.words.proofs.WordsLaws.{has-out, has-zero, has-all, word-has, and-true, any-witness}
 use Rattle.tables.specs.Tables.{Tables}
 use Rattle.tables.specs.Flat.{Fits}
 use Rattle.tables.specs.code.Reads.{Below, Bounded}
@@ -20,13 +20,20 @@ use Rattle.functions.specs.Functions.{dominates, assigned, active, heldBy, sess
 use Rattle.functions.specs.Functions.{rolesOfUsers, rolesOfSessions, rolesOfPermissions, juniorsOfUsers, juniorsOfSessions, seniorsOfPermissions}
 use Rattle.functions.specs.Functions.{sessionsOfUsers, permissionsOfRoles, permissionsOfJuniors, objectsOfPermissions, operationsOn}
 use Rattle.syntax.specs.Term.{Fn, user, roles, roles*, sessions, permissions, permissions*, object}
-use Rattle.rules.specs.Kind.{Kind, sU, sR, sP, makes}
+use Rattle.rules.specs.Kind.{Kind, sU, sR, sOP, sP, makes}
 use Rattle.values.specs.Values.{ofSort, if, callValue}
-use Rattle.values.specs.Counts.{sortCount}
+use Rattle.values.specs.Items.{sortItems}
 
 -- Every item of w is below n.
 abbrev pub Inside : ℕ → ℕ → Type 0
 Inside n w = (x : ℕ) → has w x ≡ true → x < n
+
+-- Every item of w is one of the word u.
+abbrev pub Among : ℕ → ℕ → Type 0
+Among u w = (x : ℕ) → has w x ≡ true → has u x ≡ true
+
+pub among-all : (n w : ℕ) → n ≤ 64 → Inside n w → Among (allOf n) w
+among-all n w l h x q = let m = h x q in has-all n x (omega arith) ∙ lt-ltb x n m
 
 -- A word of a row that is held to n items; a row that has an item is there.
 pub row-inside : (n : ℕ) (rows : List ℕ) → Below n rows → (i : ℕ) → Inside n (getD rows i 0)
@@ -37,8 +44,8 @@ row-inside n rows b i x h = go (decLt x n)
     go (yes l) = l
     go (no l) = absurd (true≢false (sym h ∙ has-out (getD rows i 0) n x (b i) (omega arith)))
 
-pub zero-inside : (n : ℕ) → Inside n 0
-zero-inside n x h = absurd (true≢false (sym h ∙ has-zero x))
+pub zero-among : (u : ℕ) → Among u 0
+zero-among u x h = absurd (true≢false (sym h ∙ has-zero x))
 
 row-there : (rows : List ℕ) (i x : ℕ) → has (getD rows i 0) x ≡ true → i < length rows
 row-there rows i x h = go (decLt i (length rows))
@@ -152,7 +159,7 @@ module _ (T : Tables) (fits : Fits T) (b : Bounded T) (w : ℕ) where
       let p = one-of (λ a. isPermission T (q .item) a o) (q .has-it) in
       parts (q .item) (p .item) o (p .has-it) .1
 
-  pub operations-on : (v : ℕ) → Inside (T .operationCount) (operationsOn T w v)
+  operations-on : (v : ℕ) → Inside (T .operationCount) (operationsOn T w v)
   unfolding operationsOn
   operations-on v a h =
       let q = one-in w (λ r. someIn v (λ o. anyTo 64 (λ p. isPermission T p a o && heldBy T p r)))
@@ -167,21 +174,37 @@ module _ (T : Tables) (fits : Fits T) (b : Bounded T) (w : ℕ) where
           let more : T .operationCount * T .objectCount ≤ a * T .objectCount = mul-le-mul-right (T .objectCount) (omega arith) in
           absurd (omega (arith, e .0, e .2, fits .permissions, more))
 
+  pub operations-among : (v : ℕ) → Among (sortItems T sOP) (operationsOn T w v)
+  unfolding sortItems
+  operations-among v = among-all (T .operationCount) (operationsOn T w v) (omega (arith, fits .operations)) (operations-on v)
+
+  pub permissions-few : length (T .permissionRows) ≤ 64
+  permissions-few = omega (arith, fits .permissions, mul-le-mul (fits .operations) (fits .objects))
+
   -- Each function gives items of the sort that it makes.
   if-inside : (t : Bool) (n x y : ℕ) → Inside n x → Inside n y → Inside n (if t x y)
   if-inside true n x y f g = f
   if-inside false n x y f g = g
 
-  pub call-inside : (f : Fn) (k : Option Kind) → Inside (sortCount T (makes f)) (callValue T f k w)
-  unfolding sortCount makes callValue
-  call-inside user k = if-inside (ofSort sR k) (length (T .userRows)) (userOfRoles T w) (userOfSessions T w) users-of-roles users-of-sessions
-  call-inside roles k =
-      if-inside (ofSort sU k) (length (T .roleRows)) (rolesOfUsers T w) (if (ofSort sP k) (rolesOfPermissions T w) (rolesOfSessions T w)) roles-of-users
-      (if-inside (ofSort sP k) (length (T .roleRows)) (rolesOfPermissions T w) (rolesOfSessions T w) roles-of-permissions roles-of-sessions)
-  call-inside roles* k =
-      if-inside (ofSort sU k) (length (T .roleRows)) (juniorsOfUsers T w) (if (ofSort sP k) (seniorsOfPermissions T w) (juniorsOfSessions T w)) juniors-of-users
-      (if-inside (ofSort sP k) (length (T .roleRows)) (seniorsOfPermissions T w) (juniorsOfSessions T w) seniors-of-permissions juniors-of-sessions)
-  call-inside sessions k = sessions-of-users
-  call-inside permissions k = permissions-of-roles
-  call-inside permissions* k = permissions-of-juniors
-  call-inside object k = objects-of-permissions
+  pub call-among : (f : Fn) (k : Option Kind) → Among (sortItems T (makes f)) (callValue T f k w)
+  unfolding sortItems makes callValue
+  call-among user k =
+      let n : ℕ = length (T .userRows) in
+      among-all n (if (ofSort sR k) (userOfRoles T w) (userOfSessions T w)) (fits .users)
+      (if-inside (ofSort sR k) n (userOfRoles T w) (userOfSessions T w) users-of-roles users-of-sessions)
+  call-among roles k =
+      let n : ℕ = length (T .roleRows) in
+      let other : ℕ = if (ofSort sP k) (rolesOfPermissions T w) (rolesOfSessions T w) in
+      among-all n (if (ofSort sU k) (rolesOfUsers T w) other) (fits .roles)
+      (if-inside (ofSort sU k) n (rolesOfUsers T w) other roles-of-users
+      (if-inside (ofSort sP k) n (rolesOfPermissions T w) (rolesOfSessions T w) roles-of-permissions roles-of-sessions))
+  call-among roles* k =
+      let n : ℕ = length (T .roleRows) in
+      let other : ℕ = if (ofSort sP k) (seniorsOfPermissions T w) (juniorsOfSessions T w) in
+      among-all n (if (ofSort sU k) (juniorsOfUsers T w) other) (fits .roles)
+      (if-inside (ofSort sU k) n (juniorsOfUsers T w) other juniors-of-users
+      (if-inside (ofSort sP k) n (seniorsOfPermissions T w) (juniorsOfSessions T w) seniors-of-permissions juniors-of-sessions))
+  call-among sessions k = among-all (length (T .sessionUsers)) (sessionsOfUsers T w) (fits .sessionsUsers) sessions-of-users
+  call-among permissions k = among-all (length (T .permissionRows)) (permissionsOfRoles T w) permissions-few permissions-of-roles
+  call-among permissions* k = among-all (length (T .permissionRows)) (permissionsOfJuniors T w) permissions-few permissions-of-juniors
+  call-among object k = among-all (T .objectCount) (objectsOfPermissions T w) (omega (arith, fits .objects)) objects-of-permissions

@@ -10,13 +10,15 @@ use native.Mathlib.Omega.{arith}
 use lib.Dec.{T, eqb, ltb, lit<}
 use lib.ListN.{length, getD, List·getD-eq-default}
 use borrow.Author.Tests.{lt-ltb, le-ltb}
-use Rattle.words.specs.Words.{itemOf}
+use Rattle.words.specs.Words.{allOf, itemOf}
 use Rattle.tables.specs.Tables.{Tables}
 use Rattle.tables.specs.Flat.{Fits, counts, sections, flat}
 use Rattle.tables.proofs.FlatLaws.{flat-at}
+use Rattle.rules.specs.Kind.{baseKind}
 use Rattle.rules.specs.code.Numbers.{kindList, kindOf}
 use Rattle.rules.proofs.TableLaws.{pair}
-use Rattle.values.specs.Values.{baseCount, ofSort, oneValue}
+use Rattle.values.specs.Items.{sortItems, kindItems}
+use Rattle.values.specs.Values.{ofSort, oneValue}
 use Rattle.values.specs.code.Nodes.{baseAt, sortAt}
 
 -- What holds of each number below n.
@@ -40,15 +42,15 @@ count-place o h =
     each (λ o. getD countPlaces o 0 < 9) 9
     (((((((((tt, lit< tt), lit< tt), lit< tt), lit< tt), lit< tt), lit< tt), lit< tt), lit< tt), lit< tt) o h
 
-pub base-count : (T : Tables) (o : ℕ) → o < 9 → getD (flat T) (getD countPlaces o 0) 0 ≡ baseCount T (baseAt o)
-unfolding sections counts baseCount baseAt
-base-count T o h =
-    each (λ o. getD (flat T) (getD countPlaces o 0) 0 ≡ baseCount T (baseAt o)) 9
+pub base-items : (T : Tables) (o : ℕ) → o < 9 → allOf (getD (flat T) (getD countPlaces o 0) 0) ≡ kindItems T (baseKind (baseAt o))
+unfolding sections counts kindItems sortItems baseKind baseAt
+base-items T o h =
+    each (λ o. allOf (getD (flat T) (getD countPlaces o 0) 0) ≡ kindItems T (baseKind (baseAt o))) 9
     (((((((((tt, at 1 (lit< tt)), at 0 (lit< tt)), at 3 (lit< tt)), at 4 (lit< tt)), at 5 (lit< tt)), at 2 (lit< tt)), at 6 (lit< tt)), at 8 (lit< tt)), at 7 (lit< tt))
     o h
   where
-    at : (i : ℕ) → i < 64 → getD (flat T) (64 * 0 + i) 0 ≡ getD (counts T) i 0
-    at i l = flat-at T 0 i l
+    at : (i : ℕ) → i < 64 → allOf (getD (flat T) (64 * 0 + i) 0) ≡ allOf (getD (counts T) i 0)
+    at i l = ap allOf (flat-at T 0 i l)
 
 -- Where the words of CR, CP, CU start.
 abbrev pub collectionPlaces : List ℕ

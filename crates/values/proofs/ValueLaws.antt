@@ -5,14 +5,15 @@ use mathlib.Core.List.{List}
 use Prim.Native.Nat.{ℕ, _/_, _%_, _<_, _≤_}
 use native.Mathlib.Omega.{arith}
 use lib.ListN.{length, getD}
-use Rattle.words.specs.Words.{allOf, itemOf, lessOf}
+use Rattle.words.specs.Words.{itemOf, lessOf}
 use Rattle.tables.specs.Tables.{Tables}
 use Rattle.syntax.specs.Term.{Term, Choices}
 use Rattle.syntax.specs.code.Arena.{Holds, Tidy}
-use Rattle.rules.specs.Kind.{kind}
+use Rattle.rules.specs.Kind.{baseKind, kind}
 use Rattle.rules.specs.code.Numbers.{kindOf}
 use Rattle.rules.proofs.NodeLaws.{getD-any}
-use Rattle.values.specs.Values.{baseCount, callValue, twoValue, itemIn, oneValue, value}
+use Rattle.values.specs.Items.{kindItems}
+use Rattle.values.specs.Values.{callValue, twoValue, itemIn, oneValue, value}
 use Rattle.values.specs.code.Nodes.{baseAt, fnAt, opAt, placeIn, World}
 use Rattle.values.proofs.NodeLaws.{is-base, is-call, is-one, is-others, is-two, variable-place, left-below}
 
@@ -24,7 +25,7 @@ module _ {ts ns : List ℕ} {n : ℕ} {ks vs : List ℕ} {T : Tables} {σ : Choi
       rw same (w .kinds .at i l .term a y)
 
   module _ (c : List ℕ) (k : ℕ) (h : k < n) (t : Term) (x : Holds ns k t) where
-    pub value-base : {r : ℕ} → getD ns k 0 % 256 < 9 → r ≡ allOf (baseCount T (baseAt (getD ns k 0 % 256))) → r ≡ value T σ c t
+    pub value-base : {r : ℕ} → getD ns k 0 % 256 < 9 → r ≡ kindItems T (baseKind (baseAt (getD ns k 0 % 256))) → r ≡ value T σ c t
     unfolding value
     value-base m e = e ∙ ap (value T σ c) (sym (is-base ns k t x m))
 

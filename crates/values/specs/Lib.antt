@@ -1,6 +1,6 @@
 -- Values of terms, truth of rules, and the sets of the variables.
+pub mod Items
 pub mod Values
 pub mod Truth
 pub mod Sets
-pub mod Counts
 pub mod code

@@ -2,6 +2,7 @@
 -- Assumes nothing.
 use mathlib.Core.Bool.{Bool, false, not, _||_}
 use mathlib.Core.List.{List}
+use mathlib.Core.Option.{Option, none, some}
 use Prim.Native.Nat.{ℕ}
 use lib.Dec.{eqb}
 use lib.ListN.{getD}
@@ -9,12 +10,23 @@ use Rattle.words.specs.Words.{has}
 use Rattle.tables.specs.Tables.{Tables}
 use Rattle.syntax.specs.Term.{bU, Term, base, call, oe, ao, two, Choices}
 use Rattle.syntax.specs.Rule.{Rule}
+use Rattle.rules.specs.Kind.{Kind, kind}
+use Rattle.walks.specs.Choices.{Items}
+use Rattle.values.specs.Items.{kindItems}
 use Rattle.values.specs.Values.{variableOf, value}
 use Rattle.values.specs.Truth.{ruleTrue}
 
 -- "Xi is the set of vi": σ has X1, X2, .. in order, and v counts from 0.
 abbrev pub setOf : Choices → ℕ → Term
 setOf σ v = getD σ v (base bU)
+
+-- "A choice gives each variable one item of its sort (for a collection, a word's position from 0)": the items of the kind of its set.
+abbrev pub itemsOfKind : Tables → Option Kind → ℕ
+itemsOfKind T none = 0
+itemsOfKind T (some k) = kindItems T k
+
+abbrev pub itemsOf : Tables → Choices → Items
+itemsOf T σ v = itemsOfKind T (kind (setOf σ v))
 
 -- The item x lies in the set of v, in which "each variable is read as its item" under the choice c.
 abbrev pub inSet : Tables → Choices → ℕ → List ℕ → ℕ → Bool

@@ -4,27 +4,15 @@ use mathlib.Core.Bool.{Bool, true, false}
 use mathlib.Core.List.{List, [], _∷_}
 use mathlib.Core.Option.{Option, none, some}
 use Prim.Native.Nat.{ℕ, suc}
-use lib.ListN.{length, getD}
-use Rattle.words.specs.Words.{allOf, itemOf, meetOf, joinOf, lessOf}
+use lib.ListN.{getD}
+use Rattle.words.specs.Words.{itemOf, meetOf, joinOf, lessOf}
 use Rattle.tables.specs.Tables.{Tables}
 use Rattle.functions.specs.Functions.{userOfSessions, userOfRoles, rolesOfUsers, rolesOfSessions, rolesOfPermissions, juniorsOfUsers}
 use Rattle.functions.specs.Functions.{juniorsOfSessions, seniorsOfPermissions, sessionsOfUsers, permissionsOfRoles, permissionsOfJuniors}
 use Rattle.functions.specs.Functions.{objectsOfPermissions, operationsOn}
-use Rattle.syntax.specs.Term.{Base, bU, bR, bOP, bOBJ, bP, bS, bCR, bCP, bCU, Fn, user, roles, roles*, sessions, permissions}
-use Rattle.syntax.specs.Term.{permissions*, object, Op, operations, meet, join, Term, base, call, oe, ao, two, Term≟, Choices}
-use Rattle.rules.specs.Kind.{Sort, Sort≟, sU, sR, sOP, sOBJ, sP, sS, Kind, element, set, collection, holds, kind}
-
--- "`U R OP OBJ P S`" are all items of their sort, "`CR CP CU`" all positions of their collection.
-unfoldable pub baseCount : Tables → Base → ℕ
-baseCount T bU = length (T .userRows)
-baseCount T bR = length (T .roleRows)
-baseCount T bOP = T .operationCount
-baseCount T bOBJ = T .objectCount
-baseCount T bP = length (T .permissionRows)
-baseCount T bS = length (T .sessionUsers)
-baseCount T bCR = length (T .cr)
-baseCount T bCP = length (T .cp)
-baseCount T bCU = length (T .cu)
+use Rattle.syntax.specs.Term.{Fn, user, roles, roles*, sessions, permissions, permissions*, object, Op, operations, meet, join, Term, base, call, oe, ao, two, Term≟, Choices}
+use Rattle.rules.specs.Kind.{Sort, Sort≟, sU, sR, sOP, sOBJ, sP, sS, Kind, element, set, collection, holds, baseKind, kind}
+use Rattle.values.specs.Items.{kindItems}
 
 -- An element or a set of the sort.
 unfoldable pub ofSort : Sort → Option Kind → Bool
@@ -73,9 +61,9 @@ oneValue T (some (collection sOP)) x = 0
 oneValue T (some (collection sOBJ)) x = 0
 oneValue T (some (collection sS)) x = 0
 
--- "`AO(X)` means X without `OE(X)`."
+-- "`U R OP OBJ P S CR CP CU`" are all items of their kind; "`AO(X)` means X without `OE(X)`."
 unfoldable pub value : Tables → Choices → List ℕ → Term → ℕ
-value T σ c (base b) = allOf (baseCount T b)
+value T σ c (base b) = kindItems T (baseKind b)
 value T σ c (call f a) = callValue T f (kind a) (value T σ c a)
 value T σ c (oe a) = oneValue T (kind a) (itemIn σ c a)
 value T σ c (ao a) = lessOf (value T σ c a) (itemOf (itemIn σ c a))

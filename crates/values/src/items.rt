@@ -2,12 +2,12 @@
 ghost use mathlib.Core.Path.{_≡_};
 ghost use Prim.Native.Nat.{_<_};
 ghost use lib.ListN.{length, getD};
-ghost use Rattle.words.specs.Words.{allOf};
 ghost use Rattle.tables.specs.Tables.{Tables};
 ghost use Rattle.tables.specs.Flat.{Fits, flat};
-ghost use Rattle.rules.specs.Kind.{Sort};
+ghost use Rattle.rules.specs.Kind.{Sort, baseKind};
 ghost use Rattle.rules.specs.code.Numbers.{kindOf};
-ghost use Rattle.values.specs.Values.{baseCount, ofSort, oneValue};
+ghost use Rattle.values.specs.Items.{kindItems};
+ghost use Rattle.values.specs.Values.{ofSort, oneValue};
 ghost use Rattle.values.specs.Truth.{compared};
 ghost use Rattle.values.specs.code.Nodes.{baseAt, cmpAt, sortAt};
 
@@ -20,7 +20,7 @@ const COLLECTIONS: [usize; 3] = [384, 512, 448];
 // All items of `U R OP OBJ P S`, all positions of `CR CP CU`.
 pub fn base(t: &[u64], op: usize) -> u64
     requires { ⌜ (length (now t) ≡ 704) × (op < 9) ⌝ }
-    ensures { λ r. ⌜ ((T : Tables) → now (t .entry) ≡ flat T → r ≡ allOf (baseCount T (baseAt op))) ⌝ }
+    ensures { λ r. ⌜ ((T : Tables) → now (t .entry) ≡ flat T → r ≡ kindItems T (baseKind (baseAt op))) ⌝ }
 {
     let at = COUNTS[op];
     words::all(t[at] as usize)

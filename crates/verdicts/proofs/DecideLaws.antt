@@ -27,6 +27,7 @@ use Rattle.rules.specs.declared.Checked.the-variants.{Refused as Unfit, Accepte
 use Rattle.rules.specs.Accept.{refusal}
 use Rattle.rules.specs.Checked.{checkedOf}
 use Rattle.rules.specs.code.Parsed.{RuleAt}
+use Rattle.values.proofs.BoundLaws.{accepted-within}
 use Rattle.verdicts.specs.declared.Outcome.{Outcome}
 use Rattle.verdicts.specs.declared.Verdict.{Verdict}
 use Rattle.answers.specs.declared.Written.the-variants.{Refused as WasRefused, Wrote}
@@ -50,9 +51,13 @@ unfolding acceptedVerdict
 rule-refused T s order e h = rw h
 
 -- The slices of an accepted rule hold it.
-module _ {s : Bytes} {ns : List ℕ} {n root : ℕ} {ks vs : List ℕ} {count : ℕ} (P : RuleAt s ns n root ks vs count) where
+module _ {s : Bytes} {ns : List ℕ} {n root : ℕ} {ks vs : List ℕ} {count : ℕ} (P : RuleAt s ns n root ks vs count) (ok : refusal s ≡ none) where
   pub rule-case : {ts : List ℕ} {T : Tables} → Sound T → ts ≡ flat T → Case ts ns n ks (take count vs) root T (P .tree)
-  rule-case sound e = record { world = record { fits = sound .fits; words = e; kinds = P .kinds; variables = P .knows }; holds = P .holds }
+  rule-case {T = T} sound e = record {
+    world = record { fits = sound .fits; words = e; kinds = P .kinds; variables = P .knows };
+    holds = P .holds;
+    sorts = accepted-within T sound s (P .tree) ok (P .reads);
+  }
 
   pub rule-long : length vs ≡ 8 → length (take count vs) ≡ count
   rule-long l = length-take-le count vs (omega (arith, P .few))
@@ -68,9 +73,9 @@ module _ {s : Bytes} {ns : List ℕ} {n root : ℕ} {ks vs : List ℕ} {count : 
     isCase = rule-case (L .sound) (L .words);
   }
 
-  pub rule-accepted : (T : Tables) (order : Bytes) (r : Verdict) → refusal s ≡ none → r ≡ orderVerdict T (P .tree) order → r ≡ acceptedVerdict T (refusal s) s order
+  pub rule-accepted : (T : Tables) (order : Bytes) (r : Verdict) → r ≡ orderVerdict T (P .tree) order → r ≡ acceptedVerdict T (refusal s) s order
   unfolding acceptedVerdict treeVerdict
-  rule-accepted T order r h e = rw (h, P .reads) e
+  rule-accepted T order r e = rw (ok, P .reads) e
 
 -- What reading the tables said.
 pub tables-refused : (b s order : Bytes) (e : Refusal) (o : Reached) → outcomeNumber o ≡ readingNumber (tablesOf b) → o ≡ Turned e

@@ -26,12 +26,17 @@ use Rattle.walks.specs.Choices.{nothingChosen, each, ifBreaks, sumTo}
 use Rattle.walks.specs.Walk.{walk, walkFirst, firstTo, bytesOf}
 use Rattle.walks.specs.Order.{variablesOf, isSmall, count, isOnce, isFree, isAfter, isOrder}
 use Rattle.walks.specs.Share.{shareOf}
-use Rattle.values.specs.Values.{baseCount, ofSort, callValue, twoValue, variableOf, oneValue, value}
+use Rattle.values.specs.Items.{sortItems, kindItems}
+use Rattle.values.specs.Values.{ofSort, callValue, twoValue, variableOf, oneValue, value}
 use Rattle.values.specs.Truth.{compared, signed, countValue, testTrue, clauseTrue, ruleTrue}
 use Rattle.values.specs.Sets.{inSet, namesIn, names, breaks}
 use Rattle.verdicts.specs.declared.Verdict.{Verdict}
 use Rattle.verdicts.specs.Verdict.{outcomeOf, firstBreaking, verdictAlong, ifOrdered, orderVerdict, treeVerdict}
 use Rattle.verdicts.specs.Verdict.{acceptedVerdict, tablesVerdict, verdictOf, lowestFirst, written, answerBy, answered, judged}
+use Rattle.tables.proofs.FitsLaws.{accepted-sound}
+use Rattle.walks.proofs.OrderLaws.{order-admissible}
+use Rattle.values.proofs.BoundLaws.{accepted-within}
+use Rattle.verdicts.specs.code.Judging.{InSorts}
 use Rattle.verdicts.proofs.VerdictLaws.{walk-full, walk-breaking}
 use Rattle.verdicts.proofs.ExampleTables.{bytesT, tablesT, reads-T}
 
@@ -50,13 +55,15 @@ module _ (T : Tables) (ρ : Rule) (order : Bytes) where
   abbrev walkAnswer : Answer
   walkAnswer = answered (ifOrdered (isOrder (names (ruleVars [] ρ)) (length (ruleVars [] ρ)) (variablesOf order)) walked)
 
-  by-walk : length (ruleVars [] ρ) ≤ 8 → orderVerdict T ρ order ≡ ifOrdered (isOrder (names (ruleVars [] ρ)) (length (ruleVars [] ρ)) (variablesOf order)) walked
+  by-walk : length (ruleVars [] ρ) ≤ 8 → InSorts T ρ → orderVerdict T ρ order ≡ ifOrdered (isOrder (names (ruleVars [] ρ)) (length (ruleVars [] ρ)) (variablesOf order)) walked
   unfolding orderVerdict verdictAlong firstBreaking
-  by-walk few = go (isOrder (names (ruleVars [] ρ)) (length (ruleVars [] ρ)) (variablesOf order)) refl
+  by-walk few sorts = go (isOrder (names (ruleVars [] ρ)) (length (ruleVars [] ρ)) (variablesOf order)) refl
     where
       go : (t : Bool) → isOrder (names (ruleVars [] ρ)) (length (ruleVars [] ρ)) (variablesOf order) ≡ t
           → ifOrdered t (verdictAlong T ρ (variablesOf order)) ≡ ifOrdered t walked
-      go true ok = rw (walk-full T ρ few (variablesOf order) ok, walk-breaking T ρ few (variablesOf order) ok)
+      go true ok =
+          let a = order-admissible (names (ruleVars [] ρ)) (length (ruleVars [] ρ)) (variablesOf order) .0 ok in
+          rw (walk-full T ρ few sorts (variablesOf order) a, walk-breaking T ρ few sorts (variablesOf order) a)
       go false ok = refl
 
 -- The tree of an accepted text.
@@ -70,7 +77,7 @@ by-walk-on-T : (rule order : Bytes) (a : Answer) → refusal rule ≡ none → r
 unfolding judged verdictOf tablesVerdict acceptedVerdict treeVerdict
 by-walk-on-T rule order a r t few e =
     let ρ = treeOf (ruleOf rule) in
-    let v = by-walk tablesT ρ order (leb-true (length (ruleVars [] ρ)) 8 few) in
+    let v = by-walk tablesT ρ order (leb-true (length (ruleVars [] ρ)) 8 few) (accepted-within tablesT (accepted-sound bytesT reads-T) rule ρ r t) in
     rw (reads-T, r, t, v) e
 
 -- What judging answers to a rule along an order.
@@ -111,7 +118,7 @@ table =
 
 -- Opening this opens all that the examples compute with.
 unfoldable everything : Unit {0}
-unfolding next skip scan either Term≟ digitFrom spell spellMiddle bracketHeads callHeads collectionHeads heads middles known closed second inner readTerm spellCmp spellBetween digits add vars countVars testVars clauseVars ruleVars cmps betweens down readCount readSecond readTest readClause readRule whole ruleOf oneOf baseKind takes makes ofElement callKind oneKind othersKind asSet joined twoKind kind countable isMember countKinds testKinds clauseKinds ruleKinds deep treeRefusal refusal sumTo walk walkFirst firstTo variablesOf isSmall count isOnce isFree isAfter isOrder shareOf baseCount ofSort callValue twoValue variableOf oneValue value compared signed countValue testTrue clauseTrue ruleTrue namesIn outcomeOf lowestFirst written answerBy has wordOf anyTo countTo sizeOf allOf itemOf meetOf joinOf lessOf userOfSessions userOfRoles rolesOfUsers rolesOfSessions rolesOfPermissions
+unfolding next skip scan either Term≟ digitFrom spell spellMiddle bracketHeads callHeads collectionHeads heads middles known closed second inner readTerm spellCmp spellBetween digits add vars countVars testVars clauseVars ruleVars cmps betweens down readCount readSecond readTest readClause readRule whole ruleOf oneOf baseKind takes makes ofElement callKind oneKind othersKind asSet joined twoKind kind countable isMember countKinds testKinds clauseKinds ruleKinds deep treeRefusal refusal sumTo walk walkFirst firstTo variablesOf isSmall count isOnce isFree isAfter isOrder shareOf sortItems kindItems ofSort callValue twoValue variableOf oneValue value compared signed countValue testTrue clauseTrue ruleTrue namesIn outcomeOf lowestFirst written answerBy has wordOf anyTo countTo sizeOf allOf itemOf meetOf joinOf lessOf userOfSessions userOfRoles rolesOfUsers rolesOfSessions rolesOfPermissions
 everything = tt
 
 pub examples : All table

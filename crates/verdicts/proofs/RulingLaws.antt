@@ -13,13 +13,14 @@ use Rattle.syntax.specs.Rule.{Rule, ruleVars}
 use Rattle.syntax.specs.code.Arena.{HoldsAll}
 use Rattle.walks.specs.Choices.{nothingChosen}
 use Rattle.walks.specs.Order.{variablesOf, isOrder, namedBy}
+use Rattle.walks.specs.Meaning.{Admissible}
 use Rattle.walks.specs.declared.Tally.{Tally}
-use Rattle.walks.proofs.OrderLaws.{order-after, order-length, order-agree, length-variables-of}
+use Rattle.walks.proofs.OrderLaws.{order-admissible, order-after, order-length, order-agree, length-variables-of}
 use Rattle.values.specs.Sets.{names}
 use Rattle.values.specs.code.Nodes.{Variables, Named}
 use Rattle.verdicts.specs.declared.Verdict.{Verdict}
 use Rattle.verdicts.specs.Verdict.{fullCount, breakingCount, firstBreaking, verdictAlong, refusedBy, orderVerdict}
-use Rattle.verdicts.specs.code.Judging.{Case, InTurn, WalkedFrom, ruledBy}
+use Rattle.verdicts.specs.code.Judging.{InSorts, Case, InTurn, WalkedFrom, ruledBy}
 use Rattle.verdicts.proofs.VerdictLaws.{walk-full, walk-breaking, breaking-le-full, full-fits}
 
 -- As many nodes as arguments.
@@ -59,22 +60,25 @@ module _ (T : Tables) (ρ : Rule) where
   wrong-order order e h = not-ordered order (sym e ∙ h)
 
   -- Along an order the walk's tally has the verdict's numbers.
-  module _ (few : length (ruleVars [] ρ) ≤ 8) (order : List ℕ) (tally : Tally)
+  module _ (few : length (ruleVars [] ρ) ≤ 8) (sorts : InSorts T ρ) (order : List ℕ) (tally : Tally)
       (ok : isOrder (names (ruleVars [] ρ)) (length (ruleVars [] ρ)) order ≡ true)
       (w : WalkedFrom T ρ order (length order) nothingChosen tally) where
     all-left : drop (length order - length order) order ≡ order
     all-left = let none : length order - length order ≡ 0 = omega arith in rw none
 
+    admissible : Admissible (names (ruleVars [] ρ)) (length (ruleVars [] ρ)) order
+    admissible = order-admissible (names (ruleVars [] ρ)) (length (ruleVars [] ρ)) order .0 ok
+
     tally-full : tally .full ≡ fullCount T ρ
-    tally-full = (rw all-left at (w .fulls)) ∙ walk-full T ρ few order ok
+    tally-full = (rw all-left at (w .fulls)) ∙ walk-full T ρ few sorts order admissible
 
     tally-breaking : tally .breaking ≡ breakingCount T ρ
-    tally-breaking = (rw all-left at (w .breakings)) ∙ walk-breaking T ρ few order ok
+    tally-breaking = (rw all-left at (w .breakings)) ∙ walk-breaking T ρ few sorts order admissible
 
     pub tally-fits : (tally .breaking ≤ tally .full) × (tally .full ≤ 64 ^ 8)
     tally-fits = (
-      omega (arith, tally-full, tally-breaking, breaking-le-full T ρ few),
-      omega (arith, tally-full, full-fits T ρ few),
+      omega (arith, tally-full, tally-breaking, breaking-le-full T ρ few sorts),
+      omega (arith, tally-full, full-fits T ρ few sorts),
     )
 
     pub tally-verdict : ruledBy tally ≡ verdictAlong T ρ order
@@ -107,9 +111,9 @@ module _ {ts ns : List ℕ} {n : ℕ} {ks vs : List ℕ} {root : ℕ} {T : Table
 
     module _ (h : f ≡ true) (tally : Tally) (w : WalkedFrom T ρ listed (length listed) nothingChosen tally) where
       pub counts-fit : (tally .breaking ≤ tally .full) × (tally .full ≤ 64 ^ 8)
-      counts-fit = tally-fits T ρ few-variables listed tally (sym told ∙ h) w
+      counts-fit = tally-fits T ρ few-variables (C .sorts) listed tally (sym told ∙ h) w
 
       pub order-ruled : ruledBy tally ≡ orderVerdict T ρ order
       order-ruled =
           right-order T ρ order (ruledBy tally) (told ∙ ap (isOrder (names (ruleVars [] ρ)) (length (ruleVars [] ρ))) same) h
-          (tally-verdict T ρ few-variables listed tally (sym told ∙ h) w ∙ ap (verdictAlong T ρ) same)
+          (tally-verdict T ρ few-variables (C .sorts) listed tally (sym told ∙ h) w ∙ ap (verdictAlong T ρ) same)

@@ -18,7 +18,7 @@ use Rattle.walks.specs.Choices.{nothingChosen, countFull, each, ifBreaks}
 use Rattle.walks.specs.Walk.{walkFirst, bytesOf}
 use Rattle.walks.specs.Order.{variablesOf, isOrder}
 use Rattle.walks.specs.Share.{shareOf}
-use Rattle.values.specs.Sets.{inSet, names, breaks}
+use Rattle.values.specs.Sets.{itemsOf, inSet, names, breaks}
 use Rattle.verdicts.specs.declared.Outcome.{Outcome}
 use Rattle.verdicts.specs.declared.Outcome.the-variants.{Refused, Held, Idle, Broken}
 use Rattle.verdicts.specs.declared.Verdict.{Verdict}
@@ -27,14 +27,14 @@ use Rattle.verdicts.specs.declared.Verdict.{Verdict}
 unfoldable pub outcomeOf : ℕ → ℕ → Outcome
 outcomeOf full breaking = cond (ltb 0 breaking) Broken (cond (eqb full 0) Idle Held)
 
--- A choice among the 64 items that a word has; the laws show that no set has an item at or above its sort's count.
 module _ (T : Tables) (ρ : Rule) where
-  -- "full" and "breaking (full choices that make the rule false)": no order.
+  -- "full" and "breaking (full choices that make the rule false)", among the choices that give each variable one item of its sort: no order.
   unfoldable pub fullCount : ℕ
-  fullCount = countFull 64 (inSet T (ruleVars [] ρ)) each (length (ruleVars [] ρ)) nothingChosen
+  fullCount = countFull (itemsOf T (ruleVars [] ρ)) (inSet T (ruleVars [] ρ)) each (length (ruleVars [] ρ)) nothingChosen
 
   unfoldable pub breakingCount : ℕ
-  breakingCount = countFull 64 (inSet T (ruleVars [] ρ)) (ifBreaks (breaks T (ruleVars [] ρ) ρ)) (length (ruleVars [] ρ)) nothingChosen
+  breakingCount =
+      countFull (itemsOf T (ruleVars [] ρ)) (inSet T (ruleVars [] ρ)) (ifBreaks (breaks T (ruleVars [] ρ) ρ)) (length (ruleVars [] ρ)) nothingChosen
 
   -- "the first breaking choice in that order"
   unfoldable pub firstBreaking : List ℕ → Option (List ℕ)

@@ -14,13 +14,15 @@ use lib.ListN.{length, getD, set, length-set}
 use lib.Seq.{getD-set-same, getD-set-other, ext-getD}
 use borrow.Author.Tests.{lt-ltb}
 use Rattle.words.specs.Words.{gate}
-use Rattle.walks.specs.Choices.{Sets, sumTo, fullOn, countFull}
+use Rattle.walks.specs.Choices.{Items, Sets, sumTo, variables, fullOn, countFull}
 use Rattle.walks.specs.Walk.{walk, orElse, gateO, firstTo, walkFirst}
 use Rattle.walks.specs.Order.{count}
-use Rattle.walks.specs.Meaning.{Every, Once, After, Reads, NoLater, Choice, FirstBreaking, there}
+use Rattle.walks.specs.Meaning.{Every, Admissible, After, Reads, NoLater, Choice, FirstBreaking, there}
+use Rattle.walks.specs.code.Among.{ChoiceAmong, Within}
 use Rattle.walks.proofs.PermLaws.{Perm, none as pnone, keep, swap, then, full-perm}
 use Rattle.walks.proofs.OnceLaws.{Distinct, hit-same, hit-other, absent-back, once-perm, once-count, once-distinct, below, perm-sym}
-use Rattle.walks.proofs.PruneLaws.{every-map, walk-counts}
+use Rattle.walks.proofs.PruneLaws.{every-map}
+use Rattle.walks.proofs.AmongLaws.{full-own, walk-counts}
 
 above-add : (p q : ℕ) → ltb 0 (p + q) ≡ (ltb 0 p || ltb 0 q)
 above-add zero q = ap (ltb 0) (zero-add q)
@@ -116,7 +118,7 @@ module _ (m : ℕ) (s : Sets) (names : ℕ → ℕ → Bool) (law : Reads s name
       law v d c (λ u t. r u (absent-back u vs (every-map _ _ (λ w e q. true≢false (sym t ∙ ap (names v) (sym q) ∙ e)) vs af))) x
 
   abbrev Good : List ℕ → List ℕ → List ℕ → Type 0
-  Good vs c d = Choice m vs c d × (fullOn s vs d ≡ true) × (b d ≡ true)
+  Good vs c d = ChoiceAmong m vs c d × (fullOn s vs d ≡ true) × (b d ≡ true)
 
   gateO-leaf : (t : Bool) (c d : List ℕ) → gateO t (some c) ≡ some d → (t ≡ true) × (c ≡ d)
   gateO-leaf t c d e = let r = gateO-some t (some c) d e in let p : some c ≡ some d = r .1 in (r .0, cc)
@@ -152,7 +154,7 @@ module _ (m : ℕ) (s : Sets) (names : ℕ → ℕ → Bool) (law : Reads s name
       let x : ℕ = getD d v 0 in
       let inside : s v c x ≡ true = sym (agree v (v ∷ vs) c d (af .0) (g .0 .rest) x) ∙ and-left (s v d x) (fullOn s vs d) (g .1) in
       let below′ : v < length c = subst (λ (k : ℕ). v < k) (sym l) (bs .0) in
-      let next : Choice m vs (set c v x) d =
+      let next : ChoiceAmong m vs (set c v x) d =
       record {
         long = g .0 .long ∙ sym (length-set c v x);
         items = g .0 .items .1;
@@ -177,29 +179,39 @@ every-perm P (keep v p) h = (h .0, every-perm P p (h .1))
 every-perm P (swap v w a) h = (h .1 .0, (h .0, h .1 .1))
 every-perm P (then p q) h = every-perm P q (every-perm P p h)
 
-choice-perm : (m : ℕ) {a b : List ℕ} → Perm a b → ((u : ℕ) → count u b ≡ count u a) → (base c : List ℕ) → Choice m a base c → Choice m b base c
-choice-perm m p e base c h = record { long = h .long; items = every-perm _ p (h .items); rest = λ u z. h .rest u (sym (e u) ∙ z) }
-
 some-inj : (a b : List ℕ) → some a ≡ some b → a ≡ b
 some-inj a b p = cc
 
-module _ (m n : ℕ) (s : Sets) (names : ℕ → ℕ → Bool) (law : Reads s names) (b : List ℕ → Bool)
-    (order base : List ℕ) (o : Once n order) (af : After names order) (fits : n ≤ length base) where
+module _ (items : Items) (n : ℕ) (s : Sets) (w : Within items s n) (names : ℕ → ℕ → Bool) (law : Reads s names) (b : List ℕ → Bool)
+    (order base : List ℕ) (a : Admissible names n order) (fits : n ≤ length base) where
   -- THE THEOREM on the first breaking choice, in two parts
-  pub first-there : there (walkFirst m s b order base) ≡ ltb 0 (countFull m s (λ d. gate (b d) 1) n base)
-  first-there = there-walk m s b order base ∙ ap (ltb 0) (walk-counts m s names law (λ d. gate (b d) 1) (length base) n order o af fits base refl)
+  pub first-there : there (walkFirst 64 s b order base) ≡ ltb 0 (countFull items s (λ d. gate (b d) 1) n base)
+  first-there = there-walk 64 s b order base ∙ ap (ltb 0) (walk-counts items s n w (λ d. gate (b d) 1) base fits names law order a)
 
-  pub first-breaking : (d : List ℕ) → walkFirst m s b order base ≡ some d → FirstBreaking m n s b order base d
+  -- a choice of items of the variables is one among the 64 items of a word
+  among : (c : List ℕ) → Choice items (variables n) base c → ChoiceAmong 64 order base c
+  among c h = record {
+    long = h .long;
+    items = every-perm _ (perm-sym (once-perm n order (a .once))) (every-map _ _ (λ v q. w .few v (getD c v 0) q) (variables n) (h .chosen));
+    rest = λ u z. h .rest u (sym (once-count n order (a .once) u) ∙ z);
+  }
+
+  pub first-breaking : (d : List ℕ) → walkFirst 64 s b order base ≡ some d → FirstBreaking items n s b order base d
   first-breaking d e =
-      let ds = once-distinct n order o in
-      let bs = every-map (λ w. w < n) (λ w. w < length base) (λ w h. omega arith) order (below n order (λ u. o u .1)) in
-      let p = once-perm n order o in
-      let g = found-good m s names law b (length base) order ds af bs base d refl e in
+      let ds = once-distinct n order (a .once) in
+      let bs = every-map (λ w. w < n) (λ w. w < length base) (λ w h. omega arith) order (below n order (λ u. a .once u .1)) in
+      let p = once-perm n order (a .once) in
+      let g = found-good 64 s names law b (length base) order ds (a .after) bs base d refl e in
+      let full′ : fullOn s (variables n) d ≡ true = sym (full-perm s p d) ∙ g .1 in
       record {
-        choice = choice-perm m p (λ u. sym (once-count n order o u)) base d (g .0);
-        full = sym (full-perm s p d) ∙ g .1;
+        choice = record {
+          long = g .0 .long;
+          chosen = full-own items s n w d full′;
+          rest = λ u z. g .0 .rest u (once-count n order (a .once) u ∙ z);
+        };
+        full = full′;
         breaks = g .2;
         least = λ k ck fk bk.
-            let r = found-least m s names law b (length base) order ds af bs base k refl (choice-perm m (perm-sym p) (once-count n order o) base k ck, full-perm s p k ∙ fk, bk) in
+            let r = found-least 64 s names law b (length base) order ds (a .after) bs base k refl (among k ck, full-perm s p k ∙ fk, bk) in
             subst (λ (t : List ℕ). NoLater order t k) (some-inj (r .0) d (sym (r .1) ∙ e)) (r .2);
       }

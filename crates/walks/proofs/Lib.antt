@@ -3,6 +3,7 @@ pub mod SumLaws
 pub mod PermLaws
 pub mod OnceLaws
 pub mod PruneLaws
+pub mod AmongLaws
 pub mod FirstLaws
 pub mod OrderLaws
 pub mod TurnLaws

@@ -59,7 +59,7 @@ same (v ∷ b) a h =
     let r = front v a (omega (arith, h v, hit-same v v refl)) in
     then (r .1) (keep v (same b (r .0) (λ u. omega (arith, h u, count-perm u (r .1)))))
 
-count-variables : (n u : ℕ) → (u < n → count u (variables n) ≡ 1) × (n ≤ u → count u (variables n) ≡ 0)
+pub count-variables : (n u : ℕ) → (u < n → count u (variables n) ≡ 1) × (n ≤ u → count u (variables n) ≡ 0)
 unfolding count variables
 count-variables zero u = (λ h. absurd (omega arith), λ h. refl)
 count-variables (suc n) u = (low (ℕ-discrete u n) (count-variables n u), λ h. omega (arith, hit-other u n (omega arith), count-variables n u .1 (omega arith)))

@@ -3,6 +3,7 @@
 use mathlib.Core.Path.{_≡_, refl, sym, ap, ap₂, subst}
 use mathlib.Core.Bool.{and-false, Bool, true, false, not, _&&_, true≢false}
 use mathlib.Core.List.{List, [], _∷_}
+use mathlib.Core.Logic.{_↔_}
 use Prim.Native.Nat.{ℕ, zero, suc, _+_, _<_, _≤_}
 use native.Mathlib.Omega.{arith}
 use native.Mathlib.Numerals.{add-one}
@@ -12,7 +13,7 @@ use lib.Seq.{drop-cons}
 use lib.Dec.{ltb, lit<}
 use borrow.Author.Tests.{eq-eqb, eqb-true, ltb-true, lt-ltb}
 use Rattle.walks.specs.Order.{variablesOf, isSmall, count, isOnce, isFree, isAfter, isOrder}
-use Rattle.walks.specs.Meaning.{Every, Once, After}
+use Rattle.walks.specs.Meaning.{Every, Once, After, Admissible}
 use Rattle.walks.proofs.OnceLaws.{once-length, hit-other, below}
 
 pub and-left : (a b : Bool) → (a && b) ≡ true → a ≡ true
@@ -116,6 +117,11 @@ unfolding isOrder
 order-exact names n vs o a =
     ap₂ (λ (x y : Bool). x && y) (small-back n vs (below n vs (λ u. o u .1)))
     (ap₂ (λ (x y : Bool). x && y) (once-back n vs (λ u. o u .0)) (after-back names vs a))
+
+-- THE THEOREM: what the test holds of are the admissible orders
+pub order-admissible : (names : ℕ → ℕ → Bool) (n : ℕ) (vs : List ℕ) → (isOrder names n vs ≡ true) ↔ Admissible names n vs
+order-admissible names n vs =
+    (λ h. record { once = order-once names n vs h; after = order-after names n vs h }, λ a. order-exact names n vs (a .once) (a .after))
 
 -- the parts of the test
 pub order-yes : (names : ℕ → ℕ → Bool) (n : ℕ) (vs : List ℕ) → isSmall n vs ≡ true → isOnce n vs ≡ true → isAfter names vs ≡ isOrder names n vs

@@ -7,7 +7,8 @@ use Prim.Native.Nat.{ℕ}
 use native.Mathlib.Decide.{ℕ-discrete}
 use lib.Seq.{set-comm}
 use lib.ListN.{set, getD}
-use Rattle.walks.specs.Choices.{Sets, total, fullOn}
+use Rattle.walks.specs.Choices.{Sets, fullOn}
+use Rattle.walks.specs.code.Among.{totalAmong}
 use Rattle.walks.proofs.SumLaws.{sum-ext, sum-swap}
 
 pub data Perm : List ℕ → List ℕ → Type 0 where
@@ -17,15 +18,15 @@ pub data Perm : List ℕ → List ℕ → Type 0 where
   then : {a b d : List ℕ} → Perm a b → Perm b d → Perm a d
 
 module _ (m : ℕ) (g : List ℕ → ℕ) where
-  total-swap : (v w : ℕ) (a : List ℕ) (c : List ℕ) → Dec (v ≡ w) → total m (v ∷ w ∷ a) g c ≡ total m (w ∷ v ∷ a) g c
-  unfolding total
+  total-swap : (v w : ℕ) (a : List ℕ) (c : List ℕ) → Dec (v ≡ w) → totalAmong m (v ∷ w ∷ a) g c ≡ totalAmong m (w ∷ v ∷ a) g c
+  unfolding totalAmong
   total-swap v w a c (yes e) = rw e
   total-swap v w a c (no ne) =
-      sum-swap m m (λ x y. total m a g (set (set c v x) w y))
-      ∙ sum-ext m _ _ (λ y. sum-ext m _ _ (λ x. ap (total m a g) (set-comm c v w x y ne)))
+      sum-swap m m (λ x y. totalAmong m a g (set (set c v x) w y))
+      ∙ sum-ext m _ _ (λ y. sum-ext m _ _ (λ x. ap (totalAmong m a g) (set-comm c v w x y ne)))
 
-  pub total-perm : {a b : List ℕ} → Perm a b → (c : List ℕ) → total m a g c ≡ total m b g c
-  unfolding total
+  pub total-perm : {a b : List ℕ} → Perm a b → (c : List ℕ) → totalAmong m a g c ≡ totalAmong m b g c
+  unfolding totalAmong
   total-perm none c = refl
   total-perm (keep v p) c = sum-ext m _ _ (λ x. total-perm p (set c v x))
   total-perm (swap v w a) c = total-swap v w a c (ℕ-discrete v w)

@@ -9,9 +9,10 @@ use native.Mathlib.Nat.{le-trans, mul-comm, pow-zero, pow-suc}
 use lib.ListN.{length, getD, set, length-set}
 use lib.Seq.{getD-set-same, getD-set-other}
 use Rattle.words.specs.Words.{gate}
-use Rattle.walks.specs.Choices.{Sets, sumTo, total, variables, fullOn, countFull}
+use Rattle.walks.specs.Choices.{Sets, sumTo, variables, fullOn}
 use Rattle.walks.specs.Walk.{walk}
-use Rattle.walks.specs.Meaning.{Every, Once, After, Reads}
+use Rattle.walks.specs.Meaning.{Every, Admissible, After, Reads}
+use Rattle.walks.specs.code.Among.{totalAmong, countAmong}
 use Rattle.walks.proofs.SumLaws.{sum-ext, sum-gate, gate-and, gate-le, sum-le, sum-both, gate-both}
 use Rattle.walks.proofs.PermLaws.{total-perm, full-perm}
 use Rattle.walks.proofs.OnceLaws.{Distinct, once-perm, once-distinct, below}
@@ -27,12 +28,12 @@ every-both P Q (v ∷ vs) h k = ((h .0, k .0), every-both P Q vs (h .1) (k .1))
 -- a condition that no summed variable changes stands in front of the sums
 total-gate : (m : ℕ) (p : List ℕ → Bool) (q : List ℕ → ℕ) (vs : List ℕ)
     → Every (λ w. (c : List ℕ) (x : ℕ) → p (set c w x) ≡ p c) vs
-    → (c : List ℕ) → total m vs (λ d. gate (p d) (q d)) c ≡ gate (p c) (total m vs q c)
-unfolding total
+    → (c : List ℕ) → totalAmong m vs (λ d. gate (p d) (q d)) c ≡ gate (p c) (totalAmong m vs q c)
+unfolding totalAmong
 total-gate m p q [] h c = refl
 total-gate m p q (v ∷ vs) h c =
-    sum-ext m _ _ (λ x. total-gate m p q vs (h .1) (set c v x) ∙ ap (λ (t : Bool). gate t (total m vs q (set c v x))) (h .0 c x))
-    ∙ sum-gate m (p c) (λ x. total m vs q (set c v x))
+    sum-ext m _ _ (λ x. total-gate m p q vs (h .1) (set c v x) ∙ ap (λ (t : Bool). gate t (totalAmong m vs q (set c v x))) (h .0 c x))
+    ∙ sum-gate m (p c) (λ x. totalAmong m vs q (set c v x))
 
 module _ (m : ℕ) (s : Sets) (names : ℕ → ℕ → Bool) (law : Reads s names) where
   -- a set does not change with a variable that it does not name
@@ -49,30 +50,30 @@ module _ (m : ℕ) (s : Sets) (names : ℕ → ℕ → Bool) (law : Reads s name
       (every-both _ _ vs as′ ds)
 
   module _ (g : List ℕ → ℕ) (len : ℕ) where
-    pruned : (vs : List ℕ) → Distinct vs → After names vs → Every (λ w. w < len) vs
-        → (c : List ℕ) → length c ≡ len → walk m s g vs c ≡ total m vs (λ d. gate (fullOn s vs d) (g d)) c
-    unfolding walk total fullOn
+    pub pruned : (vs : List ℕ) → Distinct vs → After names vs → Every (λ w. w < len) vs
+        → (c : List ℕ) → length c ≡ len → walk m s g vs c ≡ totalAmong m vs (λ d. gate (fullOn s vs d) (g d)) c
+    unfolding walk totalAmong fullOn
     pruned [] ds af bs c l = refl
     pruned (v ∷ vs) ds af bs c l =
         let p : List ℕ → Bool = λ d. s v d (getD d v 0) in
         let q : List ℕ → ℕ = λ d. gate (fullOn s vs d) (g d) in
         sum-ext m _ _ (λ x.
         ap (gate (s v c x)) (pruned vs (ds .1) (af .1) (bs .1) (set c v x) (length-set c v x ∙ l))
-        ∙ ap (λ (t : Bool). gate t (total m vs q (set c v x)))
+        ∙ ap (λ (t : Bool). gate t (totalAmong m vs q (set c v x)))
         (sym (ap (s v (set c v x)) (getD-set-same c v x 0 (subst (λ (k : ℕ). v < k) (sym l) (bs .0))) ∙ unread v v (af .0 .0) c x x))
         ∙ sym (total-gate m p q vs (settled v vs (af .0 .1) (ds .0)) (set c v x))
-        ∙ sym (ap (λ (h : List ℕ → ℕ). total m vs h (set c v x)) (fun-ext (λ d. gate-and (p d) (fullOn s vs d) (g d)))))
+        ∙ sym (ap (λ (h : List ℕ → ℕ). totalAmong m vs h (set c v x)) (fun-ext (λ d. gate-and (p d) (fullOn s vs d) (g d)))))
 
-    -- THE THEOREM: along every admissible order the walk's weight is that of the full choices, which knows no order
-    pub walk-counts : (n : ℕ) (order : List ℕ) → Once n order → After names order → n ≤ len
-        → (base : List ℕ) → length base ≡ len → walk m s g order base ≡ countFull m s g n base
-    unfolding countFull
-    walk-counts n order o af nl base l =
-        pruned order (once-distinct n order o) af
-        (every-map (λ w. w < n) (λ w. w < len) (λ w h. omega arith) order (below n order (λ u. o u .1))) base l
-        ∙ total-perm m (λ d. gate (fullOn s order d) (g d)) (once-perm n order o) base
-        ∙ ap (λ (h : List ℕ → ℕ). total m (variables n) h base)
-        (fun-ext (λ d. ap (λ (t : Bool). gate t (g d)) (full-perm s (once-perm n order o) d)))
+    -- along every admissible order the walk's weight is that of the full choices, which knows no order
+    pub walk-among : (n : ℕ) (order : List ℕ) → Admissible names n order → n ≤ len
+        → (base : List ℕ) → length base ≡ len → walk m s g order base ≡ countAmong m s g n base
+    unfolding countAmong
+    walk-among n order a nl base l =
+        let p = once-perm n order (a .once) in
+        pruned order (once-distinct n order (a .once)) (a .after)
+        (every-map (λ w. w < n) (λ w. w < len) (λ w h. omega arith) order (below n order (λ u. a .once u .1))) base l
+        ∙ total-perm m (λ d. gate (fullOn s order d) (g d)) p base
+        ∙ ap (λ (h : List ℕ → ℕ). totalAmong m (variables n) h base) (fun-ext (λ d. ap (λ (t : Bool). gate t (g d)) (full-perm s p d)))
 
 -- the walk's weight is at most the number of choices, where each weighs at most 1
 pub walk-bound : (m : ℕ) (s : Sets) (g : List ℕ → ℕ) → ((c : List ℕ) → g c ≤ 1)

@@ -32,7 +32,8 @@ array-share-prefix-vars c =
     let p = c .before .before .before .before .before .before .before .parse .result in
     let s = c .before .before .before .before .before .before .before .before .before .before .before .args .rule .now in
     let lv : length (p .vars) ≡ 8 = search needs in
-    let P = c .before .before .before .before .before .before .before .parse .ensures .accepted (checked-none (refusal s) (sym (c .before .before .before .before .before .before .before .parse .ensures .outcome) ∙ c .before .before .before .before .before .enum-told .given .1)) in
+    let none = checked-none (refusal s) (sym (c .before .before .before .before .before .before .before .parse .ensures .outcome) ∙ c .before .before .before .before .before .enum-told .given .1) in
+    let P = c .before .before .before .before .before .before .before .parse .ensures .accepted none in
     omega (arith, P .few)
 
 slice-aggregate-along-3 : tie.Need-slice-aggregate-along-3
@@ -40,8 +41,9 @@ slice-aggregate-along-3 c =
     let p = c .before .before .before .before .before .before .before .before .parse .result in
     let s = c .before .before .before .before .before .before .before .before .before .before .before .before .args .rule .now in
     let lv : length (p .vars) ≡ 8 = search needs in
-    let P = c .before .before .before .before .before .before .before .before .parse .ensures .accepted (checked-none (refusal s) (sym (c .before .before .before .before .before .before .before .before .parse .ensures .outcome) ∙ c .before .before .before .before .before .before .enum-told .given .1)) in
-    sym (rule-long P lv)
+    let none = checked-none (refusal s) (sym (c .before .before .before .before .before .before .before .before .parse .ensures .outcome) ∙ c .before .before .before .before .before .before .enum-told .given .1) in
+    let P = c .before .before .before .before .before .before .before .before .parse .ensures .accepted none in
+    sym (rule-long P none lv)
 
 along-requires : tie.Need-along-requires
 along-requires c κs =
@@ -50,8 +52,9 @@ along-requires c κs =
     let ln : length (p .nodes) ≡ 256 = search needs in
     let lk : length (p .kinds) ≡ 256 = search needs in
     let lv : length (p .vars) ≡ 8 = search needs in
-    let P = c .before .before .before .before .before .before .before .before .parse .ensures .accepted (checked-none (refusal s) (sym (c .before .before .before .before .before .before .before .before .parse .ensures .outcome) ∙ c .before .before .before .before .before .before .enum-told .given .1)) in
-    rule-lent P (c .before .before .before .before .before .before .before .before .before .before .before .before .pre) ln lk lv
+    let none = checked-none (refusal s) (sym (c .before .before .before .before .before .before .before .before .parse .ensures .outcome) ∙ c .before .before .before .before .before .before .enum-told .given .1) in
+    let P = c .before .before .before .before .before .before .before .before .parse .ensures .accepted none in
+    rule-lent P none (c .before .before .before .before .before .before .before .before .before .before .before .before .pre) ln lk lv
 
 returns : tie.Need-returns
 returns c = λ T sound e.
@@ -63,7 +66,7 @@ returns-2 c = λ T sound e.
     let s = c .before .before .before .before .before .before .before .before .before .before .before .before .before .args .rule .now in
     let none = checked-none (refusal s) (sym (c .before .before .before .before .before .before .before .before .before .parse .ensures .outcome) ∙ c .before .before .before .before .before .before .before .enum-told .given .1) in
     let P = c .before .before .before .before .before .before .before .before .before .parse .ensures .accepted none in
-    rule-accepted P T (c .before .before .before .before .before .before .before .before .before .before .before .before .before .args .order .now) (c .along .result) none (c .along .ensures T (P .tree) (rule-case P sound e))
+    rule-accepted P none T (c .before .before .before .before .before .before .before .before .before .before .before .before .before .args .order .now) (c .along .result) (c .along .ensures T (P .tree) (rule-case P none sound e))
 
 pub on-tables-spec : {M : Type 1} → statement M
 on-tables-spec =

@@ -17,19 +17,25 @@ use Rattle.rules.specs.Accept.{refusal}
 use Rattle.walks.specs.declared.Tally.{Tally}
 use Rattle.walks.specs.Walk.{gateO, bytesOf}
 use Rattle.walks.specs.Meaning.{After}
+use Rattle.walks.specs.code.Among.{Within}
 use Rattle.walks.specs.code.Tally.{Walked, Upto}
 use Rattle.walks.specs.Share.{shareOf}
 use Rattle.verdicts.specs.Verdict.{outcomeOf, orderVerdict, acceptedVerdict}
 use Rattle.verdicts.specs.declared.Verdict.{Verdict}
-use Rattle.values.specs.Sets.{inSet, names, breaks}
+use Rattle.values.specs.Sets.{itemsOf, inSet, names, breaks}
 use Rattle.values.specs.code.Nodes.{Ready, Variables, World}
 use Rattle.values.specs.code.Levels.{Levels, Chained}
 use Rattle.values.specs.code.Cache.{Valued, Stored}
+
+-- Under a full choice the rule's variables have items of their sorts.
+abbrev pub InSorts : Tables → Rule → Type 0
+InSorts T ρ = Within (itemsOf T (ruleVars [] ρ)) (inSet T (ruleVars [] ρ)) (length (ruleVars [] ρ))
 
 -- The tables T and the rule ρ are what the slices hold.
 pub record Case (ts ns : List ℕ) (n : ℕ) (ks vs : List ℕ) (root : ℕ) (T : Tables) (ρ : Rule) : Type 0 where
   pub world : World ts ns n ks vs T (ruleVars [] ρ)
   pub holds : HoldsRule ns root ρ
+  pub sorts : InSorts T ρ
 
 -- The slices hold some tables and some rule with at most 8 variables, whose nodes are among the first n.
 pub record Lent (ts ns : List ℕ) (n : ℕ) (ks vs : List ℕ) (root : ℕ) : Type 0 where

@@ -6,7 +6,7 @@ use native.Mathlib.Omega.{arith}
 use mathlib.Core.List.{List}
 use lib.ListN.{getD}
 use Rattle.words.specs.Words.{allOf}
-use Rattle.values.proofs.ItemLaws.{countPlaces, count-place, base-count}
+use Rattle.values.proofs.ItemLaws.{countPlaces, count-place, base-items}
 use borrow.Author.Needs.{needs}
 use Rattle.values.proofs.items.base.Statement.{statement}
 use Rattle.values.proofs.items.base.Tie as tie
@@ -28,7 +28,8 @@ all-requires c κs = search needs
 
 returns : tie.Need-returns
 returns c = λ T e.
-    c .all .ensures ∙ ap allOf (ap (λ (l : List ℕ). getD l (getD countPlaces (c .before .before .before .args .op) 0) 0) e ∙ base-count T (c .before .before .before .args .op) (c .before .before .before .pre .1))
+    let o : ℕ = c .before .before .before .args .op in
+    c .all .ensures ∙ ap (λ (l : List ℕ). allOf (getD l (getD countPlaces o 0) 0)) e ∙ base-items T o (c .before .before .before .pre .1)
 
 pub base-spec : {M : Type 1} → statement M
 base-spec =

@@ -1,0 +1,27 @@
+-- The items of each sort and of each kind, as words (document 01, "Verdict": "one item of its sort (for a collection, a word's position
+-- from 0)"). Assumes nothing.
+use Prim.Native.Nat.{ℕ}
+use lib.ListN.{length}
+use Rattle.words.specs.Words.{allOf}
+use Rattle.tables.specs.Tables.{Tables}
+use Rattle.rules.specs.Kind.{Sort, sU, sR, sOP, sOBJ, sP, sS, Kind, element, set, collection}
+
+-- All items of a sort: all users, roles, operations, objects, permissions, sessions of the tables.
+unfoldable pub sortItems : Tables → Sort → ℕ
+sortItems T sU = allOf (length (T .userRows))
+sortItems T sR = allOf (length (T .roleRows))
+sortItems T sOP = allOf (T .operationCount)
+sortItems T sOBJ = allOf (T .objectCount)
+sortItems T sP = allOf (length (T .permissionRows))
+sortItems T sS = allOf (length (T .sessionUsers))
+
+-- The items of a kind: those of its sort, and for CR, CP, CU all positions of the collection.
+unfoldable pub kindItems : Tables → Kind → ℕ
+kindItems T (element s) = sortItems T s
+kindItems T (set s) = sortItems T s
+kindItems T (collection sU) = allOf (length (T .cu))
+kindItems T (collection sR) = allOf (length (T .cr))
+kindItems T (collection sP) = allOf (length (T .cp))
+kindItems T (collection sOP) = 0
+kindItems T (collection sOBJ) = 0
+kindItems T (collection sS) = 0
