@@ -32,10 +32,11 @@ use Rattle.verdicts.specs.declared.Outcome.{Outcome}
 use Rattle.verdicts.specs.declared.Verdict.{Verdict}
 use Rattle.answers.specs.declared.Written.the-variants.{Refused as WasRefused, Wrote}
 use Rattle.verdicts.specs.Verdict.{refusedBy, orderVerdict, treeVerdict, acceptedVerdict, tablesVerdict, verdictOf, lowestFirst, written}
-use Rattle.verdicts.specs.Verdict.{answerBy, judged}
+use Rattle.verdicts.specs.Verdict.{Gives, answerBy, judged}
 use Rattle.verdicts.specs.code.Judging.{Case, Lent, Loaded}
 use Rattle.answers.proofs.AnswerLaws.{kept-short}
 use Rattle.verdicts.specs.code.Writing.{Puts}
+use Rattle.verdicts.proofs.OutcomeLaws.{gives-same}
 
 -- What the check of a rule said.
 pub checked-none : (q : Option Refusal) → checkedOf q ≡ Accepted → q ≡ none
@@ -125,6 +126,6 @@ put-whole old new word v e l h =
     rw yes′ (record { number = refl; size = sym long; output = h ∙ ap (λ (k : ℕ). written word v ++ drop k old) (sym long) })
 
 -- What judging answers, by the verdict's word.
-pub judged-by : (b s order : Bytes) (v : Verdict) (o : Outcome) → v ≡ verdictOf b s order → v .outcome ≡ o → answerBy o v ≡ judged b s order
+pub judged-by : (b s order : Bytes) (v : Verdict) (o : Outcome) → Gives (verdictOf b s order) v → v .outcome ≡ o → answerBy o v ≡ judged b s order
 unfolding judged
-judged-by b s order v o is h = rw (← is, h)
+judged-by b s order v o is h = rw (← gives-same is, h)

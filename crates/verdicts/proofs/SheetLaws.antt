@@ -38,7 +38,7 @@ copied old p s now at a l e =
         ∙ ap (drop (length s)) (drop-at p (drop (length p) old) (length p) refl)
         ∙ drop-drop (length s) (length p) old
 
-length-lowest : (n w : ℕ) → length (lowestFirst n w) ≡ n
+pub length-lowest : (n w : ℕ) → length (lowestFirst n w) ≡ n
 unfolding lowestFirst
 length-lowest zero w = refl
 length-lowest (suc n) w = ap suc (length-lowest n (w / 256))

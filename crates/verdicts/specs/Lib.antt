@@ -1,3 +1,4 @@
 -- Verdicts: what judging answers.
 pub mod Verdict
+pub mod Report
 pub mod code

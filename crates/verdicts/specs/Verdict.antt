@@ -1,12 +1,13 @@
 -- Document 01, "Verdict" and "Turned back": what judging answers, as fields and as the 26 bytes that are written.
 -- Assumes nothing.
+use mathlib.Core.Path.{_≡_}
 use mathlib.Core.Bool.{Bool, true, false, cond}
 use mathlib.Core.List.{List, [], _∷_, _++_}
 use mathlib.Core.Option.{Option, none, some}
 use Prim.Native.Nat.{ℕ, zero, suc, _/_, _%_}
 use lib.Dec.{eqb, ltb}
 use lib.ListN.{length}
-use Rattle.answers.specs.Answer.{Answer, refused, wrote}
+use Rattle.answers.specs.Answer.{Answer, refused, wrote, numberOrZero}
 use Rattle.answers.specs.declared.Refusal.{Refusal}
 use Rattle.answers.specs.declared.Refusal.the-variants.{NotARule, Disordered}
 use Rattle.tables.specs.Tables.{Tables}
@@ -22,6 +23,33 @@ use Rattle.values.specs.Sets.{itemsOf, inSet, names, breaks}
 use Rattle.verdicts.specs.declared.Outcome.{Outcome}
 use Rattle.verdicts.specs.declared.Outcome.the-variants.{Refused, Held, Idle, Broken}
 use Rattle.verdicts.specs.declared.Verdict.{Verdict}
+
+-- "When an answer is an enum, a definition gives this paper's number and values for each of its cases": the refusal, if it is one, and its
+-- number ("An accepted input has number 0"),
+abbrev pub refusalIn : Outcome → Option Refusal
+refusalIn (Refused e) = some e
+refusalIn Held = none
+refusalIn Idle = none
+refusalIn Broken = none
+
+abbrev pub verdictNumber : Outcome → ℕ
+verdictNumber o = numberOrZero (refusalIn o)
+
+-- and the verdict's word, "0 held, 1 idle or 2 broken"; a refusal has none of them.
+abbrev pub wordNumber : Outcome → ℕ
+wordNumber (Refused e) = 255
+wordNumber Held = 0
+wordNumber Idle = 1
+wordNumber Broken = 2
+
+-- The verdict r has the number, the word and the values of v.
+pub record Gives (v r : Verdict) : Type 0 where
+  pub number : verdictNumber (r .outcome) ≡ verdictNumber (v .outcome)
+  pub word : wordNumber (r .outcome) ≡ wordNumber (v .outcome)
+  pub full : r .full ≡ v .full
+  pub breaking : r .breaking ≡ v .breaking
+  pub first : r .first ≡ v .first
+  pub share : r .share ≡ v .share
 
 -- "Broken: breaking above 0. Idle: full 0. Held: otherwise."
 unfoldable pub outcomeOf : ℕ → ℕ → Outcome
@@ -89,11 +117,17 @@ lowestFirst (suc n) w = w % 256 ∷ lowestFirst n (w / 256)
 unfoldable pub written : ℕ → Verdict → Bytes
 written word v = word ∷ (lowestFirst 8 (v .full) ++ (lowestFirst 8 (v .breaking) ++ (v .first ++ (v .share ∷ []))))
 
+-- What is written of an accepted rule on accepted tables along an order.
+abbrev pub verdictBytes : Tables → Rule → Bytes → Bytes
+verdictBytes T ρ order = written (wordNumber (outcomeOf (fullCount T ρ) (breakingCount T ρ))) (verdictAlong T ρ (variablesOf order))
+
+-- A refusal, or the verdict's bytes.
+abbrev pub unlessRefused : Option Refusal → Bytes → Answer
+unlessRefused (some e) b = refused e
+unlessRefused none b = wrote b
+
 unfoldable pub answerBy : Outcome → Verdict → Answer
-answerBy (Refused e) v = refused e
-answerBy Held v = wrote (written 0 v)
-answerBy Idle v = wrote (written 1 v)
-answerBy Broken v = wrote (written 2 v)
+answerBy o v = unlessRefused (refusalIn o) (written (wordNumber o) v)
 
 abbrev pub answered : Verdict → Answer
 answered v = answerBy (v .outcome) v

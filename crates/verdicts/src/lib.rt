@@ -4,10 +4,9 @@ use answers::Refusal;
 use answers::Written;
 use rules::Checked;
 use tables::Outcome as Read;
-ghost use mathlib.Core.Path.{_≡_};
 ghost use lib.ListN.{length};
 ghost use Rattle.answers.specs.Answer.{lent};
-ghost use Rattle.verdicts.specs.Verdict.{verdictOf, judged};
+ghost use Rattle.verdicts.specs.Verdict.{Gives, verdictOf, judged};
 ghost use Rattle.verdicts.specs.code.Judging.{Loaded, JudgesOn};
 ghost use Rattle.answers.specs.Written.{Answers};
 ghost use Rattle.verdicts.specs.code.Writing.{Puts};
@@ -61,7 +60,7 @@ fn on_tables(t: &[u64], rule: &[u8], order: &[u8]) -> Verdict
 
 // Judging checks tables, rule, order.
 pub fn decide(tables: &[u8], rule: &[u8], order: &[u8]) -> Verdict
-    ensures { λ r. ⌜ r ≡ verdictOf (now (tables .entry)) (now (rule .entry)) (now (order .entry)) ⌝ }
+    ensures { λ r. ⌜ Gives (verdictOf (now (tables .entry)) (now (rule .entry)) (now (order .entry))) r ⌝ }
 {
     let loaded = tables::read(tables);
     let outcome = loaded.outcome;

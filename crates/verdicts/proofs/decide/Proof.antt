@@ -2,6 +2,7 @@
 -- Assumes nothing.
 use mathlib.Core.Path.{_∙_}
 use Rattle.tables.proofs.FitsLaws.{accepted-sound}
+use Rattle.verdicts.proofs.OutcomeLaws.{same-gives}
 use Rattle.verdicts.proofs.DecideLaws.{tables-refused, tables-taken, took-words, took-loaded, took-verdict}
 use borrow.Author.Needs.{needs}
 use Rattle.verdicts.proofs.decide.Statement.{statement}
@@ -30,15 +31,15 @@ on-tables-requires c κs =
 returns : tie.Need-returns
 returns c =
     let S = c .before .before .before .before .before .before .before .before in
-    c .refused .ensures ∙ tables-refused (S .args .tables .now) (S .args .rule .now) (S .args .order .now) (c .before .before .outcome .given .0 .0) _ (c .before .before .before .before .read .ensures .0) (c .before .before .outcome .given .1)
+    same-gives (c .refused .ensures ∙ tables-refused (S .args .tables .now) (S .args .rule .now) (S .args .order .now) (c .before .before .outcome .given .0 .0) _ (c .before .before .before .before .read .ensures .0) (c .before .before .outcome .given .1))
 
 returns-2 : tie.Need-returns-2
 returns-2 c =
     let S = c .before .before .before .before .before .before .before .before .before in
     let b = S .args .tables .now in
     let q = tables-taken b _ (c .before .before .before .before .before .read .ensures .0) (c .before .before .before .enum-told .given .1) in
-    took-verdict b (S .args .rule .now) (S .args .order .now) q (c .on-tables .result)
-    (c .on-tables .ensures (q .tables) (accepted-sound b (q .is)) (took-words b (c .before .before .before .before .before .read .result .words) q (c .before .before .before .before .before .read .ensures .1)))
+    same-gives (took-verdict b (S .args .rule .now) (S .args .order .now) q (c .on-tables .result)
+    (c .on-tables .ensures (q .tables) (accepted-sound b (q .is)) (took-words b (c .before .before .before .before .before .read .result .words) q (c .before .before .before .before .before .read .ensures .1))))
 
 pub decide-spec : {M : Type 1} → statement M
 decide-spec =

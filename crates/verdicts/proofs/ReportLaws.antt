@@ -1,0 +1,157 @@
+-- What verdicts report, for accepted tables, every accepted rule and every admissible order: of the fields, and of the 26 bytes.
+-- Assumes nothing.
+use mathlib.Core.Path.{_≡_, refl, sym, ap, _∙_}
+use mathlib.Core.Bool.{Bool, true, false, true≢false}
+use mathlib.Core.List.{List, [], _∷_, _++_, append-assoc}
+use mathlib.Core.Option.{Option, none, some}
+use Prim.Native.Nat.{ℕ, zero, suc, _+_, _*_, _/_, _%_, _^_, _<_, _≤_}
+use native.Mathlib.Nat.{div-lt-iff-lt-mul, pow-zero, pow-suc}
+use native.Mathlib.Omega.{arith}
+use lib.Dec.{ltb}
+use lib.ListN.{length, getD, take, drop, length-append}
+use lib.Seq.{take-at, drop-at, getD-append-seam}
+use borrow.Author.Tests.{lt-ltb, le-ltb}
+use Rattle.answers.specs.Answer.{wrote, numberOrZero}
+use Rattle.tables.specs.Tables.{Tables}
+use Rattle.tables.specs.Reading.{taken, tablesOf, wordFrom}
+use Rattle.syntax.specs.Bytes.{Bytes}
+use Rattle.syntax.specs.Rule.{Rule, ruleOf}
+use Rattle.rules.specs.Accept.{refusal}
+use Rattle.rules.proofs.AcceptLaws.{accepted-rule}
+use Rattle.walks.specs.Choices.{nothingChosen}
+use Rattle.walks.specs.Walk.{bytesOf}
+use Rattle.walks.specs.Order.{variablesOf}
+use Rattle.walks.specs.Meaning.{there}
+use Rattle.walks.specs.Share.{shareOf}
+use Rattle.walks.proofs.ShareLaws.{is-share}
+use Rattle.verdicts.specs.declared.Verdict.{Verdict}
+use Rattle.verdicts.specs.Verdict.{wordNumber, outcomeOf, fullCount, breakingCount, firstBreaking, verdictAlong, verdictOf, lowestFirst, written}
+use Rattle.verdicts.specs.Verdict.{verdictBytes, judged}
+use Rattle.verdicts.specs.Report.{OrderOf, FirstOf, Reports, ReportsBy, ReportsIn, Told, Admitted}
+use Rattle.verdicts.proofs.OutcomeLaws.{word-broken, word-idle, word-held, word-accepted}
+use Rattle.verdicts.proofs.VerdictLaws.{first-above, first-least, breaking-le-full, full-fits}
+use Rattle.verdicts.proofs.SheetLaws.{length-lowest}
+use Rattle.verdicts.proofs.JudgedLaws.{admitted-verdict, few-variables, in-sorts, first-length, admitted-wrote, bytes-length}
+
+module _ {tables rule order : Bytes} {T : Tables} {ρ : Rule} (a : Admitted tables rule order T ρ) where
+  -- The first breaking choice is there where breaking is above 0, and nowhere else.
+  above : there (firstBreaking T ρ (variablesOf order)) ≡ ltb 0 (breakingCount T ρ)
+  above = first-above T ρ (few-variables a) (in-sorts a) (variablesOf order) (a .ordered)
+
+  first-found : 0 < breakingCount T ρ → FirstOf T ρ order (bytesOf (firstBreaking T ρ (variablesOf order)))
+  first-found h = go (firstBreaking T ρ (variablesOf order)) refl
+    where
+      go : (o : Option (List ℕ)) → firstBreaking T ρ (variablesOf order) ≡ o → FirstOf T ρ order (bytesOf o)
+      go none q = absurd (true≢false (sym (lt-ltb 0 (breakingCount T ρ) h) ∙ sym above ∙ ap there q))
+      go (some d) q = first-least T ρ (few-variables a) (in-sorts a) (variablesOf order) d (a .ordered) q
+
+  first-none : breakingCount T ρ ≡ 0 → bytesOf (firstBreaking T ρ (variablesOf order)) ≡ nothingChosen
+  first-none z = go (firstBreaking T ρ (variablesOf order)) refl
+    where
+      go : (o : Option (List ℕ)) → firstBreaking T ρ (variablesOf order) ≡ o → bytesOf o ≡ nothingChosen
+      go none q = refl
+      go (some d) q = absurd (true≢false (sym (ap there q) ∙ above ∙ ap (ltb 0) z))
+
+  pub along-reports : Reports T ρ order (wordNumber (outcomeOf (fullCount T ρ) (breakingCount T ρ))) (fullCount T ρ) (breakingCount T ρ)
+      (bytesOf (firstBreaking T ρ (variablesOf order))) (shareOf (fullCount T ρ) (breakingCount T ρ))
+  along-reports = record {
+    fulls = refl;
+    breakings = refl;
+    broken = word-broken (fullCount T ρ) (breakingCount T ρ);
+    idle = word-idle (fullCount T ρ) (breakingCount T ρ) (breaking-le-full T ρ (few-variables a) (in-sorts a));
+    held = word-held (fullCount T ρ) (breakingCount T ρ);
+    found = first-found;
+    unfound = first-none;
+    shared = is-share (fullCount T ρ) (breakingCount T ρ);
+  }
+
+  -- The fields of the verdict.
+  pub verdict-reports : ReportsBy T ρ order (verdictOf tables rule order)
+  unfolding verdictAlong
+  verdict-reports = rw (admitted-verdict a) (ap numberOrZero (word-accepted (fullCount T ρ) (breakingCount T ρ)), along-reports)
+
+-- A word of 8 bytes is read as it was written.
+word-back : (n w : ℕ) → w < 256 ^ n → wordFrom (lowestFirst n w) ≡ w
+unfolding wordFrom lowestFirst
+word-back zero w h = omega (arith, pow-zero 256)
+word-back (suc n) w h =
+    let less : w < 256 ^ n * 256 = rw (pow-suc 256 n) at h in
+    let ih = word-back n (w / 256) (div-lt-iff-lt-mul (omega arith) .1 less) in
+    omega (arith, ih)
+
+-- The five parts of 26 bytes, with any bytes behind them.
+module _ (word share : ℕ) (f b d rest : Bytes) (lf : length f ≡ 8) (lb : length b ≡ 8) (ld : length d ≡ 8) where
+  abbrev parts : Bytes
+  parts = word ∷ (f ++ (b ++ (d ++ (share ∷ rest))))
+
+  part-full : take 8 (drop 1 parts) ≡ f
+  part-full = take-at f (b ++ (d ++ (share ∷ rest))) 8 lf
+
+  part-breaking : take 8 (drop 9 parts) ≡ b
+  part-breaking = rw (drop-at f (b ++ (d ++ (share ∷ rest))) 8 lf) (take-at b (d ++ (share ∷ rest)) 8 lb)
+
+  part-first : take 8 (drop 17 parts) ≡ d
+  part-first =
+      let both : drop 16 ((f ++ b) ++ (d ++ (share ∷ rest))) ≡ d ++ (share ∷ rest)
+      = drop-at (f ++ b) (d ++ (share ∷ rest)) 16 (omega (arith, length-append f b)) in
+      rw (rw append-assoc at both) (take-at d (share ∷ rest) 8 ld)
+
+  part-share : getD parts 25 0 ≡ share
+  part-share =
+      let front : Bytes = word ∷ ((f ++ b) ++ d) in
+      let long : length front ≡ 25 = omega (arith, length-append (f ++ b) d, length-append f b) in
+      let seam : getD (front ++ (share ∷ rest)) 25 0 ≡ share = rw long at (getD-append-seam front share rest 0) in
+      simp append-assoc at seam
+
+-- The 26 bytes, with any bytes behind them, read as they were written: the word, the two counts, the choice, the share.
+module _ {tables rule order : Bytes} {T : Tables} {ρ : Rule} (a : Admitted tables rule order T ρ) (rest : Bytes) where
+  full-back : wordFrom (lowestFirst 8 (fullCount T ρ)) ≡ fullCount T ρ
+  full-back = word-back 8 (fullCount T ρ) (omega (arith, full-fits T ρ (few-variables a) (in-sorts a)))
+
+  breaking-back : wordFrom (lowestFirst 8 (breakingCount T ρ)) ≡ breakingCount T ρ
+  breaking-back =
+      word-back 8 (breakingCount T ρ)
+      (omega (arith, full-fits T ρ (few-variables a) (in-sorts a), breaking-le-full T ρ (few-variables a) (in-sorts a)))
+
+  pub bytes-report : ReportsIn T ρ order (verdictBytes T ρ order ++ rest)
+  unfolding written verdictAlong
+  bytes-report =
+      let word : ℕ = wordNumber (outcomeOf (fullCount T ρ) (breakingCount T ρ)) in
+      let f : Bytes = lowestFirst 8 (fullCount T ρ) in
+      let b : Bytes = lowestFirst 8 (breakingCount T ρ) in
+      let d : Bytes = bytesOf (firstBreaking T ρ (variablesOf order)) in
+      let share : ℕ = shareOf (fullCount T ρ) (breakingCount T ρ) in
+      let lf = length-lowest 8 (fullCount T ρ) in
+      let lb = length-lowest 8 (breakingCount T ρ) in
+      let ld = first-length a in
+      let whole : verdictBytes T ρ order ++ rest ≡ parts word share f b d rest lf lb ld = simp append-assoc in
+      rw (
+        whole,
+        part-full word share f b d rest lf lb ld,
+        part-breaking word share f b d rest lf lb ld,
+        part-first word share f b d rest lf lb ld,
+        part-share word share f b d rest lf lb ld,
+        full-back,
+        breaking-back,
+      ) (along-reports a)
+
+-- THE THEOREM, of the fields: an accepted rule has a tree, and along every admissible order of its variables the verdict reports.
+pub accepted-reports : (tables rule : Bytes) (T : Tables) → tablesOf tables ≡ taken T → refusal rule ≡ none
+    → (ρ : Rule) × (ruleOf rule ≡ some ρ) × ((order : Bytes) → OrderOf ρ order → ReportsBy T ρ order (verdictOf tables rule order))
+accepted-reports tables rule T t r =
+    let (ρ, h, _) = accepted-rule rule r in
+    (ρ, h, λ order o. verdict-reports (record { reads = t; accepts = r; tree = h; ordered = o }))
+
+-- Judging answers with 26 bytes that report it.
+pub judged-reports : {tables rule order : Bytes} {T : Tables} {ρ : Rule} → Admitted tables rule order T ρ
+    → (b : Bytes) × (judged tables rule order ≡ wrote b) × Told T ρ order b
+judged-reports {order = order} {T = T} {ρ = ρ} a =
+    (verdictBytes T ρ order, admitted-wrote a, record { long = bytes-length a; reports = λ rest. bytes-report a rest })
+
+-- THE THEOREM, of the bytes.
+pub accepted-judged : (tables rule : Bytes) (T : Tables) → tablesOf tables ≡ taken T → refusal rule ≡ none
+    → (ρ : Rule) × (ruleOf rule ≡ some ρ)
+    × ((order : Bytes) → OrderOf ρ order → (b : Bytes) × (judged tables rule order ≡ wrote b) × Told T ρ order b)
+accepted-judged tables rule T t r =
+    let (ρ, h, _) = accepted-rule rule r in
+    (ρ, h, λ order o. judged-reports (record { reads = t; accepts = r; tree = h; ordered = o }))
