@@ -11,7 +11,7 @@ use Rattle.answers.specs.declared.Refusal.the-variants.{Disordered}
 use Rattle.syntax.specs.Bytes.{Bytes}
 use Rattle.syntax.specs.Rule.{Rule, ruleOf}
 use Rattle.rules.specs.Accept.{refusal}
-use Rattle.rules.proofs.AcceptLaws.{tree-few, accepted-rule, accepted-tree, refused-early}
+use Rattle.rules.proofs.AcceptLaws.{accepted-rule, refused-early}
 use Rattle.tables.specs.Tables.{Tables}
 use Rattle.walks.specs.Order.{variablesOf}
 use Rattle.verdicts.specs.declared.Outcome.the-variants.{Refused, Held, Idle, Broken}
@@ -32,9 +32,7 @@ module _ (T : Tables) (rule : Bytes) (ok : refusal rule ≡ none) where
   -- An accepted rule is judged along 1, 2, ..:
   pub judged-in-turn : (ρ : Rule) → ruleOf rule ≡ some ρ → ruleVerdict T rule ≡ verdictAlong T ρ (variablesOf (orderOf (ruleOf rule)))
   unfolding ruleVerdict acceptedVerdict treeVerdict orderVerdict orderOf
-  judged-in-turn ρ h =
-      let few = tree-few ρ (accepted-tree rule ρ ok h) in
-      rw (ok, h, turn-order T ρ few)
+  judged-in-turn ρ h = rw (ok, h, turn-order ρ)
 
   -- it is broken, idle or held as its counts say,
   pub outcome-in-turn : (ρ : Rule) → ruleOf rule ≡ some ρ → ruleVerdict T rule .outcome ≡ outcomeOf (fullCount T ρ) (breakingCount T ρ)

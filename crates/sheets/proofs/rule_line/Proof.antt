@@ -2,6 +2,7 @@
 -- Assumes nothing.
 use mathlib.Core.Path.{sym}
 use lib.Seq.{length-take-le}
+use Rattle.verdicts.proofs.OutcomeLaws.{gives-same}
 use Rattle.sheets.proofs.JudgedLaws.{verdict-is}
 use borrow.Author.Needs.{needs}
 use Rattle.sheets.proofs.rule_line.Statement.{statement}
@@ -26,7 +27,7 @@ same-length : tie.Need-same-length
 same-length c = search needs
 
 returns : tie.Need-returns
-returns c = λ T t. rw (verdict-is _ T (c .before .before .before .before .before .before .variables .ensures) t (c .before .before .before .before .decide .ensures)) at (c .before .before .line-of .ensures)
+returns c = λ T t. rw (verdict-is _ T (c .before .before .before .before .before .before .variables .ensures) t (gives-same (c .before .before .before .before .decide .ensures))) at (c .before .before .line-of .ensures)
 
 pub rule-line-spec : {M : Type 1} → statement M
 rule-line-spec =
