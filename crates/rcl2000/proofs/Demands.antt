@@ -1,13 +1,13 @@
 -- The three demands, sentence by sentence, each a theorem about the answers of the tracker's calls `reduce`, `rebuild` and `judge`.
 -- The calls' contracts say that their number is `reply` and the lent bytes are `outputAfter` of these answers. Assumes nothing.
 use mathlib.Core.Path.{_≡_, refl, ap, _∙_}
-use mathlib.Core.List.{List, []}
+use mathlib.Core.List.{[], _++_}
 use mathlib.Core.Option.{none, some}
-use mathlib.Core.Bool.{true, false}
+use mathlib.Core.Bool.{true}
 use mathlib.Core.Logic.{_↔_}
 use Prim.Native.Nat.{ℕ, _*_, _≤_, _<_}
 use native.Mathlib.Omega.{arith}
-use lib.ListN.{length, take, drop, getD}
+use lib.ListN.{length}
 use Rattle.answers.specs.Refusal.{numberOf}
 use Rattle.answers.specs.Answer.{Answer, refused, wrote, lent, reply, outputAfter}
 use Rattle.answers.specs.declared.Refusal.{Refusal}
@@ -20,16 +20,15 @@ use Rattle.rules.specs.Accept.{refusal, accepted}
 use Rattle.formulas.specs.Formulas.{reduced, rebuiltAnswer}
 use Rattle.formulas.proofs.Theorems as formulas
 use Rattle.walks.specs.Choices.{nothingChosen, each, ifBreaks}
-use Rattle.walks.specs.Order.{variablesOf, isOrder}
+use Rattle.walks.specs.Order.{variablesOf}
 use Rattle.walks.specs.Walk.{walk}
-use Rattle.walks.specs.Meaning.{FirstBreaking}
-use Rattle.values.specs.Sets.{inSet, names, breaks}
-use Rattle.verdicts.specs.Verdict.{fullCount, breakingCount, firstBreaking, verdictAlong, lowestFirst, written, judged}
+use Rattle.values.specs.Sets.{inSet, breaks}
+use Rattle.verdicts.specs.Verdict.{fullCount, breakingCount, verdictBytes, judged}
+use Rattle.verdicts.specs.Report.{OrderOf, Admitted, ReportsIn}
 use Rattle.verdicts.proofs.VerdictLaws as verdicts
 use Rattle.answers.proofs.AnswerLaws.{number-some, number-few, lent-refused, lent-fits, lent-short}
-use Rattle.rcl2000.proofs.JudgedLaws.{Admitted, verdictBytes, admitted-wrote, bytes-length, few-variables, tables-turned, rule-turned}
-use Rattle.rcl2000.proofs.JudgedLaws.{order-turned, written-full, written-breaking}
-use Rattle.rcl2000.proofs.JudgedLaws.{word-broken, word-idle, word-held}
+use Rattle.verdicts.proofs.JudgedLaws.{admitted-wrote, bytes-length, few-variables, in-sorts, tables-turned, rule-turned, order-turned, judged-turned}
+use Rattle.verdicts.proofs.ReportLaws.{bytes-report}
 
 -- What the three calls answer where n bytes of output are lent.
 
@@ -66,15 +65,16 @@ unfolding reduced lent
 reduce-refuses-rules n rule e h = rw (h, reduced)
 
 pub judge-refuses-tables : (n : ℕ) (tables rule order : Bytes) (e : Refusal) → tablesOf tables ≡ turned e → judges n tables rule order ≡ refused e
-judge-refuses-tables n tables rule order e h = ap (lent n) (tables-turned tables rule order e h) ∙ lent-refused n e
+judge-refuses-tables n tables rule order e h = ap (lent n) (judged-turned tables rule order e (tables-turned tables rule order e h)) ∙ lent-refused n e
 
 pub judge-refuses-rules : (n : ℕ) (tables rule order : Bytes) (T : Tables) (e : Refusal) → tablesOf tables ≡ taken T → refusal rule ≡ some e
     → judges n tables rule order ≡ refused e
-judge-refuses-rules n tables rule order T e h g = ap (lent n) (rule-turned tables rule order T e h g) ∙ lent-refused n e
+judge-refuses-rules n tables rule order T e h g = ap (lent n) (judged-turned tables rule order e (rule-turned tables rule order T e h g)) ∙ lent-refused n e
 
 pub judge-refuses-orders : (n : ℕ) (tables rule order : Bytes) (T : Tables) (ρ : Rule) → tablesOf tables ≡ taken T → refusal rule ≡ none → ruleOf rule ≡ some ρ
-    → isOrder (names (ruleVars [] ρ)) (length (ruleVars [] ρ)) (variablesOf order) ≡ false → judges n tables rule order ≡ refused Disordered
-judge-refuses-orders n tables rule order T ρ h g t o = ap (lent n) (order-turned tables rule order T ρ h g t o) ∙ lent-refused n Disordered
+    → (OrderOf ρ order → ⊥) → judges n tables rule order ≡ refused Disordered
+judge-refuses-orders n tables rule order T ρ h g t o =
+    ap (lent n) (judged-turned tables rule order Disordered (order-turned tables rule order T ρ h g t o)) ∙ lent-refused n Disordered
 
 -- "There 17 follows 18": an admitted input is answered with 26 bytes where they fit, and 17 where not.
 module _ {tables rule order : Bytes} {T : Tables} {ρ : Rule} (a : Admitted tables rule order T ρ) where
@@ -101,38 +101,15 @@ formula-gives-back rule f n m p h = formulas.formula-handed-back rule f n m p h
 pub other-bytes-give-none : (f : Bytes) → ((rule : Bytes) (n : ℕ) → reduces n rule ≡ wrote f → ⊥) → (m : ℕ) → rebuilds m f ≡ refused NoRulesFormula
 other-bytes-give-none f h m = formulas.others-refused f h m
 
--- "the verdict's two counts are the order-free counts for every admissible order": the counts written are `fullCount` and `breakingCount`, in which no
--- order stands, whatever order was given;
+-- "the verdict's two counts are the order-free counts for every admissible order", "broken / idle / held exactly as the counts say": what the 26
+-- bytes report, with any bytes behind them;
 module _ {tables rule order : Bytes} {T : Tables} {ρ : Rule} (a : Admitted tables rule order T ρ) where
-  pub full-written : take 8 (drop 1 (verdictBytes T ρ order)) ≡ lowestFirst 8 (fullCount T ρ)
-  unfolding verdictAlong
-  full-written = written-full _ (verdictAlong T ρ (variablesOf order))
+  pub verdict-reported : (rest : Bytes) → ReportsIn T ρ order (verdictBytes T ρ order ++ rest)
+  verdict-reported rest = bytes-report a rest
 
-  pub breaking-written : take 8 (drop 9 (verdictBytes T ρ order)) ≡ lowestFirst 8 (breakingCount T ρ)
-  unfolding verdictAlong
-  breaking-written = written-breaking _ (verdictAlong T ρ (variablesOf order))
-
-  -- they are what the walk along the order counts, for every order;
+  -- the counts are what the walk along the order counts, for every order.
   pub full-walked : walk 64 (inSet T (ruleVars [] ρ)) each (variablesOf order) nothingChosen ≡ fullCount T ρ
-  full-walked = verdicts.walk-full T ρ (few-variables a) (variablesOf order) (a .ordered)
+  full-walked = verdicts.walk-full T ρ (few-variables a) (in-sorts a) (variablesOf order) (a .ordered)
 
   pub breaking-walked : walk 64 (inSet T (ruleVars [] ρ)) (ifBreaks (breaks T (ruleVars [] ρ) ρ)) (variablesOf order) nothingChosen ≡ breakingCount T ρ
-  breaking-walked = verdicts.walk-breaking T ρ (few-variables a) (variablesOf order) (a .ordered)
-
-  -- and the first breaking choice is full, breaks the rule, and comes first in that order.
-  pub first-is-first : (d : List ℕ) → firstBreaking T ρ (variablesOf order) ≡ some d
-      → FirstBreaking 64 (length (ruleVars [] ρ)) (inSet T (ruleVars [] ρ)) (breaks T (ruleVars [] ρ) ρ) (variablesOf order) nothingChosen d
-  first-is-first d e = verdicts.first-least T ρ (few-variables a) (variablesOf order) d (a .ordered) e
-
-  -- "broken / idle / held exactly as the counts say": the first byte is 2, 1 or 0.
-  pub broken-exactly : (getD (verdictBytes T ρ order) 0 3 ≡ 2) ↔ (0 < breakingCount T ρ)
-  unfolding written
-  broken-exactly = word-broken (fullCount T ρ) (breakingCount T ρ)
-
-  pub idle-exactly : (getD (verdictBytes T ρ order) 0 3 ≡ 1) ↔ (fullCount T ρ ≡ 0)
-  unfolding written
-  idle-exactly = word-idle (fullCount T ρ) (breakingCount T ρ) (verdicts.breaking-le-full T ρ (few-variables a))
-
-  pub held-exactly : (getD (verdictBytes T ρ order) 0 3 ≡ 0) ↔ ((0 < fullCount T ρ) × (breakingCount T ρ ≡ 0))
-  unfolding written
-  held-exactly = word-held (fullCount T ρ) (breakingCount T ρ)
+  breaking-walked = verdicts.walk-breaking T ρ (few-variables a) (in-sorts a) (variablesOf order) (a .ordered)

@@ -1,5 +1,4 @@
 -- Laws of the tracker's numbers, of what judging admits, and the demands.
 pub mod ReplyLaws
-pub mod JudgedLaws
 pub mod Demands
 pub mod Examples

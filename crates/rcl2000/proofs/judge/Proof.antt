@@ -1,7 +1,7 @@
 -- `judge`: what crate verdicts says, as the tracker's number; a verdict has 26 bytes.
 -- Assumes nothing.
 use borrow.Author.Needs.{needs}
-use Rattle.rcl2000.proofs.JudgedLaws.{verdict-at-most}
+use Rattle.verdicts.proofs.JudgedLaws.{verdict-at-most}
 use Rattle.rcl2000.proofs.ReplyLaws.{reply-fits, reply-is}
 use Rattle.rcl2000.proofs.judge.Statement.{statement}
 use Rattle.rcl2000.proofs.judge.Tie as tie
