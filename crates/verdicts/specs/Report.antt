@@ -50,7 +50,7 @@ ReportsBy T ρ order v =
 -- bytes 1 to 8 and 9 to 16 as words, bytes 17 to 24, byte 25.
 abbrev pub ReportsIn : Tables → Rule → Bytes → Bytes → Type 0
 ReportsIn T ρ order b =
-    Reports T ρ order (getD b 0 0) (wordFrom (take 8 (drop 1 b))) (wordFrom (take 8 (drop 9 b))) (take 8 (drop 17 b)) (getD b 25 0)
+    Reports T ρ order (getD b 0 255) (wordFrom (take 8 (drop 1 b))) (wordFrom (take 8 (drop 9 b))) (take 8 (drop 17 b)) (getD b 25 0)
 
 -- b are 26 bytes that report so, whatever stands behind them in the lent output.
 pub record Told (T : Tables) (ρ : Rule) (order b : Bytes) : Type 0 where

@@ -1,7 +1,7 @@
 // Sets as u64 words, and the two ways to go from a set to another: image and preimage.
 // Each function is told by bits; nothing here knows tables.
 ghost use mathlib.Core.Path.{_≡_};
-ghost use Prim.Native.Nat.{_<_, min};
+ghost use Prim.Native.Nat.{_<_, _≤_, min};
 ghost use lib.ListN.{getD};
 ghost use Rattle.words.specs.Words.{has, Lowest, sizeOf, allOf, itemOf, meetOf, joinOf, lessOf, imageOf, preimageOf};
 
@@ -49,11 +49,17 @@ pub fn less(a: u64, b: u64) -> u64
     a & !b
 }
 
+fn ones(w: u64) -> u32
+    ensures { λ r. ⌜ (r ≡ sizeOf w) × (r ≤ 64) ⌝ }
+{
+    u64::count_ones(w)
+}
+
 // How many items the word has: the count of ones.
 pub fn size(w: u64) -> usize
     ensures { λ r. ⌜ r ≡ sizeOf w ⌝ }
 {
-    u64::count_ones(w) as usize
+    ones(w) as usize
 }
 
 // The smallest item, or 64.

@@ -2,7 +2,7 @@
 -- Assumes nothing.
 use mathlib.Core.Path.{_≡_, ap, subst, _∙_}
 use mathlib.Core.List.{List}
-use Prim.Native.Nat.{ℕ, _+_, _-_, _≤_}
+use Prim.Native.Nat.{ℕ, _<_, _+_, _-_, _≤_}
 use native.Mathlib.Numerals.{add-one}
 use native.Mathlib.Omega.{arith}
 use lib.ListN.{length, getD, set}
@@ -46,7 +46,8 @@ loop-again c =
     let p : List ℕ = S .args .p .now in
     let at : ℕ = S .args .at in
     let i : ℕ = c .before .before .loop .i in
-    let step : set (paste d at p i) (at + i) (getD p i 0) ≡ paste d at p (i + 1) = rw add-one (paste-suc d at p i 0 (omega (arith, S .pre, c .before .loop-test .taken)) (c .before .loop-test .taken)) in
+    let here : i < length p = omega arith in
+    let step : set (paste d at p i) (at + i) (getD p i 0) ≡ paste d at p (i + 1) = rw add-one (paste-suc d at p i 0 (omega (arith, S .pre)) here) in
     (omega arith, rw (c .before .before .loop .inv .1) step)
 
 same-length : tie.Need-same-length Inv-loop μ-loop
