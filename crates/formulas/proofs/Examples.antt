@@ -9,7 +9,7 @@ use Rattle.syntax.specs.Bytes.{Bytes, ascii, next, skip, scan, either, same}
 use Rattle.syntax.specs.Term.{Term≟, digitFrom, namedFrom, spell, spellMiddle, oeText, aoText, text, bracketHeads, callHeads, collectionHeads}
 use Rattle.syntax.specs.Term.{heads, middles, known, closed, second, inner, readTerm}
 use Rattle.syntax.specs.Rule.{spellCmp, spellBetween, digits, countText, testText, clauseText, ruleText, add, vars, countVars}
-use Rattle.syntax.specs.Rule.{testVars, clauseVars, ruleVars, quantifiers, formula, cmps, betweens, down, readCount, readSecond}
+use Rattle.syntax.specs.Rule.{testVars, clauseVars, ruleVars, quantifiers, formulaWith, formula, cmps, betweens, down, readCount, readSecond}
 use Rattle.syntax.specs.Rule.{readTest, readClause, readRule, readFormula, whole, ruleOf, ruleOfFormula}
 use Rattle.rules.specs.Kind.{oneOf, baseKind, takes, makes, ofElement, callKind, oneKind, othersKind, asSet, joined, twoKind, kind}
 use Rattle.rules.specs.Kind.{countable, isMember, countKinds, testKinds, clauseKinds, ruleKinds}
@@ -42,7 +42,7 @@ table =
 
 -- Opening this opens all that the examples compute with.
 unfoldable everything : Unit {0}
-unfolding next skip scan either Term≟ digitFrom namedFrom spell spellMiddle oeText aoText text bracketHeads callHeads collectionHeads heads middles known closed second inner readTerm spellCmp digits countText testText clauseText ruleText add vars countVars testVars clauseVars ruleVars quantifiers formula cmps spellBetween betweens down readCount readSecond readTest readClause readRule readFormula whole ruleOf ruleOfFormula formulaOf kept rebuilt same oneOf baseKind takes makes ofElement callKind oneKind othersKind asSet joined twoKind kind countable isMember countKinds testKinds clauseKinds ruleKinds deep treeRefusal refusal reduced rebuiltAnswer lent
+unfolding next skip scan either Term≟ digitFrom namedFrom spell spellMiddle oeText aoText text bracketHeads callHeads collectionHeads heads middles known closed second inner readTerm spellCmp digits countText testText clauseText ruleText add vars countVars testVars clauseVars ruleVars quantifiers formulaWith formula cmps spellBetween betweens down readCount readSecond readTest readClause readRule readFormula whole ruleOf ruleOfFormula formulaOf kept rebuilt same oneOf baseKind takes makes ofElement callKind oneKind othersKind asSet joined twoKind kind countable isMember countKinds testKinds clauseKinds ruleKinds deep treeRefusal refusal reduced rebuiltAnswer lent
 everything = tt
 
 pub examples : All table

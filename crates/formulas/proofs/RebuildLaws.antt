@@ -15,6 +15,8 @@ use Rattle.syntax.specs.Term.{Choices}
 use Rattle.syntax.specs.Rule.{Rule, ruleText, ruleVars, formula, readFormula, whole, ruleOfFormula}
 use Rattle.syntax.proofs.BytesLaws.{same-own, same-gives}
 use Rattle.syntax.proofs.RuleLaws.{formula-back, Within, read-formula}
+use Rattle.syntax.specs.code.Printing.{printed}
+use Rattle.syntax.proofs.Closed.{formula-in}
 use Rattle.syntax.proofs.Length.{Small, text-grows, rule-grows, rule-small, formula-short}
 use Rattle.rules.specs.Accept.{refusal, isNone, accepted}
 use Rattle.formulas.specs.Formulas.{formulaOf, kept, rebuilt, wroteOr, reduced}
@@ -47,13 +49,13 @@ small-within σ (x ∷ xs) h = (omega (arith, text-grows σ x, h .0), small-with
 
 -- The reader of formulas with fixed bounds finds the rule of every formula of an accepted rule.
 pub read-back : {s : Bytes} (a : Accepted s) → whole (readFormula 512 9 [] (formula (a .rule))) ≡ some (a .rule)
-unfolding whole formula
+unfolding whole printed
 read-back {s} a =
     let ρ : Rule = a .rule in
     let τ : Choices = ruleVars [] ρ in
     let l : length (ruleText [] ρ) ≤ 256 = rw (← (a .text)) (a .short) in
     let w : length (ruleText τ ρ) ≤ 512 = omega (arith, rule-grows τ ρ) in
-    rw (read-formula 512 9 [] τ τ refl ρ (a .numbers) (small-within [] τ (rule-small 256 [] ρ tt l)) w (omega (arith, a .few)))
+    rw (formula-in ρ, read-formula 512 9 [] τ τ refl ρ (a .numbers) (small-within [] τ (rule-small 256 [] ρ tt l)) w (omega (arith, a .few)))
 
 pub formula-within : {s : Bytes} (a : Accepted s) → length (formula (a .rule)) ≤ 4096
 formula-within a = formula-short (a .rule) (rw (← (a .text)) (a .short)) (a .few)

@@ -14,6 +14,8 @@ use Rattle.answers.specs.declared.Refusal.the-variants.{NoRulesFormula}
 use Rattle.syntax.specs.Bytes.{Bytes, same}
 use Rattle.syntax.specs.Rule.{Rule, ruleText, ruleVars, formula, readFormula, whole}
 use Rattle.syntax.specs.code.Arena.{HoldsRule}
+use Rattle.syntax.specs.code.Printing.{printed}
+use Rattle.syntax.proofs.Closed.{formula-in}
 use Rattle.syntax.specs.code.Reading.{Rooted}
 use Rattle.syntax.proofs.BytesLaws.{same-own, same-gives}
 use Rattle.rules.specs.declared.Checked.{Checked}
@@ -71,14 +73,14 @@ module _ {s ns ks vs : List ℕ} {o : Checked} {n root count : ℕ} (p : Parses 
 
   -- The formula stands in front of a sheet of 4,096 bytes.
   pub reduce-made : {old sheet : Bytes} {l : ℕ} → o ≡ Taken → length old ≡ 4096 → Prints ns (take count vs) (HoldsRule ns root) formulaIn old sheet l → reduced s ≡ wrote (take l sheet)
-  unfolding formula
+  unfolding printed
   reduce-made {old} {sheet} {l} e h q =
       let t = p .accepted (accepted-of e) in
       let a = accepted-gives s (accepted-of e) in
       let i : a .rule ≡ t .tree = cc (a .reads, t .reads) in
-      let b : length (formula (t .tree)) ≤ 4096 = rw i at (formula-within a) in
-      let f : take l sheet ≡ formula (t .tree) = puts-front (q .shows (ruleVars [] (t .tree)) (t .tree) (t .knows .holds) (t .holds)) ∙ take-all (length old) (formula (t .tree)) (omega arith) in
-      wrote-reduced s (take l sheet) (accepted-of e) (accepted-formula a ∙ ap some (ap formula i ∙ sym f))
+      let g : formula (a .rule) ≡ printed (t .tree) = ap formula i ∙ formula-in (t .tree) in
+      let f : take l sheet ≡ printed (t .tree) = puts-front (q .shows (ruleVars [] (t .tree)) (t .tree) (t .knows .holds) (t .holds)) ∙ take-all (length old) (printed (t .tree)) (omega (arith, formula-within a, ap length g)) in
+      wrote-reduced s (take l sheet) (accepted-of e) (accepted-formula a ∙ ap some (g ∙ sym f))
 
 -- Formula to rule.
 

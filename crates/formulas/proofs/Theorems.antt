@@ -1,7 +1,7 @@
 -- What is promised of rule to formula and formula to rule, of the answers themselves, for every input and every lent length.
 -- Assumes nothing.
-use mathlib.Core.Path.{_≡_, refl, ap, sym, _∙_}
-use mathlib.Core.List.{[], _++_}
+use mathlib.Core.Path.{_≡_, refl}
+use mathlib.Core.List.{[]}
 use mathlib.Core.Option.{Option, none, some}
 use mathlib.Core.Bool.{true}
 use mathlib.Core.Logic.{_↔_}
@@ -11,28 +11,21 @@ use lib.ListN.{length}
 use Rattle.answers.specs.Answer.{refused, wrote, lent}
 use Rattle.answers.specs.declared.Refusal.the-variants.{NoRulesFormula}
 use Rattle.answers.proofs.AnswerLaws.{lent-wrote, lent-fits}
-use Rattle.syntax.specs.Bytes.{Bytes, ascii}
-use Rattle.syntax.specs.Rule.{Rule, ruleText, ruleVars, formula, ruleOf}
+use Rattle.syntax.specs.Bytes.{Bytes}
+use Rattle.syntax.specs.Rule.{Rule, ruleText, formula, ruleOf}
 use Rattle.syntax.proofs.RuleLaws.{RuleFits, rule-back, rule-text}
-use Rattle.syntax.proofs.Closed.{quantifiersIn, formula-in}
 use Rattle.rules.specs.Accept.{refusal, accepted}
 use Rattle.formulas.specs.Formulas.{rebuilt, wroteOr, reduced, rebuiltAnswer}
 use Rattle.formulas.proofs.AcceptLaws.{accepted-gives}
 use Rattle.formulas.proofs.RebuildLaws.{reduced-wrote, wrote-reduced, accepted-formula, formula-within}
 use Rattle.formulas.proofs.RebuildLaws.{none-true, rebuilt-gives, gives-rebuilt}
 
--- The formula as document 01 words it: "`[v1@X1][v2@X2]..:` and the rule, with `OE(X)` as its variable and `AO(X)` as `(X-{v})`,
--- X itself so rewritten", each quantifier too.
-unfoldable pub worded : Rule → Bytes
-worded ρ = quantifiersIn (ruleVars [] ρ) [] (ruleVars [] ρ) ++ (ascii ":" ++ ruleText (ruleVars [] ρ) ρ)
-
 -- "For an accepted rule the bytes written are the formula of document 01": of the rule that the text is.
-pub formula-written : (r : Bytes) → accepted r ≡ true → (ρ : Rule) × (r ≡ ruleText [] ρ) × ((n : ℕ) → length (worded ρ) ≤ n → lent n (reduced r) ≡ wrote (worded ρ))
-unfolding worded
+pub formula-written : (r : Bytes) → accepted r ≡ true → (ρ : Rule) × (r ≡ ruleText [] ρ) × ((n : ℕ) → length (formula ρ) ≤ n → lent n (reduced r) ≡ wrote (formula ρ))
 formula-written r e =
     let a = accepted-gives r (none-true (refusal r) e) in
-    let q : reduced r ≡ wrote (worded (a .rule)) = wrote-reduced r (worded (a .rule)) (none-true (refusal r) e) (accepted-formula a ∙ ap some (sym (formula-in (a .rule)))) in
-    (a .rule, a .text, λ n h. rw q (lent-fits n (worded (a .rule)) h))
+    let q : reduced r ≡ wrote (formula (a .rule)) = wrote-reduced r (formula (a .rule)) (none-true (refusal r) e) (accepted-formula a) in
+    (a .rule, a .text, λ n h. rw q (lent-fits n (formula (a .rule)) h))
 
 -- "Two formulas are equal exactly when the rules are."
 pub formulas-equal : (r s f g : Bytes) (n m : ℕ) → lent n (reduced r) ≡ wrote f → lent m (reduced s) ≡ wrote g → (f ≡ g) ↔ (r ≡ s)

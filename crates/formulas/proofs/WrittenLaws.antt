@@ -11,7 +11,7 @@ use borrow.Author.Tests.{le-leb}
 use Rattle.answers.specs.Answer.{Answer, refused, wrote, ifRoom, lent, outputAfter}
 use Rattle.answers.specs.declared.Refusal.{Refusal}
 use Rattle.syntax.specs.Bytes.{Bytes, same}
-use Rattle.syntax.proofs.BytesLaws.{same-own, same-gives}
+use Rattle.syntax.proofs.BytesLaws.{same-own}
 use Rattle.printer.specs.code.Printed.{Puts}
 use Rattle.answers.specs.declared.Written.{Written}
 use Rattle.answers.specs.declared.Written.the-variants.{Refused, Wrote}
@@ -57,13 +57,6 @@ answers-refused a n {old} {new} {w} {r} b p e h q =
     omega arith
 
 -- Texts that are equal at every byte.
-
-pub not-same : (s t : Bytes) → (s ≡ t → ⊥) → same s t ≡ false
-not-same s t h = go (same s t) refl
-  where
-    go : (b : Bool) → same s t ≡ b → same s t ≡ false
-    go false e = e
-    go true e = absurd (h (same-gives s t e))
 
 pub is-same : (s t : Bytes) → s ≡ t → same s t ≡ true
 is-same s t e = rw e (same-own t)

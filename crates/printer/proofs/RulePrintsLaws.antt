@@ -10,7 +10,8 @@ use lib.Seq.{length-take-le, getD-take}
 use borrow.Rule.Slice.PartMut.{midOf, putMid}
 use Rattle.syntax.specs.Bytes.{Bytes, ascii}
 use Rattle.syntax.specs.Term.{Term, Choices, text}
-use Rattle.syntax.specs.Rule.{digits, testText, clauseText, ruleText, quantifiers}
+use Rattle.syntax.specs.Rule.{digits, testText, clauseText, ruleText}
+use Rattle.syntax.specs.code.Printing.{quantifiersAfter}
 use Rattle.syntax.specs.code.Arena.{Holds, HoldsTest, HoldsClause, HoldsRule}
 use Rattle.printer.specs.code.Signs.{signOf, cmpSignOf}
 use Rattle.printer.specs.code.Printed.{Prints, Ready, quantifier, quantifiersFrom, Any}
@@ -84,7 +85,7 @@ prints-quantifier {ns} vs {d} h p =
     p
 
 pub quantifiers-none : {ns vs : List ℕ} {d : ℕ} (old : Bytes) → length vs ≤ d → Prints ns vs Any (λ σ u. quantifiersFrom d σ) old old 0
-unfolding quantifiers
+unfolding quantifiersAfter
 quantifiers-none {ns} {vs} {d} old h =
     record {
       room = room-none old;

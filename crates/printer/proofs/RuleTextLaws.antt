@@ -9,7 +9,7 @@ use Rattle.syntax.specs.Bytes.{Bytes, ascii}
 use Rattle.syntax.specs.Term.{Term, Choices, text}
 use Rattle.syntax.specs.Rule.{Cmp, lt, le, gt, ge, eq, ne, Sign, is, isnt, number, count, Test, member, alike, empty, sized}
 use Rattle.syntax.specs.Rule.{Clause, plain, when, Rule, last, also, spellCmp, spellBetween, isSign, digits, countText, testText, clauseText, ruleText}
-use Rattle.syntax.specs.Rule.{quantifiers}
+use Rattle.syntax.specs.code.Printing.{quantifiersAfter}
 use Rattle.syntax.specs.code.Arena.{memberOp, alikeOp, emptyOp, cmpNumber, Numbered, Holds, HoldsTest, HoldsClause}
 use Rattle.syntax.specs.code.Arena.{HoldsRule, HoldsAll}
 use Rattle.printer.specs.code.Signs.{signs, signOf, cmpSigns, cmpSignOf}
@@ -213,7 +213,7 @@ split ns (v ∷ vs) (a ∷ σ) (suc d) h y =
 
 -- One quantifier and those after it.
 pub quantifiers-more : (ns vs : List ℕ) (σ : Choices) (d : ℕ) (s : Split ns vs σ d) → quantifier (take d σ) (s .term) ++ quantifiersFrom (suc d) σ ≡ quantifiersFrom d σ
-unfolding quantifier quantifiers
+unfolding quantifier quantifiersAfter
 quantifiers-more ns vs σ d s =
     rw (s .rest, s .upto)
     (ap (λ (l : Bytes). ascii "[v" ++ ((49 + length (take d σ)) ∷ (ascii "@" ++ l))) (append-assoc (text (take d σ) (s .term)) (ascii "]") _))

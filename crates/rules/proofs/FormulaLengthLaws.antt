@@ -8,22 +8,21 @@ use native.Mathlib.Omega.{arith}
 use lib.ListN.{length, getD, drop, length-append, drop-of-length-le}
 use lib.Seq.{drop-cons}
 use Rattle.syntax.specs.Term.{Choices}
-use Rattle.syntax.specs.Rule.{Rule, ruleText, ruleVars, formula}
+use Rattle.syntax.specs.Rule.{Rule, ruleText, ruleVars, quantifiers, formulaWith, formula}
 use Rattle.syntax.specs.code.Arena.{HoldsAll, HoldsRule}
-use Rattle.syntax.proofs.Closed.{quantifiersIn, formula-in}
 use Rattle.syntax.specs.code.Reading.{mk, Knows}
 use Rattle.rules.specs.code.Thing.{term, rule}
 use Rattle.rules.specs.code.Lengths.{capped, Measured, quantifierLength, FormulaLength}
 
 -- The lengths of the quantifiers, which are capped one by one, against those of their texts.
-quantifiers-length : (ns ls : List ℕ) (n : ℕ) (τ : Choices) → Measured ns τ n ls → (vs : List ℕ) (σ xs : Choices) → HoldsAll ns vs xs → ((i : ℕ) → i < length vs → getD vs i 0 < n) → capped (quantifierLength ls vs) ≡ capped (length (quantifiersIn τ σ xs))
-unfolding quantifierLength quantifiersIn
-quantifiers-length ns ls n τ m [] σ [] y b = refl
-quantifiers-length ns ls n τ m [] σ (x ∷ xs) y b = absurd y
-quantifiers-length ns ls n τ m (v ∷ vs) σ [] y b = absurd y
-quantifiers-length ns ls n τ m (v ∷ vs) σ (x ∷ xs) y b =
+quantifiers-length : (ns ls : List ℕ) (n : ℕ) (τ : Choices) → Measured ns τ n ls → (vs : List ℕ) (d : ℕ) (xs : Choices) → HoldsAll ns vs xs → ((i : ℕ) → i < length vs → getD vs i 0 < n) → capped (quantifierLength ls vs) ≡ capped (length (quantifiers τ d xs))
+unfolding quantifierLength quantifiers
+quantifiers-length ns ls n τ m [] d [] y b = refl
+quantifiers-length ns ls n τ m [] d (x ∷ xs) y b = absurd y
+quantifiers-length ns ls n τ m (v ∷ vs) d [] y b = absurd y
+quantifiers-length ns ls n τ m (v ∷ vs) d (x ∷ xs) y b =
     simp length-append
-    (omega (arith, m .at v (term x) (b 0 (omega arith)) (y .0), quantifiers-length ns ls n τ m vs (σ ++ (x ∷ [])) xs (y .1) (λ i h. b (suc i) (omega arith))))
+    (omega (arith, m .at v (term x) (b 0 (omega arith)) (y .0), quantifiers-length ns ls n τ m vs (suc d) xs (y .1) (λ i h. b (suc i) (omega arith))))
 
 capped-sum : (r q a b : ℕ) → r ≡ capped a → capped q ≡ capped b → capped (1 + capped r + q) ≡ capped (b + (1 + a))
 capped-sum r q a b e f = omega arith
@@ -47,7 +46,7 @@ module _ {ls vs : List ℕ} {root i t : ℕ} (w : Totalled ls vs root i t) where
       record { small = omega arith; is = omega (arith, w .is, w .small) }
 
   pub totalled-all : length vs ≤ i → FormulaLength ls vs root t
-  unfolding quantifierLength
+  unfolding quantifierLength formula formulaWith
   totalled-all h =
       let q : quantifierLength ls (drop i vs) ≡ 0 = rw (drop-of-length-le vs h) in
       record { is = λ ns n ρ l x c m. go ns n ρ l x c m q }
@@ -56,6 +55,6 @@ module _ {ls vs : List ℕ} {root i t : ℕ} (w : Totalled ls vs root i t) where
       go ns n ρ l x c m q =
           let σ : Choices = ruleVars [] ρ in
           capped-small t (quantifierLength ls (drop i vs)) (capped (1 + capped (getD ls root 0) + quantifierLength ls vs)) (w .small) q (w .is)
-          ∙ capped-sum (getD ls root 0) (quantifierLength ls vs) (length (ruleText σ ρ)) (length (quantifiersIn σ [] σ)) (m .at root (rule ρ) l x)
-          (quantifiers-length ns ls n σ m vs [] σ (c .holds) (c .below))
-          ∙ ap capped (simp length-append at (ap (λ (b : List ℕ). length b) (formula-in ρ)))
+          ∙ capped-sum (getD ls root 0) (quantifierLength ls vs) (length (ruleText σ ρ)) (length (quantifiers σ 49 σ)) (m .at root (rule ρ) l x)
+          (quantifiers-length ns ls n σ m vs 49 σ (c .holds) (c .below))
+          ∙ simp length-append (refl)

@@ -82,3 +82,10 @@ same-gives (x ∷ s) [] e = cc
 same-gives (x ∷ s) (y ∷ t) e =
     let w : (eqb x y ≡ true) × (same s t ≡ true) = and-eq-true-iff (eqb x y) (same s t) .0 e in
     cc (eqb-true x y (w .0), same-gives s t (w .1))
+
+pub not-same : (s t : Bytes) → (s ≡ t → ⊥) → same s t ≡ false
+not-same s t h = go (same s t) refl
+  where
+    go : (b : Bool) → same s t ≡ b → same s t ≡ false
+    go false e = e
+    go true e = absurd (h (same-gives s t e))

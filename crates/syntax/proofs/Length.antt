@@ -1,13 +1,14 @@
 -- No formula of an accepted rule passes 4,096 bytes: 7 bytes of it for each 4 of the rule, in the rule and in each of 8 quantifiers. Assumes nothing.
 use mathlib.Core.List.{[], _∷_, _++_}
 use mathlib.Core.Option.{Option, none, some}
-use Prim.Native.Nat.{ℕ, _*_, _≤_}
+use Prim.Native.Nat.{ℕ, suc, _*_, _≤_}
 use native.Mathlib.Omega.{arith}
 use lib.ListN.{length, length-append}
 use Rattle.syntax.specs.Bytes.{Bytes}
 use Rattle.syntax.specs.Term.{Term, base, call, oe, ao, two, operations, meet, join, Choices, digitFrom, digit, text, oeText, aoText, spell, spellMiddle}
 use Rattle.syntax.specs.Rule.{Count, number, count, Test, member, alike, empty, sized, Clause, plain, when, Rule, last, also}
-use Rattle.syntax.specs.Rule.{countText, testText, clauseText, ruleText, add, vars, countVars, testVars, clauseVars, ruleVars, quantifiers, formula}
+use Rattle.syntax.specs.Rule.{countText, testText, clauseText, ruleText, add, vars, countVars, testVars, clauseVars, ruleVars, quantifiers, formulaWith}
+use Rattle.syntax.specs.Rule.{formula}
 
 abbrev pub Grows : Bytes → Bytes → Type 0
 Grows w v = 4 * length w ≤ 7 * length v
@@ -122,13 +123,13 @@ module _ (n : ℕ) where
       let w : (length (clauseText [] c) ≤ n) × (length (ruleText [] ρ) ≤ n) = omega (arith, simp length-append at k) in
       rule-small (clauseVars σ c) ρ (clause-small σ c h (w .0)) (w .1)
 
-quantifiers-short : (σ xs : Choices) → Small 256 xs → length (quantifiers σ xs) ≤ 453 * length xs
+quantifiers-short : (τ : Choices) (d : ℕ) (xs : Choices) → Small 256 xs → length (quantifiers τ d xs) ≤ 453 * length xs
 unfolding quantifiers
-quantifiers-short σ [] h = omega arith
-quantifiers-short σ (x ∷ xs) h = simp length-append (omega (arith, text-grows σ x, quantifiers-short (σ ++ (x ∷ [])) xs (h .1)))
+quantifiers-short τ d [] h = omega arith
+quantifiers-short τ d (x ∷ xs) h = simp length-append (omega (arith, text-grows τ x, quantifiers-short τ (suc d) xs (h .1)))
 
 pub formula-short : (ρ : Rule) → length (ruleText [] ρ) ≤ 256 → length (ruleVars [] ρ) ≤ 8 → length (formula ρ) ≤ 4096
-unfolding formula
+unfolding formula formulaWith
 formula-short ρ h k =
     simp length-append
-    (omega (arith, rule-grows (ruleVars [] ρ) ρ, quantifiers-short [] (ruleVars [] ρ) (rule-small 256 [] ρ tt h)))
+    (omega (arith, rule-grows (ruleVars [] ρ) ρ, quantifiers-short (ruleVars [] ρ) 49 (ruleVars [] ρ) (rule-small 256 [] ρ tt h)))

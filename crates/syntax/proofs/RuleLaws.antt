@@ -15,8 +15,10 @@ use Rattle.syntax.specs.Term.{Term, Choices, text, readTerm}
 use Rattle.syntax.proofs.TermLaws.{read-text, text-read, text-long, bar-free, brace-free}
 use Rattle.syntax.specs.Rule.{Cmp, lt, le, gt, ge, eq, ne, is, isnt, Count, number, count, Test, member, alike, empty, sized, Clause}
 use Rattle.syntax.specs.Rule.{plain, when, Rule, last, also, spellCmp, digits, countText, testText, clauseText, ruleText, ruleVars}
-use Rattle.syntax.specs.Rule.{quantifiers, formula, Between, isIn, isSign, cmps, spellBetween, betweens, down, readCount, readSecond}
+use Rattle.syntax.specs.Rule.{formula, Between, isIn, isSign, cmps, spellBetween, betweens, down, readCount, readSecond}
 use Rattle.syntax.specs.Rule.{readTest, readClause, readRule, readFormula, whole, ruleOf, ruleOfFormula}
+use Rattle.syntax.specs.code.Printing.{quantifiersAfter, printed}
+use Rattle.syntax.proofs.Closed.{formula-in}
 
 -- Numbers.
 
@@ -204,22 +206,22 @@ abbrev pub Within : ℕ → Choices → Choices → Type 0
 Within n σ [] = Unit {0}
 Within n σ (x ∷ xs) = (length (text σ x) ≤ n) × Within n (σ ++ (x ∷ [])) xs
 
-within-all : (n : ℕ) (σ xs : Choices) → length (quantifiers σ xs) ≤ n → Within n σ xs
-unfolding quantifiers
+within-all : (n : ℕ) (σ xs : Choices) → length (quantifiersAfter σ xs) ≤ n → Within n σ xs
+unfolding quantifiersAfter
 within-all n σ [] h = tt
 within-all n σ (x ∷ xs) h =
-    let w : (length (text σ x) ≤ n) × (length (quantifiers (σ ++ (x ∷ [])) xs) ≤ n) = omega (arith, simp length-append at h) in
+    let w : (length (text σ x) ≤ n) × (length (quantifiersAfter (σ ++ (x ∷ [])) xs) ≤ n) = omega (arith, simp length-append at h) in
     (w .0, within-all n (σ ++ (x ∷ [])) xs (w .1))
 
-quantifiers-long : (σ xs : Choices) → length xs ≤ length (quantifiers σ xs)
-unfolding quantifiers
+quantifiers-long : (σ xs : Choices) → length xs ≤ length (quantifiersAfter σ xs)
+unfolding quantifiersAfter
 quantifiers-long σ [] = omega arith
 quantifiers-long σ (x ∷ xs) = simp length-append (omega (arith, quantifiers-long (σ ++ (x ∷ [])) xs))
 
 -- A bound for each term and for the rule is enough, and one more than the quantifiers.
 pub read-formula : (n k : ℕ) (σ xs τ : Choices) → σ ++ xs ≡ τ → (ρ : Rule) → RuleFits ρ → Within n σ xs → length (ruleText τ ρ) ≤ n → length xs < k
-    → readFormula n k σ (quantifiers σ xs ++ (ascii ":" ++ ruleText τ ρ)) ≡ got ρ []
-unfolding readFormula quantifiers next either skip
+    → readFormula n k σ (quantifiersAfter σ xs ++ (ascii ":" ++ ruleText τ ρ)) ≡ got ρ []
+unfolding readFormula quantifiersAfter next either skip
 read-formula n zero σ xs τ e ρ f h w l = let z : _≡_ {A = ℕ} 0 1 = omega arith in cc
 read-formula n (suc k) σ [] τ e ρ f h w l =
     let q : σ ≡ τ = sym (append-nil σ) ∙ e in
@@ -228,13 +230,16 @@ read-formula n (suc k) σ (x ∷ xs) τ e ρ f h w l =
     rw (skip-own ((49 + length σ) ∷ []) _, append-assoc, read-text n σ x _ (h .0))
     (read-formula n k (σ ++ (x ∷ [])) xs τ (append-assoc σ (x ∷ []) xs ∙ e) ρ f (h .1) w (omega arith))
 
-pub formula-back : (ρ : Rule) → RuleFits ρ → ruleOfFormula (formula ρ) ≡ some ρ
-unfolding ruleOfFormula whole formula
-formula-back ρ f =
+printed-back : (ρ : Rule) → RuleFits ρ → ruleOfFormula (printed ρ) ≡ some ρ
+unfolding ruleOfFormula whole printed
+printed-back ρ f =
     let τ : Choices = ruleVars [] ρ in
-    let n : ℕ = length (formula ρ) in
-    let l : (length (quantifiers [] τ) + (1 + length (ruleText τ ρ)) ≤ n) = simp length-append (omega arith) in
+    let n : ℕ = length (printed ρ) in
+    let l : (length (quantifiersAfter [] τ) + (1 + length (ruleText τ ρ)) ≤ n) = simp length-append (omega arith) in
     rw (read-formula n n [] τ τ refl ρ f (within-all n [] τ (omega arith)) (omega arith) (omega (arith, quantifiers-long [] τ)))
+
+pub formula-back : (ρ : Rule) → RuleFits ρ → ruleOfFormula (formula ρ) ≡ some ρ
+formula-back ρ f = rw (formula-in ρ) (printed-back ρ f)
 
 -- So two rules that are written alike are one, and two that have one formula are one.
 

@@ -113,15 +113,18 @@ unfoldable pub ruleVars : Choices → Rule → Choices
 ruleVars σ (last c) = clauseVars σ c
 ruleVars σ (also c ρ) = ruleVars (clauseVars σ c) ρ
 
--- "The formula is [v1@X1][v2@X2]..: and the rule .. each quantifier is written straight after the one before it":
--- the quantifiers of the choices xs, which come after those of σ. Each names only choices before it.
-unfoldable pub quantifiers : Choices → Choices → Bytes
-quantifiers σ [] = []
-quantifiers σ (x ∷ xs) = ascii "[v" ++ ((49 + length σ) ∷ (ascii "@" ++ (text σ x ++ (ascii "]" ++ quantifiers (σ ++ (x ∷ [])) xs))))
+-- "The formula is [v1@X1][v2@X2]..: and the rule, with OE(X) as its variable and AO(X) as (X-{v}), X itself so rewritten; each quantifier
+-- is written straight after the one before it." Here τ are all of the rule's choices, and d is the digit of the first of xs.
+unfoldable pub quantifiers : Choices → ℕ → Choices → Bytes
+quantifiers τ d [] = []
+quantifiers τ d (x ∷ xs) = ascii "[v" ++ (d ∷ (ascii "@" ++ (text τ x ++ (ascii "]" ++ quantifiers τ (suc d) xs))))
 
 -- "Without choices it begins `:`."
+unfoldable pub formulaWith : Choices → Rule → Bytes
+formulaWith τ ρ = quantifiers τ 49 τ ++ (ascii ":" ++ ruleText τ ρ)
+
 unfoldable pub formula : Rule → Bytes
-formula ρ = quantifiers [] (ruleVars [] ρ) ++ (ascii ":" ++ ruleText (ruleVars [] ρ) ρ)
+formula ρ = formulaWith (ruleVars [] ρ) ρ
 
 -- How a rule is read. The number n bounds how deep the brackets go, and k how many clauses or quantifiers there are;
 -- the number of bytes is enough for both.

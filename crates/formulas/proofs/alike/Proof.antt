@@ -8,7 +8,8 @@ use lib.ListN.{length, getD}
 use lib.Seq.{ext-getD}
 use borrow.Author.Needs.{needs}
 use borrow.Author.Count.{below-more}
-use Rattle.formulas.proofs.WrittenLaws.{not-same, is-same}
+use Rattle.syntax.proofs.BytesLaws.{not-same}
+use Rattle.formulas.proofs.WrittenLaws.{is-same}
 use Rattle.formulas.proofs.alike.Statement.{statement}
 use Rattle.formulas.proofs.alike.Tie as tie
 

@@ -6,7 +6,8 @@ use Prim.Native.Nat.{ℕ, _+_, _≤_, _<_, min}
 use lib.ListN.{length, take, drop, getD}
 use Rattle.syntax.specs.Bytes.{Bytes, ascii}
 use Rattle.syntax.specs.Term.{Term, Choices, text}
-use Rattle.syntax.specs.Rule.{Rule, ruleText, quantifiers}
+use Rattle.syntax.specs.Rule.{Rule, ruleText}
+use Rattle.syntax.specs.code.Printing.{quantifiersAfter}
 use Rattle.syntax.specs.code.Arena.{Tidy, HoldsAll}
 
 -- The text w was put at the front of the sheet, and r bytes of it had room there.
@@ -45,10 +46,10 @@ quantifier σ x = ascii "[v" ++ ((49 + length σ) ∷ (ascii "@" ++ (text σ x +
 -- The quantifiers of the choices σ from the one of index d on, and then a formula's rule.
 
 abbrev pub quantifiersFrom : ℕ → Choices → Bytes
-quantifiersFrom d σ = quantifiers (take d σ) (drop d σ)
+quantifiersFrom d σ = quantifiersAfter (take d σ) (drop d σ)
 
 abbrev pub formulaIn : Choices → Rule → Bytes
-formulaIn σ ρ = quantifiers [] σ ++ (ascii ":" ++ ruleText σ ρ)
+formulaIn σ ρ = quantifiersAfter [] σ ++ (ascii ":" ++ ruleText σ ρ)
 
 -- Anything: for a text that needs no more than the choices.
 abbrev pub Any : Unit {0} → Type 0

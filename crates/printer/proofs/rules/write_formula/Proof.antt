@@ -4,7 +4,8 @@ use mathlib.Core.List.{append-assoc, []}
 use borrow.Author.Needs.{needs}
 use Rattle.printer.proofs.PrintsLaws.{prints-as, prints-then, prints-put}
 use Rattle.syntax.specs.Bytes.{ascii}
-use Rattle.syntax.specs.Rule.{quantifiers, ruleText}
+use Rattle.syntax.specs.Rule.{ruleText}
+use Rattle.syntax.specs.code.Printing.{quantifiersAfter}
 use Rattle.printer.proofs.rules.write_formula.Statement.{statement}
 use Rattle.printer.proofs.rules.write_formula.Tie as tie
 
@@ -50,7 +51,7 @@ same-length c = search needs
 returns : tie.Need-returns
 returns c =
     prints-as
-    (λ σ ρ y x. record { thing = (tt, ρ); held = (tt, x); written = append-assoc (quantifiers [] σ) (ascii ":") (ruleText σ ρ) })
+    (λ σ ρ y x. record { thing = (tt, ρ); held = (tt, x); written = append-assoc (quantifiersAfter [] σ) (ascii ":") (ruleText σ ρ) })
     (prints-then (prints-put (c .before .before .before .before .before .before .before .before .before .before .before .write-quantifiers .ensures) (c .before .before .before .before .before .before .put .ensures)) (c .before .before .write-rule .ensures))
 
 pub write-formula-spec : {M : Type 1} → statement M
