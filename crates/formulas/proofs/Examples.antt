@@ -1,9 +1,10 @@
 -- Document 01, "Proved examples": A to D and K, one table with one lemma.
 -- Assumes nothing.
-use mathlib.Core.Path.{_≡_, refl}
+use mathlib.Core.Path.{_≡_, refl, ap, _∙_}
 use mathlib.Core.List.{List, [], _∷_}
+use Prim.Native.Nat.{ℕ}
 use lib.ListN.{length}
-use Rattle.answers.specs.Answer.{refused, wrote, lent}
+use Rattle.answers.specs.Answer.{Answer, refused, wrote, lent}
 use Rattle.answers.specs.declared.Refusal.the-variants.{NoRulesFormula}
 use Rattle.syntax.specs.Bytes.{Bytes, ascii, next, skip, scan, either, same}
 use Rattle.syntax.specs.Term.{Term≟, digitFrom, namedFrom, spell, spellMiddle, oeText, aoText, text, bracketHeads, callHeads, collectionHeads}
@@ -14,7 +15,9 @@ use Rattle.syntax.specs.Rule.{readTest, readClause, readRule, readFormula, whol
 use Rattle.rules.specs.Kind.{oneOf, baseKind, takes, makes, ofElement, callKind, oneKind, othersKind, asSet, joined, twoKind, kind}
 use Rattle.rules.specs.Kind.{countable, isMember, countKinds, testKinds, clauseKinds, ruleKinds}
 use Rattle.rules.specs.Accept.{deep, treeRefusal, refusal}
-use Rattle.formulas.specs.Formulas.{formulaOf, kept, rebuilt, reduced, rebuiltAnswer}
+use Rattle.formulas.specs.Formulas.{formulaOf, reduced, Rebuilds}
+use Rattle.formulas.specs.code.Rebuilding.{kept, rebuilt, rebuiltAnswer}
+use Rattle.formulas.proofs.RebuildLaws.{rebuilds-once, rebuilt-answer}
 
 -- A rule with its formula, each given for the other; or bytes that are no rule's formula.
 pub data Line : Type 0 where
@@ -23,8 +26,8 @@ pub data Line : Type 0 where
 
 -- Each output has just the bytes that are written.
 abbrev pub Right : Line → Type 0
-Right (both r f) = (lent (length f) (reduced r) ≡ wrote f) × (lent (length r) (rebuiltAnswer f) ≡ wrote r)
-Right (neither f) = lent 256 (rebuiltAnswer f) ≡ refused NoRulesFormula
+Right (both r f) = (lent (length f) (reduced r) ≡ wrote f) × ((a : Answer) → Rebuilds f a → lent (length r) a ≡ wrote r)
+Right (neither f) = (a : Answer) → Rebuilds f a → lent 256 a ≡ refused NoRulesFormula
 
 abbrev pub All : List Line → Type 0
 All [] = Unit {0}
@@ -45,6 +48,27 @@ unfoldable everything : Unit {0}
 unfolding next skip scan either Term≟ digitFrom namedFrom spell spellMiddle oeText aoText text bracketHeads callHeads collectionHeads heads middles known closed second inner readTerm spellCmp digits countText testText clauseText ruleText add vars countVars testVars clauseVars ruleVars quantifiers formulaWith formula cmps spellBetween betweens down readCount readSecond readTest readClause readRule readFormula whole ruleOf ruleOfFormula formulaOf kept rebuilt same oneOf baseKind takes makes ofElement callKind oneKind othersKind asSet joined twoKind kind countable isMember countKinds testKinds clauseKinds ruleKinds deep treeRefusal refusal reduced rebuiltAnswer lent
 everything = tt
 
-pub examples : All table
+-- What is computed: the answer of `rebuild` is that of `rebuilt`.
+
+abbrev Computed : Line → Type 0
+Computed (both r f) = (lent (length f) (reduced r) ≡ wrote f) × (lent (length r) (rebuiltAnswer f) ≡ wrote r)
+Computed (neither f) = lent 256 (rebuiltAnswer f) ≡ refused NoRulesFormula
+
+abbrev AllComputed : List Line → Type 0
+AllComputed [] = Unit {0}
+AllComputed (l ∷ ls) = Computed l × AllComputed ls
+
+by-rebuilt : {f : Bytes} {b : Answer} (n : ℕ) → lent n (rebuiltAnswer f) ≡ b → (a : Answer) → Rebuilds f a → lent n a ≡ b
+by-rebuilt {f} n e a x = ap (lent n) (rebuilds-once x (rebuilt-answer f)) ∙ e
+
+all-right : (ls : List Line) → AllComputed ls → All ls
+all-right [] h = tt
+all-right (both r f ∷ ls) h = ((h .0 .0, by-rebuilt (length r) (h .0 .1)), all-right ls (h .1))
+all-right (neither f ∷ ls) h = (by-rebuilt 256 (h .0), all-right ls (h .1))
+
+computed : AllComputed table
 unfolding everything
-examples = ((refl, refl), ((refl, refl), ((refl, refl), ((refl, refl), (refl, (refl, tt))))))
+computed = ((refl, refl), ((refl, refl), ((refl, refl), ((refl, refl), (refl, (refl, tt))))))
+
+pub examples : All table
+examples = all-right table computed

@@ -1,15 +1,15 @@
--- Rebuilding on texts: exactly the formulas of accepted rules, and how a reader with fixed bounds finds them.
+-- Rebuilding on texts: exactly the formulas of accepted rules, one rule for each, and how a reader with fixed bounds finds it.
 -- Assumes nothing.
-use mathlib.Core.Path.{_≡_, refl, ap, _∙_}
+use mathlib.Core.Path.{_≡_, refl, ap, sym, _∙_}
 use mathlib.Core.List.{[], _∷_, _++_}
 use mathlib.Core.Option.{Option, none, some}
 use mathlib.Core.Bool.{Bool, true, false}
-use Prim.Native.Nat.{_≤_}
+use Prim.Native.Nat.{ℕ, _≤_}
 use native.Mathlib.Omega.{arith}
 use lib.ListN.{length}
 use Rattle.answers.specs.Answer.{Answer, refused, wrote}
 use Rattle.answers.specs.declared.Refusal.{Refusal}
-use Rattle.answers.specs.declared.Refusal.the-variants.{NotARule}
+use Rattle.answers.specs.declared.Refusal.the-variants.{NotARule, NoRulesFormula}
 use Rattle.syntax.specs.Bytes.{Bytes, same}
 use Rattle.syntax.specs.Term.{Choices}
 use Rattle.syntax.specs.Rule.{Rule, ruleText, ruleVars, formula, readFormula, whole, ruleOfFormula}
@@ -19,7 +19,8 @@ use Rattle.syntax.specs.code.Printing.{printed}
 use Rattle.syntax.proofs.Closed.{formula-in}
 use Rattle.syntax.proofs.Length.{Small, text-grows, rule-grows, rule-small, formula-short}
 use Rattle.rules.specs.Accept.{refusal, isNone, accepted}
-use Rattle.formulas.specs.Formulas.{formulaOf, kept, rebuilt, wroteOr, reduced}
+use Rattle.formulas.specs.Formulas.{formulaOf, wroteOr, reduced, RuleOf, Rebuilds, gives, givesNone}
+use Rattle.formulas.specs.code.Rebuilding.{kept, rebuilt, rebuiltAnswer}
 use Rattle.formulas.proofs.AcceptLaws.{Accepted, accepted-gives}
 
 -- What `reduced` writes is the formula of an accepted text, and the other way.
@@ -41,6 +42,26 @@ pub accepted-formula : {s : Bytes} (a : Accepted s) → formulaOf s ≡ some (fo
 unfolding formulaOf
 accepted-formula a = rw (a .reads, formulaOf)
 
+pub none-true : (o : Option Refusal) → isNone o ≡ true → o ≡ none
+none-true none e = refl
+none-true (some r) e = cc
+
+pub rule-of : {f s : Bytes} → reduced s ≡ wrote f → RuleOf f s
+rule-of {f} {s} e =
+    let p = reduced-wrote s f e in
+    record { accepts = ap isNone (p .0); formula = p .1 }
+
+-- The rule of a formula: its tree, its text, and the formula that `reduced` writes of it.
+module _ {f s : Bytes} (p : RuleOf f s) where
+  pub rule-accepted : Accepted s
+  rule-accepted = accepted-gives s (none-true (refusal s) (p .accepts))
+
+  pub rule-formula : formula (rule-accepted .rule) ≡ f
+  rule-formula = cc (accepted-formula rule-accepted, p .formula)
+
+  pub rule-reduced : reduced s ≡ wrote f
+  rule-reduced = wrote-reduced s f (none-true (refusal s) (p .accepts)) (p .formula)
+
 -- No choice of an accepted rule is written with more than 448 bytes, whatever choices are known; nor is the rule.
 
 small-within : (σ xs : Choices) → Small 256 xs → Within 512 σ xs
@@ -60,7 +81,28 @@ read-back {s} a =
 pub formula-within : {s : Bytes} (a : Accepted s) → length (formula (a .rule)) ≤ 4096
 formula-within a = formula-short (a .rule) (rw (← (a .text)) (a .short)) (a .few)
 
--- Exactly the formulas of accepted rules are rebuilt.
+-- A reader with fixed bounds finds the one candidate.
+module _ {f s : Bytes} (p : RuleOf f s) where
+  pub rule-read : whole (readFormula 512 9 [] f) ≡ some (rule-accepted p .rule)
+  rule-read = ap (λ (g : Bytes). whole (readFormula 512 9 [] g)) (sym (rule-formula p)) ∙ read-back (rule-accepted p)
+
+  pub rule-only : (ρ : Rule) → whole (readFormula 512 9 [] f) ≡ some ρ → s ≡ ruleText [] ρ
+  rule-only ρ e =
+      let h : rule-accepted p .rule ≡ ρ = cc (rule-read, e) in
+      rule-accepted p .text ∙ ap (ruleText []) h
+
+-- So two rules of one formula are one, and so are two answers of rebuilding.
+
+pub rule-once : {f s t : Bytes} → RuleOf f s → RuleOf f t → s ≡ t
+rule-once p q = rule-only p (rule-accepted q .rule) (rule-read q) ∙ sym (rule-accepted q .text)
+
+pub rebuilds-once : {f : Bytes} {a b : Answer} → Rebuilds f a → Rebuilds f b → a ≡ b
+rebuilds-once (gives p) (gives q) = ap wrote (rule-once p q)
+rebuilds-once (gives {s = s} p) (givesNone n) = absurd (n s p)
+rebuilds-once (givesNone n) (gives {s = s} p) = absurd (n s p)
+rebuilds-once (givesNone n) (givesNone m) = refl
+
+-- Reading, printing and comparing gives the rule of every formula, and nothing else.
 
 kept-gives : (b : Bool) (g : Option Bytes) (f s r : Bytes) → kept b g f s ≡ some r → (b ≡ true) × (g ≡ some f) × (s ≡ r)
 unfolding kept
@@ -76,48 +118,28 @@ kept-own : (f s : Bytes) → kept true (some f) f s ≡ some s
 unfolding kept
 kept-own f s = rw (same-own f, kept)
 
-pub none-true : (o : Option Refusal) → isNone o ≡ true → o ≡ none
-none-true none e = refl
-none-true (some r) e = cc
-
-pub rebuilt-gives : (f s : Bytes) → rebuilt f ≡ some s → reduced s ≡ wrote f
+rebuilt-gives : (f s : Bytes) → rebuilt f ≡ some s → RuleOf f s
 unfolding rebuilt
 rebuilt-gives f s e = go (ruleOfFormula f) e
   where
     go : (o : Option Rule) → _≡_ {A = Option Bytes} (elim o [ none ↦ none | some ρ ↦ kept (accepted (ruleText [] ρ)) (formulaOf (ruleText [] ρ)) f (ruleText [] ρ) ]) (some s)
-        → reduced s ≡ wrote f
-    go none e = cc
+        → RuleOf f s
+    go none e = let z : _≡_ {A = ℕ} 0 1 = cc in absurd (omega arith)
     go (some ρ) e =
         let k = kept-gives (accepted (ruleText [] ρ)) (formulaOf (ruleText [] ρ)) f (ruleText [] ρ) s e in
-        rw (← (k .2)) (wrote-reduced (ruleText [] ρ) f (none-true _ (k .0)) (k .1))
+        rw (← (k .2)) (record { accepts = k .0; formula = k .1 })
 
-pub gives-rebuilt : (f s : Bytes) → reduced s ≡ wrote f → rebuilt f ≡ some s
+gives-rebuilt : {f s : Bytes} → RuleOf f s → rebuilt f ≡ some s
 unfolding rebuilt
-gives-rebuilt f s e =
-    let p = reduced-wrote s f e in
-    let a = accepted-gives s (p .0) in
-    let q : ruleOfFormula f ≡ some (a .rule) = cc (accepted-formula a, p .1, formula-back (a .rule) (a .numbers)) in
-    let i : accepted s ≡ true = ap isNone (p .0) in
-    rw (q, rebuilt) (rw (← (a .text), i, p .1) (kept-own f s))
+gives-rebuilt {f} {s} p =
+    let a = rule-accepted p in
+    let q : ruleOfFormula f ≡ some (a .rule) = ap ruleOfFormula (sym (rule-formula p)) ∙ formula-back (a .rule) (a .numbers) in
+    rw (q, rebuilt) (rw (← (a .text), p .accepts, p .formula) (kept-own f s))
 
--- A reader with fixed bounds, the printer, and `reduced` on what it prints: how the code rebuilds.
-
-module _ (f : Bytes) where
-  -- Where the reader finds nothing, no accepted rule has this formula.
-  pub rebuilt-none : whole (readFormula 512 9 [] f) ≡ none → rebuilt f ≡ none
-  rebuilt-none e = go (rebuilt f) refl
-    where
-      go : (o : Option Bytes) → rebuilt f ≡ o → rebuilt f ≡ none
-      go none q = q
-      go (some s) q =
-          let p = reduced-wrote s f (rebuilt-gives f s q) in
-          let a = accepted-gives s (p .0) in
-          cc (accepted-formula a, p .1, read-back a)
-
-  -- Where it finds a rule, that rule's text is the only candidate.
-  pub rebuilt-only : (ρ : Rule) (s : Bytes) → whole (readFormula 512 9 [] f) ≡ some ρ → rebuilt f ≡ some s → s ≡ ruleText [] ρ
-  rebuilt-only ρ s e q =
-      let p = reduced-wrote s f (rebuilt-gives f s q) in
-      let a = accepted-gives s (p .0) in
-      let h : a .rule ≡ ρ = cc (accepted-formula a, p .1, read-back a) in
-      a .text ∙ ap (ruleText []) h
+pub rebuilt-answer : (f : Bytes) → Rebuilds f (rebuiltAnswer f)
+unfolding rebuiltAnswer
+rebuilt-answer f = go (rebuilt f) refl
+  where
+    go : (o : Option Bytes) → rebuilt f ≡ o → Rebuilds f (wroteOr NoRulesFormula o)
+    go none q = givesNone (λ s p. let z : _≡_ {A = ℕ} 0 1 = cc (gives-rebuilt p) in omega arith)
+    go (some s) q = gives (rebuilt-gives f s q)

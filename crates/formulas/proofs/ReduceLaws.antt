@@ -1,4 +1,4 @@
--- How the code finds its answers: from what the parser, the reader and the writers say to `reduced` and `rebuiltAnswer`.
+-- How the code finds its answers: from what the parser, the reader and the writers say to `reduced` and `Rebuilds`.
 -- Assumes nothing.
 use mathlib.Core.Path.{_≡_, refl, ap, sym, _∙_}
 use mathlib.Core.Bool.{true, false}
@@ -28,11 +28,12 @@ use Rattle.printer.proofs.PrintedLaws.{puts-front}
 use Rattle.printer.proofs.RuleTextLaws.{all-length}
 use Rattle.answers.specs.declared.Written.{Written}
 use Rattle.answers.specs.declared.Written.the-variants.{Refused, Wrote}
-use Rattle.formulas.specs.Formulas.{rebuilt, reduced, rebuiltAnswer}
+use Rattle.formulas.specs.Formulas.{reduced, RuleOf, gives, givesNone, RebuildAnswers}
 use Rattle.answers.specs.Written.{Answers}
+use Rattle.answers.proofs.AnswerLaws.{kept-refused}
 use Rattle.formulas.proofs.AcceptLaws.{accepted-gives}
-use Rattle.formulas.proofs.RebuildLaws.{reduced-wrote, wrote-reduced, accepted-formula, formula-within, rebuilt-gives, gives-rebuilt}
-use Rattle.formulas.proofs.RebuildLaws.{rebuilt-none, rebuilt-only}
+use Rattle.formulas.proofs.RebuildLaws.{wrote-reduced, accepted-formula, formula-within, rule-of}
+use Rattle.formulas.proofs.RebuildLaws.{rule-accepted, rule-formula, rule-reduced, rule-read, rule-only}
 use Rattle.formulas.proofs.WrittenLaws.{answers-refusal, answers-wrote, answers-refused}
 
 pub answers-as : {a b : Answer} (n : ℕ) {old new : Bytes} {w : Written} → a ≡ b → Answers (lent n b) old new w → Answers (lent n a) old new w
@@ -84,44 +85,29 @@ module _ {s ns ks vs : List ℕ} {o : Checked} {n root count : ℕ} (p : Parses 
 
 -- Formula to rule.
 
-rebuilt-refused : (f : Bytes) → rebuilt f ≡ none → rebuiltAnswer f ≡ refused NoRulesFormula
-unfolding rebuiltAnswer
-rebuilt-refused f e = rw e
-
-module _ (f : Bytes) (m : ℕ) (old : Bytes) where
+module _ (f old : Bytes) where
   abbrev Sixteen : Type 0
-  Sixteen = Answers (lent m (rebuiltAnswer f)) old old (Refused NoRulesFormula)
+  Sixteen = RebuildAnswers f old old (Refused NoRulesFormula)
 
-  sixteen : rebuilt f ≡ none → Sixteen
-  sixteen e = answers-refusal (rebuiltAnswer f) m old (rebuilt-refused f e)
+  sixteen : ((s : Bytes) → RuleOf f s → ⊥) → Sixteen
+  sixteen h = record { answer = refused NoRulesFormula; rebuilds = givesNone h; answers = kept-refused (length old) old NoRulesFormula }
 
   -- No formula passes 4,096 bytes.
   pub rebuild-long : 4096 < length f → Sixteen
-  rebuild-long h = sixteen (go (rebuilt f) refl)
-    where
-      go : (o : Option Bytes) → rebuilt f ≡ o → rebuilt f ≡ none
-      go none q = q
-      go (some s) q =
-          let p = reduced-wrote s f (rebuilt-gives f s q) in
-          let a = accepted-gives s (p .0) in
-          let e : formula (a .rule) ≡ f = cc (accepted-formula a, p .1) in
-          absurd (omega (arith, formula-within a, ap length e))
+  rebuild-long h = sixteen (λ s p. omega (arith, formula-within (rule-accepted p), ap length (rule-formula p)))
 
   pub rebuild-unread : whole (readFormula 512 9 [] f) ≡ none → Sixteen
-  rebuild-unread e = sixteen (rebuilt-none f e)
+  rebuild-unread e = sixteen (λ s p. let z : _≡_ {A = ℕ} 0 1 = cc (rule-read p) in omega arith)
 
   -- The candidate c is the tree's own text as far as 257 bytes, which are too many for a rule.
   module _ {ρ : Rule} {c : Bytes} (e : whole (readFormula 512 9 [] f) ≡ some ρ) (h : c ≡ take 257 (ruleText [] ρ)) where
     other : (reduced c ≡ wrote f → ⊥) → Sixteen
-    other x = sixteen (go (rebuilt f) refl)
+    other x = sixteen go
       where
-        go : (o : Option Bytes) → rebuilt f ≡ o → rebuilt f ≡ none
-        go none q = q
-        go (some s) q =
-            let r = rebuilt-gives f s q in
-            let a = accepted-gives s (reduced-wrote s f r .0) in
-            let z : c ≡ s = h ∙ ap (take 257) (sym (rebuilt-only f ρ s e q)) ∙ take-all 257 s (omega (arith, a .short)) in
-            absurd (x (rw z r))
+        go : (s : Bytes) → RuleOf f s → ⊥
+        go s p =
+            let z : c ≡ s = h ∙ ap (take 257) (sym (rule-only p ρ e)) ∙ take-all 257 s (omega (arith, rule-accepted p .short)) in
+            x (rw z (rule-reduced p))
 
     pub rebuild-refused : {zeros sheet : Bytes} {w : Written} {r : Refusal} → Answers (lent (length zeros) (reduced c)) zeros sheet w → w ≡ Refused r → length f ≤ length zeros → Sixteen
     rebuild-refused p q l = other (λ x. answers-refused (reduced c) _ f p q l x)
@@ -133,12 +119,14 @@ module _ (f : Bytes) (m : ℕ) (old : Bytes) where
 
 -- The candidate whose formula is the input is the rule.
 pub rebuild-same : {c : Bytes} (f : Bytes) {zeros sheet : Bytes} {w : Written} {k : ℕ}
-    → Answers (lent (length zeros) (reduced c)) zeros sheet w → w ≡ Wrote k → same (take k sheet) f ≡ true → rebuiltAnswer f ≡ wrote c
-unfolding rebuiltAnswer
+    → Answers (lent (length zeros) (reduced c)) zeros sheet w → w ≡ Wrote k → same (take k sheet) f ≡ true → RuleOf f c
 rebuild-same {c} f {zeros} {sheet} {w} {k} p q d =
     let t = answers-wrote (reduced c) (length zeros) p q in
     let z : t .text ≡ f = sym (t .front) ∙ same-gives (take k sheet) f d in
-    rw (gives-rebuilt f c (t .is ∙ ap wrote z))
+    rule-of (t .is ∙ ap wrote z)
+
+pub rebuild-gives : {f c old new : Bytes} {w : Written} → RuleOf f c → Answers (lent (length old) (wrote c)) old new w → RebuildAnswers f old new w
+rebuild-gives {c = c} p q = record { answer = wrote c; rebuilds = gives p; answers = q }
 
 pub rebuild-ready : {s ns : List ℕ} {k n : ℕ} {o : Option Rule} → Rooted s ns k n o → Ready ns k []
 rebuild-ready {n = n} t = record { n = n; tidy = t .tidy; node = t .within; below = λ i h. absurd (omega arith); few = omega arith }

@@ -1,29 +1,21 @@
--- Document 01, "Formula": rule text to formula text and back, and what the two entry points answer.
+-- Document 01, "Formula": the formula of a rule text, the rule of a formula, and what the two entry points answer.
 -- Assumes nothing.
-use mathlib.Core.List.{[]}
+use mathlib.Core.Path.{_≡_}
 use mathlib.Core.Option.{Option, none, some}
-use mathlib.Core.Bool.{Bool, true, false}
-use Rattle.answers.specs.Answer.{Answer, refused, wrote}
+use mathlib.Core.Bool.{true}
+use lib.ListN.{length}
+use Rattle.answers.specs.Answer.{Answer, refused, wrote, lent}
+use Rattle.answers.specs.Written.{Answers}
 use Rattle.answers.specs.declared.Refusal.{Refusal}
 use Rattle.answers.specs.declared.Refusal.the-variants.{NotARule, NoRulesFormula}
-use Rattle.syntax.specs.Bytes.{Bytes, same}
-use Rattle.syntax.specs.Rule.{ruleText, formula, ruleOf, ruleOfFormula}
+use Rattle.answers.specs.declared.Written.{Written}
+use Rattle.syntax.specs.Bytes.{Bytes}
+use Rattle.syntax.specs.Rule.{formula, ruleOf}
 use Rattle.rules.specs.Accept.{refusal, accepted}
 
 -- "The formula is `[v1@X1][v2@X2]..:` and the rule": the formula of a rule text, none where the text is no rule.
 unfoldable pub formulaOf : Bytes → Option Bytes
 formulaOf s = elim (ruleOf s) [ none ↦ none | some ρ ↦ some (formula ρ) ]
-
--- The text s, where it is accepted and its formula g is f byte for byte.
-unfoldable pub kept : Bool → Option Bytes → Bytes → Bytes → Option Bytes
-kept false g f s = none
-kept true none f s = none
-kept true (some g) f s = elim (same g f) [ false ↦ none | true ↦ some s ]
-
--- "Rebuilding follows Figure 7 and accepts exactly the formulas of accepted rules": read the formula, write its tree with no
--- choices known, and keep that text where it is accepted and has the formula.
-unfoldable pub rebuilt : Bytes → Option Bytes
-rebuilt f = elim (ruleOfFormula f) [ none ↦ none | some ρ ↦ kept (accepted (ruleText [] ρ)) (formulaOf (ruleText [] ρ)) f (ruleText [] ρ) ]
 
 -- The bytes to be written, or the refusal where there are none.
 abbrev pub wroteOr : Refusal → Option Bytes → Answer
@@ -34,6 +26,19 @@ wroteOr r (some b) = wrote b
 unfoldable pub reduced : Bytes → Answer
 reduced s = elim (refusal s) [ some r ↦ refused r | none ↦ wroteOr NotARule (formulaOf s) ]
 
--- What `rebuild` answers, but for 17: 16, "no accepted rule has this formula", else the rule.
-unfoldable pub rebuiltAnswer : Bytes → Answer
-rebuiltAnswer f = wroteOr NoRulesFormula (rebuilt f)
+-- "the formulas of accepted rules": s is an accepted rule, and f is its formula.
+pub record RuleOf (f s : Bytes) : Type 0 where
+  pub accepts : accepted s ≡ true
+  pub formula : formulaOf s ≡ some f
+
+-- "Rebuilding .. accepts exactly the formulas of accepted rules": what `rebuild` answers, but for 17, is the accepted rule whose formula this is,
+-- or 16, "no accepted rule has this formula". `RebuildLaws.rebuilds-once` says that there is one such answer.
+pub data Rebuilds (f : Bytes) : Answer → Type 0 where
+  gives : {s : Bytes} → RuleOf f s → Rebuilds f (wrote s)
+  givesNone : ((s : Bytes) → RuleOf f s → ⊥) → Rebuilds f (refused NoRulesFormula)
+
+-- `rebuild` on f says w and turns the output old into new.
+pub record RebuildAnswers (f old new : Bytes) (w : Written) : Type 0 where
+  pub answer : Answer
+  pub rebuilds : Rebuilds f answer
+  pub answers : Answers (lent (length old) answer) old new w

@@ -1,2 +1,3 @@
 -- Rule to formula and formula to rule: what the entry points answer.
 pub mod Formulas
+pub mod code

@@ -4,7 +4,7 @@ ghost use mathlib.Core.Path.{_≡_};
 ghost use lib.ListN.{length};
 ghost use Rattle.answers.specs.Answer.{wrote, lent};
 ghost use Rattle.syntax.specs.Bytes.{same};
-ghost use Rattle.formulas.specs.Formulas.{reduced, rebuiltAnswer};
+ghost use Rattle.formulas.specs.Formulas.{reduced, RebuildAnswers};
 ghost use Rattle.answers.specs.Written.{Answers};
 use answers::Refusal;
 use answers::Written;
@@ -60,7 +60,7 @@ pub fn reduce(rule: &[u8], out: &mut [u8]) -> Written
 
 // Formula to rule: 16, then 17. The candidate is the tree's own text, kept where its formula is the input byte for byte.
 pub fn rebuild(formula: &[u8], out: &mut [u8]) -> Written
-    ensures { λ r. ⌜ Answers (lent (length (now (out .entry))) (rebuiltAnswer (now (formula .entry)))) (now (out .entry)) (now (out .exit)) r ⌝ }
+    ensures { λ r. ⌜ RebuildAnswers (now (formula .entry)) (now (out .entry)) (now (out .exit)) r ⌝ }
 {
     if formula.len() > 4096 {
         return Written::Refused(Refusal::NoRulesFormula);

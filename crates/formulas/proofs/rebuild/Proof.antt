@@ -7,12 +7,12 @@ use borrow.Author.Tests.{not-true, not-false}
 use borrow.Author.Needs.{needs}
 use Rattle.rules.proofs.ParseLaws.{as-nothing, as-root}
 use Rattle.formulas.proofs.WrittenLaws.{answers-wrote}
-use Rattle.formulas.proofs.ReduceLaws.{answers-as, rebuild-long, rebuild-unread, rebuild-refused, rebuild-apart, rebuild-same, rebuild-ready, rebuild-text}
+use Rattle.formulas.proofs.ReduceLaws.{rebuild-gives, rebuild-long, rebuild-unread, rebuild-refused, rebuild-apart, rebuild-same, rebuild-ready, rebuild-text}
 use Rattle.formulas.proofs.rebuild.Statement.{statement}
 use Rattle.formulas.proofs.rebuild.Tie as tie
 
 returns : tie.Need-returns
-returns c = rebuild-long _ _ _ (c .if1 .taken)
+returns c = rebuild-long _ _ (c .if1 .taken)
 
 slice-aggregate-formula : tie.Need-slice-aggregate-formula
 slice-aggregate-formula c = search needs
@@ -27,7 +27,7 @@ enum-told : tie.Need-enum-told
 enum-told c = search needs
 
 returns-2 : tie.Need-returns-2
-returns-2 c = rebuild-unread _ _ _ (as-nothing (c .before .before .before .formula .ensures) (c .enum-told .given .1))
+returns-2 c = rebuild-unread _ _ (as-nothing (c .before .before .before .formula .ensures) (c .enum-told .given .1))
 
 slice-aggregate-write-rule : tie.Need-slice-aggregate-write-rule
 slice-aggregate-write-rule c = search needs
@@ -65,7 +65,7 @@ enum-told-2 c = search needs
 returns-3 : tie.Need-returns-3
 returns-3 c =
     let t = as-root (c .before .before .before .before .before .before .before .before .before .before .before .before .before .before .before .formula .ensures) (c .before .before .before .before .before .before .before .before .before .before .before .before .node .given .1) in
-    rebuild-refused _ _ _ (t .is) (rebuild-text t (c .before .before .before .before .before .before .before .write-rule .ensures)) (c .before .before .before .reduce .ensures) (c .enum-told2 .given .1) (omega (arith, c .before .before .before .before .before .before .before .before .before .before .before .before .before .before .before .before .before .if1 .left))
+    rebuild-refused _ _ (t .is) (rebuild-text t (c .before .before .before .before .before .before .before .write-rule .ensures)) (c .before .before .before .reduce .ensures) (c .enum-told2 .given .1) (omega (arith, c .before .before .before .before .before .before .before .before .before .before .before .before .before .before .before .before .before .if1 .left))
 
 array-share-prefix-sheet : tie.Need-array-share-prefix-sheet
 array-share-prefix-sheet c = answers-wrote _ _ (c .before .before .before .before .reduce .ensures) (c .before .m .given .1) .fits
@@ -79,7 +79,7 @@ alike-requires c κs = search needs
 returns-4 : tie.Need-returns-4
 returns-4 c =
     let t = as-root (c .before .before .before .before .before .before .before .before .before .before .before .before .before .before .before .before .before .before .before .formula .ensures) (c .before .before .before .before .before .before .before .before .before .before .before .before .before .before .before .before .node .given .1) in
-    rebuild-apart _ _ _ (t .is) (rebuild-text t (c .before .before .before .before .before .before .before .before .before .before .before .write-rule .ensures)) (c .before .before .before .before .before .before .before .reduce .ensures) (c .before .before .before .before .m .given .1) (sym (c .before .alike .ensures) ∙ not-true _ (c .if2 .taken))
+    rebuild-apart _ _ (t .is) (rebuild-text t (c .before .before .before .before .before .before .before .before .before .before .before .write-rule .ensures)) (c .before .before .before .before .before .before .before .reduce .ensures) (c .before .before .before .before .m .given .1) (sym (c .before .alike .ensures) ∙ not-true _ (c .if2 .taken))
 
 array-share-prefix-text-2 : tie.Need-array-share-prefix-text-2
 array-share-prefix-text-2 c = search needs
@@ -94,7 +94,7 @@ same-length : tie.Need-same-length
 same-length c = search needs
 
 returns-5 : tie.Need-returns-5
-returns-5 c = answers-as _ (rebuild-same _ (c .before .before .before .before .before .before .before .before .before .before .before .before .reduce .ensures) (c .before .before .before .before .before .before .before .before .before .m .given .1) (sym (c .before .before .before .before .before .before .alike .ensures) ∙ not-false _ (c .before .before .before .before .before .if2 .left))) (c .before .before .hand .ensures)
+returns-5 c = rebuild-gives (rebuild-same _ (c .before .before .before .before .before .before .before .before .before .before .before .before .reduce .ensures) (c .before .before .before .before .before .before .before .before .before .m .given .1) (sym (c .before .before .before .before .before .before .alike .ensures) ∙ not-false _ (c .before .before .before .before .before .if2 .left))) (c .before .before .hand .ensures)
 
 pub rebuild-spec : {M : Type 1} → statement M
 rebuild-spec =
