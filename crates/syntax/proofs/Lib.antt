@@ -5,6 +5,7 @@ pub mod Fuel
 pub mod RuleLaws
 pub mod Closed
 pub mod Length
+pub mod ChoosingLaws
 pub mod Slices
 pub mod ArenaLaws
 pub mod NameLaws

@@ -2,4 +2,5 @@
 pub mod Bytes
 pub mod Term
 pub mod Rule
+pub mod Choosing
 pub mod code
