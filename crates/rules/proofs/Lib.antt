@@ -9,5 +9,6 @@ pub mod LengthLaws
 pub mod FormulaLengthLaws
 pub mod AcceptLaws
 pub mod ChoiceLaws
+pub mod CheckedLaws
 pub mod ParseLaws
 pub mod Examples

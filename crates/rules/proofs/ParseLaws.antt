@@ -21,6 +21,7 @@ use Rattle.syntax.specs.declared.Whole.{Whole}
 use Rattle.syntax.specs.declared.Whole.the-variants.{Nothing, Root}
 use Rattle.syntax.proofs.RuleLaws.{rule-text}
 use Rattle.syntax.proofs.Length.{formula-short}
+use Rattle.rules.specs.declared.Checked.{Checked}
 use Rattle.rules.specs.declared.Checked.the-variants.{Refused, Accepted}
 use Rattle.rules.specs.declared.Weighed.{Weighed}
 use Rattle.rules.specs.declared.Weighed.the-variants.{Unfit, Variables}
@@ -31,7 +32,7 @@ use Rattle.rules.specs.Accept.{deep, treeRefusal, refusal}
 use Rattle.rules.specs.code.Numbers.{Kinded}
 use Rattle.rules.specs.code.Variables.{VarsOf}
 use Rattle.rules.specs.code.Lengths.{LengthsOf, FormulaLength}
-use Rattle.rules.specs.code.Parsed.{RuleAt, Fitted, Weighs, unfit, fit, Finds, turned, found, Parses}
+use Rattle.rules.specs.code.Parsed.{RuleAt, Fitted, Weighs, unfit, fit, Finds, turned, found, Blank, Parses}
 use Rattle.rules.proofs.AcceptLaws.{refuse-long, refuse-tree, tree-unkind, tree-choices, tree-fits}
 use Rattle.rules.proofs.NodeLaws.{lt-or-le}
 use Rattle.rules.proofs.VariableLaws.{listed-count}
@@ -108,11 +109,12 @@ module _ {s ns : List ℕ} {n root : ℕ} {ks vs : List ℕ} {w : Weighed} (lo :
 
 -- A parsed text.
 
-pub parse-turned : {s ns ks vs : List ℕ} {f : Found} {r : Refusal} (n root count : ℕ) → Finds s ns ks vs f → f ≡ Turned r → Parses s ns ks vs (Refused r) n root count
-parse-turned {r = r} n root count (turned {r = r′} e) q =
+pub parse-turned : {s ns ks vs ns₀ ks₀ vs₀ : List ℕ} {f : Found} {r : Refusal} {o : Checked} {n root count : ℕ} → Finds s ns₀ ks₀ vs₀ f → f ≡ Turned r → o ≡ Refused r
+    → Blank ns n root ks vs count → Parses s ns ks vs o n root count
+parse-turned {r = r} (turned {r = r′} e) q h b =
     let g : r′ ≡ r = cc in
-    record { outcome = rw (e, g); accepted = λ z. let y : _≡_ {A = ℕ} 0 1 = cc in absurd (omega arith) }
-parse-turned n root count (found e a) q = let z : _≡_ {A = ℕ} 0 1 = cc in absurd (omega arith)
+    record { outcome = h ∙ rw (e, g); accepted = λ z. let y : _≡_ {A = ℕ} 0 1 = cc in absurd (omega arith); refused = λ _ _. b }
+parse-turned (found e a) q h b = let z : _≡_ {A = ℕ} 0 1 = cc in absurd (omega arith)
 
 pub parse-found : {s ns ks vs : List ℕ} {f : Found} {n root count : ℕ} → Finds s ns ks vs f → f ≡ Tree n root count → Parses s ns ks vs Accepted n root count
 parse-found (turned e) q = let z : _≡_ {A = ℕ} 0 1 = cc in absurd (omega arith)
@@ -120,7 +122,7 @@ parse-found {n = n} {root = root} {count = count} (found {n = n′} {root = root
     let g : n′ ≡ n = cc in
     let h : root′ ≡ root = cc in
     let i : count′ ≡ count = cc in
-    record { outcome = rw e; accepted = λ _. rw g at (rw h at (rw i at a)) }
+    record { outcome = rw e; accepted = λ _. rw g at (rw h at (rw i at a)); refused = λ r y. let z : _≡_ {A = ℕ} 0 1 = cc in absurd (omega arith) }
 
 -- An accepted text has 1 to 256 bytes, and its formula at most 4,096, so that its length is told exactly.
 

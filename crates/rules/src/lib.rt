@@ -4,9 +4,11 @@ ghost use mathlib.Core.Path.{_≡_};
 ghost use Prim.Native.Nat.{_<_, _≤_};
 ghost use lib.ListN.{length};
 ghost use Rattle.syntax.specs.code.Arena.{Tidy};
+ghost use Rattle.rules.specs.declared.Checked.the-variants.{Refused};
 ghost use Rattle.rules.specs.Accept.{refusal};
-ghost use Rattle.rules.specs.Checked.{checkedOf};
-ghost use Rattle.rules.specs.code.Parsed.{Weighs, Finds, Parses};
+ghost use Rattle.answers.specs.Answer.{numberOrZero};
+ghost use Rattle.rules.specs.Checked.{checkedNumber};
+ghost use Rattle.rules.specs.code.Parsed.{Weighs, Finds, Blank, Parses};
 use answers::Refusal;
 use syntax::Whole;
 
@@ -21,7 +23,8 @@ pub enum Checked {
     Accepted,
 }
 
-// The answer, and where it is accepted the rule's tree: its first n nodes with their kinds, the root, and the nodes of the variables.
+// The answer, and where it is accepted the rule's tree: its first n nodes with their kinds, the root, and the nodes of the variables. Where it is
+// refused, nothing of a tree.
 pub struct Parsed {
     pub outcome: Checked,
     pub nodes: [u32; 256],
@@ -92,7 +95,23 @@ fn find(s: &[u8], nodes: &mut [u32], kinds: &mut [u8], vars: &mut [u32]) -> Foun
     }
 }
 
-// The rule that s is the text of, or the refusal.
+// The answer to a text that is refused.
+fn turned(r: Refusal) -> Parsed
+    ensures { λ p. ⌜ p .outcome ≡ Refused r ⌝ }
+    ensures { λ p. ⌜ Blank (p .nodes) (p .n) (p .root) (p .kinds) (p .vars) (p .count) ⌝ }
+{
+    Parsed {
+        outcome: Checked::Refused(r),
+        nodes: [0u32; 256],
+        n: 0,
+        root: 0,
+        kinds: [15u8; 256],
+        vars: [0u32; 8],
+        count: 0,
+    }
+}
+
+// The rule that s is the text of, or the refusal. No entry point: the answer is nodes, which only the crates above read.
 pub fn parse(s: &[u8]) -> Parsed
     ensures { λ p. ⌜ Parses (now (s .entry)) (p .nodes) (p .kinds) (p .vars) (p .outcome) (p .n) (p .root) (p .count) ⌝ }
 {
@@ -100,15 +119,7 @@ pub fn parse(s: &[u8]) -> Parsed
     let mut kinds = [15u8; 256];
     let mut vars = [0u32; 8];
     match find(s, &mut nodes, &mut kinds, &mut vars) {
-        Found::Turned(r) => Parsed {
-            outcome: Checked::Refused(r),
-            nodes: nodes,
-            n: 0,
-            root: 0,
-            kinds: kinds,
-            vars: vars,
-            count: 0,
-        },
+        Found::Turned(r) => turned(r),
         Found::Rule { n, root, count } => Parsed {
             outcome: Checked::Accepted,
             nodes: nodes,
@@ -123,7 +134,7 @@ pub fn parse(s: &[u8]) -> Parsed
 
 // Whether s is an accepted rule.
 pub fn check(s: &[u8]) -> Checked
-    ensures { λ r. ⌜ r ≡ checkedOf (refusal (now (s .entry))) ⌝ }
+    ensures { λ r. ⌜ checkedNumber r ≡ numberOrZero (refusal (now (s .entry))) ⌝ }
 {
     let parsed = parse(s);
     let outcome = parsed.outcome;

@@ -2,20 +2,20 @@
 -- Internal: contracts of entry points that answer with bytes do not speak of it. Assumes nothing.
 use mathlib.Core.Path.{_≡_}
 use mathlib.Core.List.{List, []}
-use mathlib.Core.Option.{none, some}
+use mathlib.Core.Option.{Option, none, some}
 use Prim.Native.Nat.{ℕ, _<_, _≤_}
-use lib.ListN.{length, take}
+use lib.ListN.{length, take, replicate}
 use Rattle.answers.specs.declared.Refusal.{Refusal}
 use Rattle.syntax.specs.Bytes.{Bytes}
 use Rattle.syntax.specs.Rule.{Rule, ruleVars, ruleOf}
 use Rattle.syntax.specs.code.Arena.{HoldsRule, Tidy}
 use Rattle.syntax.specs.code.Reading.{mk, Knows}
 use Rattle.rules.specs.declared.Checked.{Checked}
+use Rattle.rules.specs.declared.Checked.the-variants.{Refused, Accepted}
 use Rattle.rules.specs.declared.Weighed.{Weighed}
 use Rattle.rules.specs.declared.Weighed.the-variants.{Unfit, Variables}
 use Rattle.rules.specs.declared.Found.{Found}
 use Rattle.rules.specs.declared.Found.the-variants.{Turned, Rule as Tree}
-use Rattle.rules.specs.Checked.{checkedOf}
 use Rattle.rules.specs.Accept.{treeRefusal, refusal}
 use Rattle.rules.specs.code.Numbers.{Kinded}
 
@@ -48,7 +48,22 @@ pub data Finds (s : Bytes) (ns ks vs : List ℕ) : Found → Type 0 where
   turned : {r : Refusal} → refusal s ≡ some r → Finds s ns ks vs (Turned r)
   found : {n root count : ℕ} → refusal s ≡ none → RuleAt s ns n root ks vs count → Finds s ns ks vs (Tree n root count)
 
--- The answer to a text, and where it is accepted its tree.
+-- Nothing of a tree: no node has a kind, and there is no variable.
+pub record Blank (ns : List ℕ) (n root : ℕ) (ks vs : List ℕ) (count : ℕ) : Type 0 where
+  pub nodes : ns ≡ replicate 256 0
+  pub noNode : n ≡ 0
+  pub noRoot : root ≡ 0
+  pub kinds : ks ≡ replicate 256 15
+  pub vars : vs ≡ replicate 8 0
+  pub noVariable : count ≡ 0
+
+-- The case of an answer: the first refusal of 11 to 15, or that none refuses.
+abbrev pub checkedOf : Option Refusal → Checked
+checkedOf none = Accepted
+checkedOf (some r) = Refused r
+
+-- The answer to a text; where it is accepted its tree, and where it is refused nothing.
 pub record Parses (s : Bytes) (ns ks vs : List ℕ) (o : Checked) (n root count : ℕ) : Type 0 where
   pub outcome : o ≡ checkedOf (refusal s)
   pub accepted : refusal s ≡ none → RuleAt s ns n root ks vs count
+  pub refused : (r : Refusal) → refusal s ≡ some r → Blank ns n root ks vs count
