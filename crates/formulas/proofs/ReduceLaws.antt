@@ -21,7 +21,7 @@ use Rattle.syntax.proofs.BytesLaws.{same-own, same-gives}
 use Rattle.rules.specs.declared.Checked.{Checked}
 use Rattle.rules.specs.declared.Checked.the-variants.{Refused as TurnedBack, Accepted as Taken}
 use Rattle.rules.specs.Accept.{refusal}
-use Rattle.rules.specs.Checked.{checkedOf}
+use Rattle.rules.specs.code.Parsed.{checkedOf}
 use Rattle.rules.specs.code.Parsed.{Parses}
 use Rattle.printer.specs.code.Printed.{Prints, Ready, formulaIn}
 use Rattle.printer.proofs.PrintedLaws.{puts-front}
