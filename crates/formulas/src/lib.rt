@@ -55,7 +55,8 @@ pub fn reduce(rule: &[u8], out: &mut [u8]) -> Written
     let count = parsed.count;
     let mut sheet = [0u8; 4096];
     let l = write_formula(&nodes, parsed.root, &vars[..count], &mut sheet);
-    hand(&sheet[..l], out)
+    let text = &sheet[..l];
+    hand(text, out)
 }
 
 // Formula to rule: 16, then 17. The candidate is the tree's own text, kept where its formula is the input byte for byte.

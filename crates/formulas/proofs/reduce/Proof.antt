@@ -37,8 +37,8 @@ write-formula-requires c κs = reduce-ready (c .before .before .before .before .
 array-share-prefix-sheet : tie.Need-array-share-prefix-sheet
 array-share-prefix-sheet c = search needs
 
-slice-aggregate-hand : tie.Need-slice-aggregate-hand
-slice-aggregate-hand c = sym (length-take-le _ _ (search needs))
+slice-aggregate-text : tie.Need-slice-aggregate-text
+slice-aggregate-text c = sym (length-take-le _ _ (search needs))
 
 hand-requires : tie.Need-hand-requires
 hand-requires c κs = search needs
@@ -63,7 +63,7 @@ reduce-spec =
     slice-aggregate-write-formula-3
     write-formula-requires
     array-share-prefix-sheet
-    slice-aggregate-hand
+    slice-aggregate-text
     hand-requires
     same-length
     returns-2)
