@@ -1,12 +1,12 @@
 -- Laws of lent outputs: what is answered where the output is long enough, where it is not, and what is kept.
 -- Assumes nothing.
 use mathlib.Core.Path.{_≡_, refl, ap, sym, _∙_}
-use mathlib.Core.List.{List, [], _∷_}
+use mathlib.Core.List.{List, [], _∷_, _++_}
 use mathlib.Core.Bool.{Bool, true, false}
 use Prim.Native.Nat.{ℕ, _*_, _≤_, _<_}
 use native.Mathlib.Omega.{arith}
 use lib.Dec.{leb}
-use lib.ListN.{length, getD}
+use lib.ListN.{length, getD, drop, length-append}
 use borrow.Author.Tests.{le-leb, lt-leb}
 use Rattle.answers.specs.Refusal.{numberOf}
 use Rattle.answers.specs.Answer.{Answer, refused, wrote, numberOrZero, answerNumber, answerLength, ifRoom, lent, outputAfter}
@@ -106,3 +106,17 @@ kept-refused n old e = record { number = refl; size = refl; output = refl }
 pub kept-short : (w old : List ℕ) → length old < length w → Answers (lent (length old) (wrote w)) old old (Refused ShortSheet)
 unfolding outputAfter
 kept-short w old h = rw (lent-short (length old) w h) (record { number = refl; size = refl; output = refl })
+
+-- What fits is written in front, and the rest is kept.
+pub lent-written : (w old : List ℕ) {new : List ℕ} → length w ≤ length old → new ≡ w ++ drop (length w) old → Answers (lent (length old) (wrote w)) old new (Wrote (length w))
+unfolding outputAfter
+lent-written w old h e = rw (lent-fits (length old) w h) (record { number = refl; size = refl; output = e })
+
+-- What was written lies within the lent bytes.
+pub lent-within : (w : List ℕ) {old new : List ℕ} {r : Written} {n : ℕ} → Answers (lent (length old) (wrote w)) old new r → r ≡ Wrote n → n ≤ length new
+unfolding lent outputAfter
+lent-within w {old} {new} {r} {n} l e = go (leb (length w) (length old)) (answered-case l) (l .output)
+  where
+    go : (b : Bool) → r ≡ writtenOf (ifRoom b w) → new ≡ outputAfter (ifRoom b w) old → n ≤ length new
+    go true a q = let m : length w ≡ n = cc in omega (arith, simp length-append at (ap length q))
+    go false a q = let z : _≡_ {A = ℕ} 0 1 = cc in absurd (omega arith)

@@ -1,2 +1,3 @@
 -- Laws of answers and lent outputs.
 pub mod AnswerLaws
+pub mod CopyLaws

@@ -1,7 +1,12 @@
 // Refusals and answers: what every entry point says, and the number that document 01 gives it.
 // Nothing here knows tables or rules.
 ghost use mathlib.Core.Path.{_≡_};
+ghost use mathlib.Core.List.{_++_};
+ghost use Prim.Native.Nat.{_≤_};
+ghost use lib.ListN.{length, drop};
 ghost use Rattle.answers.specs.Refusal.{numberOf};
+ghost use Rattle.answers.specs.Answer.{wrote, lent};
+ghost use Rattle.answers.specs.Written.{Answers};
 
 // Document 01, "Turned back": the refusals in the order of their numbers.
 pub enum Refusal {
@@ -55,4 +60,27 @@ pub fn number(refusal: Refusal) -> u32
         Refusal::ShortSheet => 17,
         Refusal::Disordered => 18,
     }
+}
+
+// Copies the text to the front of the output.
+fn copy(text: &[u8], out: &mut [u8])
+    requires { ⌜ length (now text) ≤ length (now out) ⌝ }
+    ensures { λ _. ⌜ now (out .exit) ≡ now (text .entry) ++ drop (length (now (text .entry))) (now (out .entry)) ⌝ }
+{
+    let mut i = 0;
+    while i < text.len() {
+        out[i] = text[i];
+        i += 1;
+    }
+}
+
+// Writes the text to the front of the lent output, or says 17 and leaves it as it is.
+pub fn lend(text: &[u8], out: &mut [u8]) -> Written
+    ensures { λ r. ⌜ Answers (lent (length (now (out .entry))) (wrote (now (text .entry)))) (now (out .entry)) (now (out .exit)) r ⌝ }
+{
+    if out.len() < text.len() {
+        return Written::Refused(Refusal::ShortSheet);
+    }
+    copy(text, out);
+    Written::Wrote(text.len())
 }

@@ -1,6 +1,5 @@
 -- Laws on the lines of a sheet.
 pub mod LineLaws
 pub mod SheetLaws
-pub mod LendingLaws
 pub mod JudgedLaws
 pub mod OrderLaws

@@ -29,18 +29,7 @@ pub fn line(tables: &[u8], rules: &[u8], place: usize, out: &mut [u8]) -> Writte
 {
     let mut text = [0u8; 512];
     let n = write_line(tables, rules, place, &mut text);
-    lend(&text[..n], out)
-}
-
-// Lends the text w.
-fn lend(w: &[u8], out: &mut [u8]) -> Written
-    ensures { λ r. ⌜ Answers (lent (length (now (out .entry))) (wrote (now (w .entry)))) (now (out .entry)) (now (out .exit)) r ⌝ }
-{
-    if out.len() < w.len() {
-        return Written::Refused(Refusal::ShortSheet);
-    }
-    let n = texts::put(w, out);
-    Written::Wrote(n)
+    answers::lend(&text[..n], out)
 }
 
 // The sheet of refused tables.

@@ -2,7 +2,7 @@
 -- Assumes nothing.
 use mathlib.Core.Path.{sym}
 use lib.Seq.{length-take-le}
-use Rattle.sheets.proofs.LendingLaws.{lent-within}
+use Rattle.answers.proofs.AnswerLaws.{lent-within}
 use borrow.Author.Needs.{needs}
 use Rattle.day_sheet.proofs.print_line.Statement.{statement}
 use Rattle.day_sheet.proofs.print_line.Tie as tie

@@ -4,7 +4,7 @@ use mathlib.Core.Path.{_≡_, sym}
 use native.Mathlib.Omega.{arith}
 use lib.ListN.{length, length-take}
 use lib.Seq.{length-take-le}
-use Rattle.sheets.proofs.LendingLaws.{lent-within}
+use Rattle.answers.proofs.AnswerLaws.{lent-within}
 use borrow.Author.Needs.{needs}
 use Rattle.conformance.proofs.commands.print_line.Statement.{statement}
 use Rattle.conformance.proofs.commands.print_line.Tie as tie
