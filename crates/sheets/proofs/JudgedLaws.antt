@@ -15,8 +15,7 @@ use Rattle.syntax.specs.Rule.{ruleOf}
 use Rattle.rules.specs.declared.Checked.{Checked}
 use Rattle.rules.specs.declared.Checked.the-variants.{Accepted as Accepts, Refused as Refuses}
 use Rattle.rules.specs.Accept.{refusal}
-use Rattle.rules.specs.Checked.{checkedOf}
-use Rattle.rules.specs.code.Parsed.{Parses}
+use Rattle.rules.specs.code.Parsed.{checkedOf, Parses}
 use Rattle.tables.specs.declared.Outcome.{Outcome}
 use Rattle.tables.specs.declared.Outcome.the-variants.{Refused, Accepted}
 use Rattle.tables.specs.Tables.{Tables}

@@ -25,8 +25,7 @@ use Rattle.tables.proofs.FitsLaws.{Sound, accepted-sound}
 use Rattle.syntax.specs.Bytes.{Bytes}
 use Rattle.rules.specs.declared.Checked.the-variants.{Refused as Unfit, Accepted}
 use Rattle.rules.specs.Accept.{refusal}
-use Rattle.rules.specs.Checked.{checkedOf}
-use Rattle.rules.specs.code.Parsed.{RuleAt}
+use Rattle.rules.specs.code.Parsed.{checkedOf, RuleAt}
 use Rattle.values.proofs.BoundLaws.{accepted-within}
 use Rattle.verdicts.specs.declared.Outcome.{Outcome}
 use Rattle.verdicts.specs.declared.Verdict.{Verdict}
