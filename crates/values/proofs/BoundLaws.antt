@@ -16,8 +16,7 @@ use borrow.Author.Tests.{eqb-true}
 use Rattle.words.specs.Words.{has, wordOf, allOf, itemOf, meetOf, joinOf, lessOf}
 use Rattle.words.proofs.WordsLaws.{has-in, word-has, and-true, all-lt}
 use Rattle.tables.specs.Tables.{Tables}
-use Rattle.tables.specs.code.Reads.{Below}
-use Rattle.tables.proofs.FitsLaws.{Sound}
+use Rattle.tables.specs.Accepted.{Below, Sound}
 use Rattle.syntax.specs.Term.{bU, Fn, user, roles, roles*, sessions, permissions, permissions*, object}
 use Rattle.syntax.specs.Term.{operations, meet, join, Term, base, call, oe, ao, two, Choices}
 use Rattle.syntax.specs.Bytes.{Bytes}

@@ -21,7 +21,8 @@ use Rattle.tables.specs.declared.Outcome.{Outcome as Reached}
 use Rattle.tables.proofs.LoadLaws.{outcome-case}
 use Rattle.tables.specs.declared.Outcome.the-variants.{Refused as Turned, Accepted as Taken}
 use Rattle.tables.proofs.FlatLaws.{length-flat}
-use Rattle.tables.proofs.FitsLaws.{Sound, accepted-sound}
+use Rattle.tables.specs.Accepted.{Sound}
+use Rattle.tables.proofs.FitsLaws.{accepted-sound}
 use Rattle.syntax.specs.Bytes.{Bytes}
 use Rattle.rules.specs.declared.Checked.the-variants.{Refused as Unfit, Accepted}
 use Rattle.rules.specs.Accept.{refusal}

@@ -9,7 +9,7 @@ use lib.ListN.{length, getD, drop}
 use Rattle.words.specs.Words.{has, gate}
 use Rattle.tables.specs.Tables.{Tables}
 use Rattle.tables.specs.Flat.{flat}
-use Rattle.tables.proofs.FitsLaws.{Sound}
+use Rattle.tables.specs.Accepted.{Sound}
 use Rattle.syntax.specs.Term.{Choices}
 use Rattle.syntax.specs.Rule.{Rule, ruleVars}
 use Rattle.syntax.specs.code.Arena.{HoldsRule}
