@@ -14,6 +14,7 @@ use Rattle.answers.specs.Answer.{lent, outputAfter}
 use Rattle.answers.specs.declared.Refusal.{Refusal}
 use Rattle.answers.specs.declared.Refusal.the-variants.{ShortSheet}
 use Rattle.tables.specs.Tables.{Tables}
+use Rattle.tables.specs.Bytes.{lowestFirst}
 use Rattle.tables.specs.Flat.{flat}
 use Rattle.tables.specs.Reading.{Reading, turned, taken, tablesOf, outcomeNumber, readingNumber, wordsOf}
 use Rattle.tables.specs.code.Reads.{outcomeOf}
@@ -31,7 +32,7 @@ use Rattle.values.proofs.BoundLaws.{accepted-within}
 use Rattle.verdicts.specs.declared.Outcome.{Outcome}
 use Rattle.verdicts.specs.declared.Verdict.{Verdict}
 use Rattle.answers.specs.declared.Written.the-variants.{Refused as WasRefused, Wrote}
-use Rattle.verdicts.specs.Verdict.{refusedBy, orderVerdict, treeVerdict, acceptedVerdict, tablesVerdict, verdictOf, lowestFirst, written}
+use Rattle.verdicts.specs.Verdict.{refusedBy, orderVerdict, treeVerdict, acceptedVerdict, tablesVerdict, verdictOf, written}
 use Rattle.verdicts.specs.Verdict.{Gives, answerBy, judged}
 use Rattle.verdicts.specs.code.Judging.{Case, Lent, Loaded}
 use Rattle.answers.proofs.AnswerLaws.{kept-short}

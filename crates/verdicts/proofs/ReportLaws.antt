@@ -4,8 +4,7 @@ use mathlib.Core.Path.{_≡_, refl, sym, ap, _∙_}
 use mathlib.Core.Bool.{Bool, true, false, true≢false}
 use mathlib.Core.List.{List, [], _∷_, _++_, append-assoc}
 use mathlib.Core.Option.{Option, none, some}
-use Prim.Native.Nat.{ℕ, zero, suc, _+_, _*_, _/_, _%_, _^_, _<_, _≤_}
-use native.Mathlib.Nat.{div-lt-iff-lt-mul, pow-zero, pow-suc}
+use Prim.Native.Nat.{ℕ, _<_}
 use native.Mathlib.Omega.{arith}
 use lib.Dec.{ltb}
 use lib.ListN.{length, getD, take, drop, length-append}
@@ -13,6 +12,8 @@ use lib.Seq.{take-at, drop-at, getD-append-seam}
 use borrow.Author.Tests.{lt-ltb, le-ltb}
 use Rattle.answers.specs.Answer.{wrote, numberOrZero}
 use Rattle.tables.specs.Tables.{Tables}
+use Rattle.tables.specs.Bytes.{lowestFirst}
+use Rattle.tables.proofs.BytesLaws.{lowest-length, word-lowest}
 use Rattle.tables.specs.Reading.{taken, tablesOf, wordFrom}
 use Rattle.syntax.specs.Bytes.{Bytes}
 use Rattle.syntax.specs.Rule.{Rule, ruleOf}
@@ -25,12 +26,11 @@ use Rattle.walks.specs.Meaning.{there}
 use Rattle.walks.specs.Share.{shareOf}
 use Rattle.walks.proofs.ShareLaws.{is-share}
 use Rattle.verdicts.specs.declared.Verdict.{Verdict}
-use Rattle.verdicts.specs.Verdict.{wordNumber, outcomeOf, fullCount, breakingCount, firstBreaking, verdictAlong, verdictOf, lowestFirst, written}
+use Rattle.verdicts.specs.Verdict.{wordNumber, outcomeOf, fullCount, breakingCount, firstBreaking, verdictAlong, verdictOf, written}
 use Rattle.verdicts.specs.Verdict.{verdictBytes, judged}
 use Rattle.verdicts.specs.Report.{OrderOf, FirstOf, Reports, ReportsBy, ReportsIn, Told, Admitted}
 use Rattle.verdicts.proofs.OutcomeLaws.{word-broken, word-idle, word-held, word-accepted}
 use Rattle.verdicts.proofs.VerdictLaws.{first-above, first-least, breaking-le-full, full-fits}
-use Rattle.verdicts.proofs.SheetLaws.{length-lowest}
 use Rattle.verdicts.proofs.JudgedLaws.{admitted-verdict, few-variables, in-sorts, first-length, admitted-wrote, bytes-length}
 
 module _ {tables rule order : Bytes} {T : Tables} {ρ : Rule} (a : Admitted tables rule order T ρ) where
@@ -70,15 +70,6 @@ module _ {tables rule order : Bytes} {T : Tables} {ρ : Rule} (a : Admitted tabl
   unfolding verdictAlong
   verdict-reports = rw (admitted-verdict a) (ap numberOrZero (word-accepted (fullCount T ρ) (breakingCount T ρ)), along-reports)
 
--- A word of 8 bytes is read as it was written.
-word-back : (n w : ℕ) → w < 256 ^ n → wordFrom (lowestFirst n w) ≡ w
-unfolding wordFrom lowestFirst
-word-back zero w h = omega (arith, pow-zero 256)
-word-back (suc n) w h =
-    let less : w < 256 ^ n * 256 = rw (pow-suc 256 n) at h in
-    let ih = word-back n (w / 256) (div-lt-iff-lt-mul (omega arith) .1 less) in
-    omega (arith, ih)
-
 -- The five parts of 26 bytes, with any bytes behind them.
 module _ (word share : ℕ) (f b d rest : Bytes) (lf : length f ≡ 8) (lb : length b ≡ 8) (ld : length d ≡ 8) where
   abbrev parts : Bytes
@@ -106,11 +97,11 @@ module _ (word share : ℕ) (f b d rest : Bytes) (lf : length f ≡ 8) (lb : len
 -- The 26 bytes, with any bytes behind them, read as they were written: the word, the two counts, the choice, the share.
 module _ {tables rule order : Bytes} {T : Tables} {ρ : Rule} (a : Admitted tables rule order T ρ) (rest : Bytes) where
   full-back : wordFrom (lowestFirst 8 (fullCount T ρ)) ≡ fullCount T ρ
-  full-back = word-back 8 (fullCount T ρ) (omega (arith, full-fits T ρ (few-variables a) (in-sorts a)))
+  full-back = word-lowest 8 (fullCount T ρ) (omega (arith, full-fits T ρ (few-variables a) (in-sorts a)))
 
   breaking-back : wordFrom (lowestFirst 8 (breakingCount T ρ)) ≡ breakingCount T ρ
   breaking-back =
-      word-back 8 (breakingCount T ρ)
+      word-lowest 8 (breakingCount T ρ)
       (omega (arith, full-fits T ρ (few-variables a) (in-sorts a), breaking-le-full T ρ (few-variables a) (in-sorts a)))
 
   pub bytes-report : ReportsIn T ρ order (verdictBytes T ρ order ++ rest)
@@ -121,8 +112,8 @@ module _ {tables rule order : Bytes} {T : Tables} {ρ : Rule} (a : Admitted tabl
       let b : Bytes = lowestFirst 8 (breakingCount T ρ) in
       let d : Bytes = bytesOf (firstBreaking T ρ (variablesOf order)) in
       let share : ℕ = shareOf (fullCount T ρ) (breakingCount T ρ) in
-      let lf = length-lowest 8 (fullCount T ρ) in
-      let lb = length-lowest 8 (breakingCount T ρ) in
+      let lf = lowest-length 8 (fullCount T ρ) in
+      let lb = lowest-length 8 (breakingCount T ρ) in
       let ld = first-length a in
       let whole : verdictBytes T ρ order ++ rest ≡ parts word share f b d rest lf lb ld = simp append-assoc in
       rw (

@@ -8,7 +8,9 @@ use native.Mathlib.Omega.{arith}
 use lib.ListN.{length, set, take, drop, length-append}
 use lib.Seq.{take-suc-set, take-all, take-at, drop-at, take-length, append-snoc, paste, drop-drop}
 use Rattle.verdicts.specs.declared.Verdict.{Verdict}
-use Rattle.verdicts.specs.Verdict.{lowestFirst, written}
+use Rattle.tables.specs.Bytes.{lowestFirst}
+use Rattle.tables.proofs.BytesLaws.{lowest-length}
+use Rattle.verdicts.specs.Verdict.{written}
 
 -- The bytes of a word: those stored and those of the rest are the word's.
 pub bytes-step : (b all : List ℕ) (rest i : ℕ) → i < 8 → length b ≡ 8 → take i b ++ lowestFirst (8 - i) rest ≡ all
@@ -38,11 +40,6 @@ copied old p s now at a l e =
         ∙ ap (drop (length s)) (drop-at p (drop (length p) old) (length p) refl)
         ∙ drop-drop (length s) (length p) old
 
-pub length-lowest : (n w : ℕ) → length (lowestFirst n w) ≡ n
-unfolding lowestFirst
-length-lowest zero w = refl
-length-lowest (suc n) w = ap suc (length-lowest n (w / 256))
-
 -- The five parts one after the other are the verdict's bytes.
 pub all-written : (old : List ℕ) (word : ℕ) (v : Verdict) (full breaking d₁ d₂ d₃ d₄ d₅ : List ℕ) → 26 ≤ length old → length (v .first) ≡ 8
     → full ≡ lowestFirst 8 (v .full) → breaking ≡ lowestFirst 8 (v .breaking)
@@ -50,8 +47,8 @@ pub all-written : (old : List ℕ) (word : ℕ) (v : Verdict) (full breaking d�
     → d₄ ≡ paste d₃ 17 (v .first) (length (v .first)) → d₅ ≡ paste d₄ 25 (v .share ∷ []) 1 → d₅ ≡ written word v ++ drop 26 old
 unfolding written
 all-written old word v full breaking d₁ d₂ d₃ d₄ d₅ room eight f b e₁ e₂ e₃ e₄ e₅ =
-    let lf : length full ≡ 8 = ap length f ∙ length-lowest 8 (v .full) in
-    let lb : length breaking ≡ 8 = ap length b ∙ length-lowest 8 (v .breaking) in
+    let lf : length full ≡ 8 = ap length f ∙ lowest-length 8 (v .full) in
+    let lb : length breaking ≡ 8 = ap length b ∙ lowest-length 8 (v .breaking) in
     let p₁ : List ℕ = word ∷ [] in
     let p₂ : List ℕ = p₁ ++ full in
     let p₃ : List ℕ = p₂ ++ breaking in

@@ -4,13 +4,14 @@ use mathlib.Core.Path.{_≡_}
 use mathlib.Core.Bool.{Bool, true, false, cond}
 use mathlib.Core.List.{List, [], _∷_, _++_}
 use mathlib.Core.Option.{Option, none, some}
-use Prim.Native.Nat.{ℕ, zero, suc, _/_, _%_}
+use Prim.Native.Nat.{ℕ}
 use lib.Dec.{eqb, ltb}
 use lib.ListN.{length}
 use Rattle.answers.specs.Answer.{Answer, refused, wrote, numberOrZero}
 use Rattle.answers.specs.declared.Refusal.{Refusal}
 use Rattle.answers.specs.declared.Refusal.the-variants.{NotARule, Disordered}
 use Rattle.tables.specs.Tables.{Tables}
+use Rattle.tables.specs.Bytes.{lowestFirst}
 use Rattle.tables.specs.Reading.{Reading, turned, taken, tablesOf}
 use Rattle.syntax.specs.Bytes.{Bytes}
 use Rattle.syntax.specs.Rule.{Rule, ruleVars, ruleOf}
@@ -107,11 +108,6 @@ tablesVerdict (taken T) rule order = acceptedVerdict T (refusal rule) rule order
 
 unfoldable pub verdictOf : Bytes → Bytes → Bytes → Verdict
 verdictOf tables rule order = tablesVerdict (tablesOf tables) rule order
-
--- "A word is 8 bytes, lowest byte first".
-unfoldable pub lowestFirst : ℕ → ℕ → Bytes
-lowestFirst zero w = []
-lowestFirst (suc n) w = w % 256 ∷ lowestFirst n (w / 256)
 
 -- "a verdict is written as 26 bytes (L is 26): 0 held, 1 idle or 2 broken; full and breaking as words; the choice; share"
 unfoldable pub written : ℕ → Verdict → Bytes

@@ -5,7 +5,8 @@ ghost use mathlib.Core.List.{_++_};
 ghost use Prim.Native.Nat.{_+_, _≤_};
 ghost use lib.ListN.{length, drop};
 ghost use lib.Seq.{paste};
-ghost use Rattle.verdicts.specs.Verdict.{lowestFirst, written};
+ghost use Rattle.tables.specs.Bytes.{lowestFirst};
+ghost use Rattle.verdicts.specs.Verdict.{written};
 
 // A word as 8 bytes, lowest byte first.
 fn bytes(w: u64) -> [u8; 8]

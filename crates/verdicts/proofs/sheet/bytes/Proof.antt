@@ -6,7 +6,7 @@ use Prim.Native.Nat.{_≤_, _-_, _%_}
 use native.Mathlib.Omega.{arith}
 use borrow.Author.Needs.{needs}
 use lib.ListN.{length, take, length-set}
-use Rattle.verdicts.specs.Verdict.{lowestFirst}
+use Rattle.tables.specs.Bytes.{lowestFirst}
 use Rattle.verdicts.proofs.SheetLaws.{bytes-step, bytes-end}
 use Rattle.verdicts.proofs.sheet.bytes.Statement.{statement}
 use Rattle.verdicts.proofs.sheet.bytes.Tie as tie
