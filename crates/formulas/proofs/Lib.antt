@@ -4,4 +4,3 @@ pub mod RebuildLaws
 pub mod WrittenLaws
 pub mod ReduceLaws
 pub mod Theorems
-pub mod Examples

@@ -1,115 +1,138 @@
--- The three demands, sentence by sentence, each a theorem about the answers of the tracker's calls `reduce`, `rebuild` and `judge`.
--- The calls' contracts say that their number is `reply` and the lent bytes are `outputAfter` of these answers. Assumes nothing.
-use mathlib.Core.Path.{_≡_, refl, ap, _∙_}
-use mathlib.Core.List.{[], _++_}
+-- The three demands, sentence by sentence, of what the tracker sees of `reduce`, `rebuild` and `judge`: the number r that a call returns and the
+-- lent bytes, old before it and new after it. The calls' contracts say `Reduces`, `GivesBack` and `Judges` of them. Assumes nothing.
+use mathlib.Core.Path.{_≡_, refl, ap, sym, _∙_}
+use mathlib.Core.List.{[]}
 use mathlib.Core.Option.{none, some}
 use mathlib.Core.Bool.{true}
 use mathlib.Core.Logic.{_↔_}
 use Prim.Native.Nat.{ℕ, _*_, _≤_, _<_}
 use native.Mathlib.Omega.{arith}
-use lib.ListN.{length}
+use lib.ListN.{length, take}
 use Rattle.answers.specs.Refusal.{numberOf}
-use Rattle.answers.specs.Answer.{Answer, refused, wrote, lent, reply, outputAfter}
 use Rattle.answers.specs.declared.Refusal.{Refusal}
-use Rattle.answers.specs.declared.Refusal.the-variants.{NoRulesFormula, ShortSheet, Disordered}
+use Rattle.answers.specs.declared.Refusal.the-variants.{NoRulesFormula}
 use Rattle.tables.specs.Tables.{Tables}
-use Rattle.tables.specs.Reading.{turned, taken, tablesOf}
+use Rattle.tables.specs.Reading.{taken, tablesOf}
 use Rattle.syntax.specs.Bytes.{Bytes}
-use Rattle.syntax.specs.Rule.{Rule, ruleText, ruleVars, ruleOf}
+use Rattle.syntax.specs.Rule.{Rule, ruleText, formula, ruleOf}
+use Rattle.verdicts.specs.Report.{OrderOf, ReportsIn, Admitted}
+use Rattle.rcl2000.specs.Calls.{Reduces, GivesBack, Judges, Refuses, Writes, Ends, ReduceRefuses, RebuildRefuses, JudgeRefuses, noRule, LongEnough, Reported}
+use Rattle.answers.specs.Answer.{wrote, lent}
+use Rattle.answers.proofs.AnswerLaws.{lent-fits, lent-wrote}
 use Rattle.rules.specs.Accept.{refusal, accepted}
-use Rattle.formulas.specs.Formulas.{reduced, rebuiltAnswer}
-use Rattle.formulas.proofs.Theorems as formulas
-use Rattle.walks.specs.Choices.{nothingChosen, each, ifBreaks}
-use Rattle.walks.specs.Order.{variablesOf}
-use Rattle.walks.specs.Walk.{walk}
-use Rattle.values.specs.Sets.{inSet, breaks}
-use Rattle.verdicts.specs.Verdict.{fullCount, breakingCount, verdictBytes, judged}
-use Rattle.verdicts.specs.Report.{OrderOf, Admitted, ReportsIn}
-use Rattle.verdicts.proofs.VerdictLaws as verdicts
-use Rattle.answers.proofs.AnswerLaws.{number-some, number-few, lent-refused, lent-fits, lent-short}
-use Rattle.verdicts.proofs.JudgedLaws.{admitted-wrote, bytes-length, few-variables, in-sorts, tables-turned, rule-turned, order-turned, judged-turned}
-use Rattle.verdicts.proofs.ReportLaws.{bytes-report}
+use Rattle.formulas.specs.Formulas.{RuleOf, formulaOf, reduced, Rebuilds, gives}
+use Rattle.formulas.proofs.AcceptLaws.{accepted-gives}
+use Rattle.formulas.proofs.RebuildLaws.{accepted-formula, none-true, rule-of, rule-once, rebuilds-once}
+use Rattle.formulas.proofs.Theorems.{rule-given}
+use Rattle.rcl2000.proofs.CallLaws.{through, sees-refused, sees-wrote, refuses-exactly, writes-exactly, call-ends}
+use Rattle.rcl2000.proofs.FormulaLaws.{reduced-short, rebuilt-short, formula-answered, long-enough, reduce-refused, rebuild-refused}
+use Rattle.rcl2000.proofs.JudgeLaws.{judged-short, judge-refused, admitted-reported, written-admitted}
 
--- What the three calls answer where n bytes of output are lent.
+-- DEMAND 1. "every public entry point, on every input, finishes with an answer or a numbered refusal; a refusal carries no result and changes no
+-- lent byte": that the calls finish is what the proof of a contract with no `requires` says; whatever they return is an answer or a refusal.
 
-abbrev pub reduces : ℕ → Bytes → Answer
-reduces n rule = lent n (reduced rule)
+pub reduce-ends : (rule old new : Bytes) (r : ℕ) → Reduces rule old new r → Ends old new r
+reduce-ends rule old new r s = call-ends s (reduced-short rule)
 
-abbrev pub rebuilds : ℕ → Bytes → Answer
-rebuilds n formula = lent n (rebuiltAnswer formula)
+pub rebuild-ends : (formula old new : Bytes) (r : ℕ) → GivesBack formula old new r → Ends old new r
+rebuild-ends formula old new r g = call-ends (g .sees) (rebuilt-short (g .rebuilds))
 
-abbrev pub judges : ℕ → Bytes → Bytes → Bytes → Answer
-judges n tables rule order = lent n (judged tables rule order)
+pub judge-ends : (tables rule order old new : Bytes) (r : ℕ) → Judges tables rule order old new r → Ends old new r
+judge-ends tables rule order old new r s = call-ends s (judged-short tables rule order)
 
--- DEMAND 1. "Every public entry point, on every input, finishes with an answer or a numbered refusal": that the calls finish is what the proof
--- of a contract with no `requires` says; an answer is a refusal, with a number from 1 to 18, or bytes.
+-- DEMAND 2. "input is refused exactly where [document 01] says, by the number given there".
 
-pub refusals-are-numbered : (r : Refusal) → (1 ≤ numberOf r) × (numberOf r ≤ 18)
-refusals-are-numbered r = (number-some r, number-few r)
+pub reduce-refuses : (rule old new : Bytes) (r : ℕ) → Reduces rule old new r → (e : Refusal) → (r ≡ 65536 * numberOf e) ↔ ReduceRefuses rule (length old) e
+reduce-refuses rule old new r s e = through (refuses-exactly s (reduced-short rule) e) (reduce-refused rule (length old) e)
 
--- "a refusal carries no result": the tracker's number is the refusal's alone;
-pub refusal-has-no-result : (r : Refusal) → reply (refused r) ≡ 65536 * numberOf r
-unfolding reply
-refusal-has-no-result r = refl
+pub rebuild-refuses : (formula old new : Bytes) (r : ℕ) → GivesBack formula old new r → (e : Refusal)
+    → (r ≡ 65536 * numberOf e) ↔ RebuildRefuses formula (length old) e
+rebuild-refuses formula old new r g e = through (refuses-exactly (g .sees) (rebuilt-short (g .rebuilds)) e) (rebuild-refused (g .rebuilds) (length old) e)
 
--- "and changes no lent byte".
-pub refusal-keeps-bytes : (r : Refusal) (old : Bytes) → outputAfter (refused r) old ≡ old
-unfolding outputAfter
-refusal-keeps-bytes r old = refl
+pub judge-refuses : (tables rule order old new : Bytes) (r : ℕ) → Judges tables rule order old new r → (e : Refusal)
+    → (r ≡ 65536 * numberOf e) ↔ JudgeRefuses tables rule order (length old) e
+judge-refuses tables rule order old new r s e = through (refuses-exactly s (judged-short tables rule order) e) (judge-refused tables rule order (length old) e)
 
--- DEMAND 2. "input is refused exactly where [document 01] says, by the number given there": the refusals one after the other. (11 to 15 of a rule
--- are `refusal`, 1 to 10 of tables are `tablesOf`, both by definition in document 01's order.)
+-- "Formulas, rebuilt rules and verdicts are those of document 01": a number below 65,536 is returned exactly where something is written, and that is
+-- the formula of the accepted rule, the accepted rule whose formula this is, the verdict's 26 bytes.
 
-pub reduce-refuses-rules : (n : ℕ) (rule : Bytes) (e : Refusal) → refusal rule ≡ some e → reduces n rule ≡ refused e
-unfolding reduced lent
-reduce-refuses-rules n rule e h = rw (h, reduced)
+pub reduce-writes : (rule old new : Bytes) (r : ℕ) → Reduces rule old new r → (r < 65536) ↔ ((f : Bytes) × RuleOf f rule × Writes f old new r)
+reduce-writes rule old new r s = (
+  λ q.
+      let w = writes-exactly s (reduced-short rule) .0 q in
+      (w .0, rule-of (lent-wrote (length old) (reduced rule) (w .0) (w .1)), sees-wrote s (reduced-short rule) (w .1)),
+  λ x. x .2 .below,
+)
 
-pub judge-refuses-tables : (n : ℕ) (tables rule order : Bytes) (e : Refusal) → tablesOf tables ≡ turned e → judges n tables rule order ≡ refused e
-judge-refuses-tables n tables rule order e h = ap (lent n) (judged-turned tables rule order e (tables-turned tables rule order e h)) ∙ lent-refused n e
+pub rebuild-writes : (formula old new : Bytes) (r : ℕ) → GivesBack formula old new r
+    → (r < 65536) ↔ ((rule : Bytes) × RuleOf formula rule × Writes rule old new r)
+rebuild-writes formula old new r g = (
+  λ q.
+      let w = writes-exactly (g .sees) (rebuilt-short (g .rebuilds)) .0 q in
+      let x : Rebuilds formula (wrote (w .0)) = rw (lent-wrote (length old) (g .answer) (w .0) (w .1)) at (g .rebuilds) in
+      let p = rule-given formula (w .0) .0 x in
+      (w .0, record { accepts = p .0; formula = p .1 }, sees-wrote (g .sees) (rebuilt-short (g .rebuilds)) (w .1)),
+  λ x. x .2 .below,
+)
 
-pub judge-refuses-rules : (n : ℕ) (tables rule order : Bytes) (T : Tables) (e : Refusal) → tablesOf tables ≡ taken T → refusal rule ≡ some e
-    → judges n tables rule order ≡ refused e
-judge-refuses-rules n tables rule order T e h g = ap (lent n) (judged-turned tables rule order e (rule-turned tables rule order T e h g)) ∙ lent-refused n e
+pub judge-writes : (tables rule order old new : Bytes) (r : ℕ) → Judges tables rule order old new r
+    → (r < 65536) ↔ ((T : Tables) × (ρ : Rule) × Admitted tables rule order T ρ × (26 ≤ length old) × (r ≡ 26) × Reported T ρ order old new)
+judge-writes tables rule order old new r s = (
+  λ q.
+      let w = writes-exactly s (judged-short tables rule order) .0 q in
+      let (T, ρ, a, room) = written-admitted (length old) (w .0) (w .1) in
+      let (n, told) = admitted-reported a s room in
+      (T, ρ, a, room, n, told),
+  λ (T, ρ, a, room, n, told). omega arith,
+)
 
-pub judge-refuses-orders : (n : ℕ) (tables rule order : Bytes) (T : Tables) (ρ : Rule) → tablesOf tables ≡ taken T → refusal rule ≡ none → ruleOf rule ≡ some ρ
-    → (OrderOf ρ order → ⊥) → judges n tables rule order ≡ refused Disordered
-judge-refuses-orders n tables rule order T ρ h g t o =
-    ap (lent n) (judged-turned tables rule order Disordered (order-turned tables rule order T ρ h g t o)) ∙ lent-refused n Disordered
-
--- "There 17 follows 18": an admitted input is answered with 26 bytes where they fit, and 17 where not.
-module _ {tables rule order : Bytes} {T : Tables} {ρ : Rule} (a : Admitted tables rule order T ρ) where
-  pub judge-writes : (n : ℕ) → 26 ≤ n → judges n tables rule order ≡ wrote (verdictBytes T ρ order)
-  judge-writes n h = ap (lent n) (admitted-wrote a) ∙ lent-fits n (verdictBytes T ρ order) (omega (arith, bytes-length a))
-
-  pub judge-refuses-short : (n : ℕ) → n < 26 → judges n tables rule order ≡ refused ShortSheet
-  judge-refuses-short n h = ap (lent n) (admitted-wrote a) ∙ lent-short n (verdictBytes T ρ order) (omega (arith, bytes-length a))
-
--- DEMAND 3. "Formula written = formula defined".
+-- DEMAND 3. "For every two accepted rules, each turned into its formula on any sheet long enough, the bytes written are the formula that document 01
+-- builds": of the tree that the rule is the text of;
 pub formula-written : (rule : Bytes) → accepted rule ≡ true
-    → (ρ : Rule) × (rule ≡ ruleText [] ρ) × ((n : ℕ) → length (formulas.worded ρ) ≤ n → reduces n rule ≡ wrote (formulas.worded ρ))
-formula-written rule h = formulas.formula-written rule h
+    → (ρ : Rule) × (rule ≡ ruleText [] ρ) × ((old new : Bytes) (r : ℕ) → length (formula ρ) ≤ length old → Reduces rule old new r → Writes (formula ρ) old new r)
+formula-written rule h =
+    let a = accepted-gives rule (none-true (refusal rule) h) in
+    let f : RuleOf (formula (a .rule)) rule = record { accepts = h; formula = accepted-formula a } in
+    (a .rule, a .text, λ old new r room s. sees-wrote s (reduced-short rule) (ap (lent (length old)) (formula-answered rule f) ∙ lent-fits (length old) (formula (a .rule)) room))
 
--- "formulas equal exactly when rules are".
-pub formulas-equal : (r s f g : Bytes) (n m : ℕ) → reduces n r ≡ wrote f → reduces m s ≡ wrote g → (f ≡ g) ↔ (r ≡ s)
-formulas-equal r s f g n m p q = formulas.formulas-equal r s f g n m p q
+-- "and the two formulas are equal, byte for byte, exactly when the rules are."
+pub formulas-equal : (rule rule₂ : Bytes) → accepted rule ≡ true → accepted rule₂ ≡ true → (old new old₂ new₂ : Bytes) (r r₂ : ℕ)
+    → LongEnough rule old → LongEnough rule₂ old₂ → Reduces rule old new r → Reduces rule₂ old₂ new₂ r₂ → (take r new ≡ take r₂ new₂) ↔ (rule ≡ rule₂)
+formulas-equal rule rule₂ h h₂ old new old₂ new₂ r r₂ l l₂ s s₂ =
+    let (f, p, w) = long-enough rule h l s in
+    let (g, q, v) = long-enough rule₂ h₂ l₂ s₂ in (
+      λ e.
+          let same : f ≡ g = cc (w .front, v .front) in
+          let own : RuleOf f rule₂ = rw same q in
+          rule-once p own,
+      λ e. let same : f ≡ g = cc (p .formula, q .formula, ap formulaOf e) in cc (w .front, v .front),
+    )
 
--- "a formula gives back exactly its rule".
-pub formula-gives-back : (rule f : Bytes) (n m : ℕ) → reduces n rule ≡ wrote f → length rule ≤ m → rebuilds m f ≡ wrote rule
-formula-gives-back rule f n m p h = formulas.formula-handed-back rule f n m p h
+-- "Every such formula, handed back with any sheet long enough, gives exactly its own rule."
+pub formula-gives-back : (rule : Bytes) → accepted rule ≡ true → (old new old₂ new₂ : Bytes) (r r₂ : ℕ) → LongEnough rule old → Reduces rule old new r
+    → length rule ≤ length old₂ → GivesBack (take r new) old₂ new₂ r₂ → Writes rule old₂ new₂ r₂
+formula-gives-back rule h old new old₂ new₂ r r₂ l s room g =
+    let (f, p, w) = long-enough rule h l s in
+    let x : Rebuilds f (g .answer) = rw (w .front) at (g .rebuilds) in
+    sees-wrote (g .sees) (rebuilt-short (g .rebuilds)) (ap (lent (length old₂)) (rebuilds-once x (gives p)) ∙ lent-fits (length old₂) rule room)
 
--- "other bytes give none".
-pub other-bytes-give-none : (f : Bytes) → ((rule : Bytes) (n : ℕ) → reduces n rule ≡ wrote f → ⊥) → (m : ℕ) → rebuilds m f ≡ refused NoRulesFormula
-other-bytes-give-none f h m = formulas.others-refused f h m
+-- "Bytes that are no accepted rule's formula give back none, whatever sheet is lent."
+pub other-bytes-give-none : (f : Bytes) → ((rule : Bytes) → RuleOf f rule → ⊥) → (old new : Bytes) (r : ℕ) → GivesBack f old new r
+    → Refuses NoRulesFormula old new r
+other-bytes-give-none f h old new r g = sees-refused (g .sees) (rebuild-refused (g .rebuilds) (length old) NoRulesFormula .1 (noRule h))
 
--- "the verdict's two counts are the order-free counts for every admissible order", "broken / idle / held exactly as the counts say": what the 26
--- bytes report, with any bytes behind them;
-module _ {tables rule order : Bytes} {T : Tables} {ρ : Rule} (a : Admitted tables rule order T ρ) where
-  pub verdict-reported : (rest : Bytes) → ReportsIn T ρ order (verdictBytes T ρ order ++ rest)
-  verdict-reported rest = bytes-report a rest
-
-  -- the counts are what the walk along the order counts, for every order.
-  pub full-walked : walk 64 (inSet T (ruleVars [] ρ)) each (variablesOf order) nothingChosen ≡ fullCount T ρ
-  full-walked = verdicts.walk-full T ρ (few-variables a) (in-sorts a) (variablesOf order) (a .ordered)
-
-  pub breaking-walked : walk 64 (inSet T (ruleVars [] ρ)) (ifBreaks (breaks T (ruleVars [] ρ) ρ)) (variablesOf order) nothingChosen ≡ breakingCount T ρ
-  breaking-walked = verdicts.walk-breaking T ρ (few-variables a) (in-sorts a) (variablesOf order) (a .ordered)
+-- "For every accepted rule, all accepted tables and every order of the rule's variables that puts each after those its set names, the verdict reports
+-- the number of full choices and the number among them that make the rule false. It is "broken" exactly when the second is above zero, "idle" exactly
+-- when the first is zero, and otherwise "held". Where a verdict is written on a lent sheet, this is meant for every sheet long enough." `Reported`
+-- says all of it of the lent bytes, with the first breaking choice and the share; that the accepted rule has a tree is part of it.
+pub verdict-reported : (rule : Bytes) → accepted rule ≡ true
+    → (ρ : Rule) × (rule ≡ ruleText [] ρ) × ((tables order old new : Bytes) (T : Tables) (r : ℕ) → tablesOf tables ≡ taken T → OrderOf ρ order → 26 ≤ length old
+    → Judges tables rule order old new r → (r ≡ 26) × Reported T ρ order old new)
+verdict-reported rule h =
+    let n = none-true (refusal rule) h in
+    let a = accepted-gives rule n in (
+      a .rule,
+      a .text,
+      λ tables order old new T r t o room s.
+          admitted-reported (record { reads = t; accepts = n; tree = a .reads; ordered = o }) s room,
+    )

@@ -1,4 +1,7 @@
--- Laws of the tracker's numbers, of what judging admits, and the demands.
+-- Laws of the tracker's numbers, of what each call answers, and the demands.
 pub mod ReplyLaws
+pub mod CallLaws
+pub mod FormulaLaws
+pub mod JudgeLaws
 pub mod Demands
 pub mod Examples

@@ -1,2 +1,4 @@
 -- The tracker's calls.
+pub mod Calls
+pub mod Examples
 pub mod code

@@ -2,10 +2,7 @@
 // Below these nothing knows the tracker's numbers.
 ghost use mathlib.Core.Path.{_≡_};
 ghost use Prim.Native.Nat.{_<_};
-ghost use lib.ListN.{length};
-ghost use Rattle.answers.specs.Answer.{lent, reply, outputAfter};
-ghost use Rattle.formulas.specs.Formulas.{reduced, rebuiltAnswer};
-ghost use Rattle.verdicts.specs.Verdict.{judged};
+ghost use Rattle.rcl2000.specs.Calls.{Reduces, GivesBack, Judges};
 ghost use Rattle.rcl2000.specs.code.Reply.{replyOf};
 use answers::Written;
 
@@ -23,8 +20,7 @@ fn number(written: Written) -> u32
 // Rule to formula.
 #[no_mangle]
 pub extern "C" fn reduce(rule: &[u8], out: &mut [u8]) -> u32
-    ensures number { λ r. ⌜ r ≡ reply (lent (length (now (out .entry))) (reduced (now (rule .entry)))) ⌝ }
-    ensures bytes { λ r. ⌜ now (out .exit) ≡ outputAfter (lent (length (now (out .entry))) (reduced (now (rule .entry)))) (now (out .entry)) ⌝ }
+    ensures { λ r. ⌜ Reduces (now (rule .entry)) (now (out .entry)) (now (out .exit)) r ⌝ }
 {
     number(formulas::reduce(rule, out))
 }
@@ -32,8 +28,7 @@ pub extern "C" fn reduce(rule: &[u8], out: &mut [u8]) -> u32
 // Formula to rule.
 #[no_mangle]
 pub extern "C" fn rebuild(formula: &[u8], out: &mut [u8]) -> u32
-    ensures number { λ r. ⌜ r ≡ reply (lent (length (now (out .entry))) (rebuiltAnswer (now (formula .entry)))) ⌝ }
-    ensures bytes { λ r. ⌜ now (out .exit) ≡ outputAfter (lent (length (now (out .entry))) (rebuiltAnswer (now (formula .entry)))) (now (out .entry)) ⌝ }
+    ensures { λ r. ⌜ GivesBack (now (formula .entry)) (now (out .entry)) (now (out .exit)) r ⌝ }
 {
     number(formulas::rebuild(formula, out))
 }
@@ -41,8 +36,7 @@ pub extern "C" fn rebuild(formula: &[u8], out: &mut [u8]) -> u32
 // The verdict on a rule, walked along an order.
 #[no_mangle]
 pub extern "C" fn judge(tables: &[u8], rule: &[u8], order: &[u8], out: &mut [u8]) -> u32
-    ensures number { λ r. ⌜ r ≡ reply (lent (length (now (out .entry))) (judged (now (tables .entry)) (now (rule .entry)) (now (order .entry)))) ⌝ }
-    ensures bytes { λ r. ⌜ now (out .exit) ≡ outputAfter (lent (length (now (out .entry))) (judged (now (tables .entry)) (now (rule .entry)) (now (order .entry)))) (now (out .entry)) ⌝ }
+    ensures { λ r. ⌜ Judges (now (tables .entry)) (now (rule .entry)) (now (order .entry)) (now (out .entry)) (now (out .exit)) r ⌝ }
 {
     number(verdicts::judge(tables, rule, order, out))
 }

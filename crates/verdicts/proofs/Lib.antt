@@ -7,5 +7,3 @@ pub mod SheetLaws
 pub mod DecideLaws
 pub mod JudgedLaws
 pub mod ReportLaws
-pub mod ExampleTables
-pub mod Examples

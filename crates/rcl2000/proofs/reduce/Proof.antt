@@ -1,8 +1,8 @@
--- `reduce`: what crate formulas returns, as the tracker's number; no formula passes 4,096 bytes.
+-- `reduce`: what the crate below said, as the tracker's number; no formula passes 4,096 bytes.
 -- Assumes nothing.
 use borrow.Author.Needs.{needs}
-use Rattle.formulas.proofs.Theorems.{formula-at-most}
-use Rattle.rcl2000.proofs.ReplyLaws.{reply-fits, reply-is}
+use Rattle.rcl2000.proofs.CallLaws.{call-fits, call-seen}
+use Rattle.rcl2000.proofs.FormulaLaws.{reduced-short}
 use Rattle.rcl2000.proofs.reduce.Statement.{statement}
 use Rattle.rcl2000.proofs.reduce.Tie as tie
 
@@ -10,13 +10,13 @@ reduce-requires : tie.Need-reduce-requires
 reduce-requires c κs = search needs
 
 number-requires : tie.Need-number-requires
-number-requires c κs = reply-fits (c .before .before .reduce .ensures) (λ b e. formula-at-most _ b _ e)
+number-requires c κs = call-fits (c .before .before .reduce .ensures) (reduced-short _)
 
 same-length : tie.Need-same-length
 same-length c = search needs
 
 returns : tie.Need-returns
-returns c = (reply-is (c .before .before .before .reduce .ensures) (c .number .ensures), c .before .before .before .reduce .ensures .output)
+returns c = call-seen (c .before .before .before .reduce .ensures) (c .number .ensures)
 
 pub reduce-spec : {M : Type 1} → statement M
 reduce-spec = tie.close (tie.spec reduce-requires number-requires same-length returns)

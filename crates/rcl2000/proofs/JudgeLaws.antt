@@ -1,0 +1,84 @@
+-- What `judge` answers where n bytes are lent: exactly where it refuses, and what it writes.
+-- Assumes nothing.
+use mathlib.Core.Path.{_≡_, refl, ap, sym, _∙_}
+use mathlib.Core.List.{_++_}
+use mathlib.Core.Option.{some}
+use mathlib.Core.Logic.{_↔_}
+use Prim.Native.Nat.{ℕ, _≤_, _<_}
+use native.Mathlib.Omega.{arith}
+use lib.ListN.{length, take, drop, take-append-drop}
+use Rattle.answers.specs.Answer.{refused, wrote, lent}
+use Rattle.answers.specs.declared.Refusal.{Refusal}
+use Rattle.answers.specs.declared.Refusal.the-variants.{Disordered}
+use Rattle.answers.proofs.AnswerLaws.{lent-refused, lent-fits, lent-short, lent-wrote}
+use Rattle.tables.specs.Tables.{Tables}
+use Rattle.tables.specs.Reading.{turned}
+use Rattle.syntax.specs.Bytes.{Bytes}
+use Rattle.syntax.specs.Rule.{Rule}
+use Rattle.verdicts.specs.Verdict.{judged}
+use Rattle.verdicts.specs.Report.{ReportsIn, Admitted, Met, badTables, badRule, badOrder, good}
+use Rattle.verdicts.proofs.JudgedLaws.{tables-turned, rule-turned, order-turned, judged-turned, met, written-length}
+use Rattle.verdicts.proofs.ReportLaws.{judged-reports}
+use Rattle.rcl2000.specs.Calls.{Judges, Writes, Reported, JudgeRefuses, tablesRefused, judgedRefused, orderRefused, verdictLonger}
+use Rattle.rcl2000.proofs.CallLaws.{Short, lent-room, sees-wrote}
+use Rattle.rcl2000.proofs.FormulaLaws.{short-lent, same-lent}
+
+module _ (tables rule order : Bytes) where
+  pub judged-short : Short (judged tables rule order)
+  judged-short w q = omega (arith, written-length tables rule order w q)
+
+  pub judge-refused : (n : ℕ) (e : Refusal) → (lent n (judged tables rule order) ≡ refused e) ↔ JudgeRefuses tables rule order n e
+  judge-refused n e = (λ q. there (met tables rule order) q, λ x. back x)
+    where
+      same : {d : Refusal} → judged tables rule order ≡ refused d → lent n (judged tables rule order) ≡ refused e → d ≡ e
+      same is q = same-lent n (sym (ap (lent n) is) ∙ q)
+
+      there : Met tables rule order → lent n (judged tables rule order) ≡ refused e → JudgeRefuses tables rule order n e
+      there (badTables d t) q =
+          let s = same (judged-turned tables rule order d (tables-turned tables rule order d t)) q in
+          tablesRefused (t ∙ ap turned s)
+      there (badRule T d t r) q =
+          let s = same (judged-turned tables rule order d (rule-turned tables rule order T d t r)) q in
+          judgedRefused t (r ∙ ap some s)
+      there (badOrder T ρ t r h bad) q =
+          let s = same (judged-turned tables rule order Disordered (order-turned tables rule order T ρ t r h bad)) q in
+          rw (← s) (orderRefused t r h bad)
+      there (good T ρ a) q =
+          let (b, is, told) = judged-reports a in
+          let s = short-lent n b (sym (ap (lent n) is) ∙ q) in
+          rw (← (s .0)) (verdictLonger a (omega (arith, s .1, told .long)))
+
+      refuse : (d : Refusal) → judged tables rule order ≡ refused d → lent n (judged tables rule order) ≡ refused d
+      refuse d is = ap (lent n) is ∙ lent-refused n d
+
+      back : {e : Refusal} → JudgeRefuses tables rule order n e → lent n (judged tables rule order) ≡ refused e
+      back {e} (tablesRefused t) = refuse e (judged-turned tables rule order e (tables-turned tables rule order e t))
+      back {e} (judgedRefused {T} t r) = refuse e (judged-turned tables rule order e (rule-turned tables rule order T e t r))
+      back (orderRefused {T} {ρ} t r h bad) = refuse Disordered (judged-turned tables rule order Disordered (order-turned tables rule order T ρ t r h bad))
+      back (verdictLonger a l) =
+          let (b, is, told) = judged-reports a in
+          ap (lent n) is ∙ lent-short n b (omega (arith, told .long))
+
+-- An admitted input is answered with 26 bytes that report the verdict, on every output that has room for them.
+module _ {tables rule order old new : Bytes} {T : Tables} {ρ : Rule} {r : ℕ} (a : Admitted tables rule order T ρ) (s : Judges tables rule order old new r) where
+  pub admitted-reported : 26 ≤ length old → (r ≡ 26) × Reported T ρ order old new
+  admitted-reported room =
+      let (b, is, told) = judged-reports a in
+      let w = sees-wrote s (judged-short tables rule order) (ap (lent (length old)) is ∙ lent-fits (length old) b (omega (arith, told .long))) in
+      let n : r ≡ 26 = w .number ∙ told .long in
+      let whole : new ≡ b ++ drop r new = sym (take-append-drop r new) ∙ ap (λ (x : Bytes). x ++ drop r new) (w .front) in
+      (n, record { reports = rw whole (told .reports (drop r new)); kept = rw n at (w .kept); same = w .same })
+
+-- Whatever was written was written of an admitted input.
+pub written-admitted : {tables rule order : Bytes} (n : ℕ) (b : Bytes) → lent n (judged tables rule order) ≡ wrote b
+    → (T : Tables) × (ρ : Rule) × Admitted tables rule order T ρ × (26 ≤ n)
+written-admitted {tables} {rule} {order} n b q = go (met tables rule order)
+  where
+    never : {d : Refusal} {A : Type 0} → judged tables rule order ≡ refused d → A
+    never {d} is = let z : _≡_ {A = ℕ} 0 1 = cc (sym (lent-refused n d) ∙ ap (lent n) (sym is) ∙ q) in absurd (omega arith)
+
+    go : Met tables rule order → (T : Tables) × (ρ : Rule) × Admitted tables rule order T ρ × (26 ≤ n)
+    go (badTables d t) = never (judged-turned tables rule order d (tables-turned tables rule order d t))
+    go (badRule T d t r) = never (judged-turned tables rule order d (rule-turned tables rule order T d t r))
+    go (badOrder T ρ t r h bad) = never (judged-turned tables rule order Disordered (order-turned tables rule order T ρ t r h bad))
+    go (good T ρ a) = (T, ρ, a, omega (arith, lent-room n (judged tables rule order) b q, written-length tables rule order b (lent-wrote n (judged tables rule order) b q)))

@@ -1,0 +1,86 @@
+-- What the tracker sees of its calls: the number that a call returns, and the lent bytes before (old) and after it (new).
+-- Assumes nothing.
+use mathlib.Core.Path.{_≡_}
+use mathlib.Core.Option.{none, some}
+use Prim.Native.Nat.{ℕ, _*_, _≤_, _<_}
+use lib.ListN.{length, take, drop}
+use Rattle.answers.specs.Refusal.{numberOf}
+use Rattle.answers.specs.Answer.{Answer, lent, reply, outputAfter}
+use Rattle.answers.specs.declared.Refusal.{Refusal}
+use Rattle.answers.specs.declared.Refusal.the-variants.{NoRulesFormula, ShortSheet, Disordered}
+use Rattle.tables.specs.Tables.{Tables}
+use Rattle.tables.specs.Reading.{turned, taken, tablesOf}
+use Rattle.syntax.specs.Bytes.{Bytes}
+use Rattle.syntax.specs.Rule.{Rule, ruleOf}
+use Rattle.rules.specs.Accept.{refusal}
+use Rattle.formulas.specs.Formulas.{RuleOf, reduced, Rebuilds}
+use Rattle.verdicts.specs.Verdict.{judged}
+use Rattle.verdicts.specs.Report.{OrderOf, ReportsIn, Admitted}
+
+-- A call that answers a: "Calls from the tracker return one number: L, or 65,536 × the refusal number"; "lent bytes keep their contents.
+-- Success writes the first L bytes, returns L, keeps the rest."
+pub record Sees (a : Answer) (old new : Bytes) (r : ℕ) : Type 0 where
+  pub number : r ≡ reply (lent (length old) a)
+  pub bytes : new ≡ outputAfter (lent (length old) a) old
+
+-- r and new are what `reduce` gives for a rule,
+abbrev pub Reduces : Bytes → Bytes → Bytes → ℕ → Type 0
+Reduces rule old new r = Sees (reduced rule) old new r
+
+-- `judge` for tables, a rule and an order,
+abbrev pub Judges : Bytes → Bytes → Bytes → Bytes → Bytes → ℕ → Type 0
+Judges tables rule order old new r = Sees (judged tables rule order) old new r
+
+-- and `rebuild` for a formula.
+pub record GivesBack (formula old new : Bytes) (r : ℕ) : Type 0 where
+  pub answer : Answer
+  pub rebuilds : Rebuilds formula answer
+  pub sees : Sees answer old new r
+
+-- The call refused by e: its number and no result, and every lent byte as it was.
+pub record Refuses (e : Refusal) (old new : Bytes) (r : ℕ) : Type 0 where
+  pub number : r ≡ 65536 * numberOf e
+  pub kept : new ≡ old
+
+-- The call wrote the text w: its length is the number, w are the first bytes, and the rest is as it was.
+pub record Writes (w old new : Bytes) (r : ℕ) : Type 0 where
+  pub number : r ≡ length w
+  pub below : r < 65536
+  pub front : take r new ≡ w
+  pub kept : drop r new ≡ drop r old
+  pub same : length new ≡ length old
+
+-- "finishes with an answer or a numbered refusal"
+pub data Ends (old new : Bytes) (r : ℕ) : Type 0 where
+  answers : (w : Bytes) → Writes w old new r → Ends old new r
+  refuses : (e : Refusal) → 1 ≤ numberOf e → numberOf e ≤ 18 → Refuses e old new r → Ends old new r
+
+-- Where a call refuses, and by which refusal, n bytes of output lent.
+
+-- "Rules are checked 11 to 15 in order; 17 follows 15": 17 where the rule is accepted and its formula is longer.
+pub data ReduceRefuses (rule : Bytes) (n : ℕ) : Refusal → Type 0 where
+  ruleRefused : {e : Refusal} → refusal rule ≡ some e → ReduceRefuses rule n e
+  formulaLonger : {f : Bytes} → RuleOf f rule → n < length f → ReduceRefuses rule n ShortSheet
+
+-- "or 16 when rebuilding": 16 where "no accepted rule has this formula", 17 where one has and is longer.
+pub data RebuildRefuses (f : Bytes) (n : ℕ) : Refusal → Type 0 where
+  noRule : ((rule : Bytes) → RuleOf f rule → ⊥) → RebuildRefuses f n NoRulesFormula
+  ruleLonger : {rule : Bytes} → RuleOf f rule → n < length rule → RebuildRefuses f n ShortSheet
+
+-- "Judging checks tables, rule, order"; "There 17 follows 18", and "L is 26".
+pub data JudgeRefuses (tables rule order : Bytes) (n : ℕ) : Refusal → Type 0 where
+  tablesRefused : {e : Refusal} → tablesOf tables ≡ turned e → JudgeRefuses tables rule order n e
+  judgedRefused : {T : Tables} {e : Refusal} → tablesOf tables ≡ taken T → refusal rule ≡ some e → JudgeRefuses tables rule order n e
+  orderRefused : {T : Tables} {ρ : Rule} → tablesOf tables ≡ taken T → refusal rule ≡ none → ruleOf rule ≡ some ρ → (OrderOf ρ order → ⊥)
+      → JudgeRefuses tables rule order n Disordered
+  verdictLonger : {T : Tables} {ρ : Rule} → Admitted tables rule order T ρ → n < 26 → JudgeRefuses tables rule order n ShortSheet
+
+-- "any sheet long enough" for the formula of a rule.
+abbrev pub LongEnough : Bytes → Bytes → Type 0
+LongEnough rule old = (f : Bytes) → RuleOf f rule → length f ≤ length old
+
+-- The lent bytes after a verdict was written: the first 26 report it, and the rest is as it was.
+pub record Reported (T : Tables) (ρ : Rule) (order old new : Bytes) : Type 0 where
+  pub reports : ReportsIn T ρ order new
+  pub kept : drop 26 new ≡ drop 26 old
+  pub same : length new ≡ length old
