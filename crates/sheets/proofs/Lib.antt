@@ -3,3 +3,4 @@ pub mod LineLaws
 pub mod SheetLaws
 pub mod JudgedLaws
 pub mod OrderLaws
+pub mod Demands

@@ -16,16 +16,15 @@ ghost use Rattle.answers.specs.Refusal.{numberOf};
 ghost use Rattle.syntax.specs.Bytes.{ascii};
 ghost use Rattle.tables.specs.Tables.{Tables};
 ghost use Rattle.tables.specs.Reading.{taken, tablesOf};
-ghost use Rattle.answers.specs.Answer.{lent, wrote};
-ghost use Rattle.answers.specs.Written.{Answers};
 ghost use Rattle.texts.specs.code.Written.{Written as Puts};
 ghost use Rattle.sheets.specs.Line.{numbered, lineText};
 ghost use Rattle.sheets.specs.Sheet.{only, ruleVerdict, unlessLong, sheetOf, sheetLine};
+ghost use Rattle.sheets.specs.Promise.{Lines};
 ghost use Rattle.sheets.specs.code.Orders.{Counted};
 
 // The line at a place, from 1, without byte 10; no bytes at any other place.
 pub fn line(tables: &[u8], rules: &[u8], place: usize, out: &mut [u8]) -> Written
-    ensures { λ r. ⌜ Answers (lent (length (now (out .entry))) (wrote (sheetLine (sheetOf (now (tables .entry)) (now (rules .entry))) place))) (now (out .entry)) (now (out .exit)) r ⌝ }
+    ensures { λ r. ⌜ Lines (now (tables .entry)) (now (rules .entry)) place (now (out .entry)) (now (out .exit)) r ⌝ }
 {
     let mut text = [0u8; 512];
     let n = write_line(tables, rules, place, &mut text);

@@ -1,0 +1,100 @@
+-- The demands, of what the caller of `sheets::line` sees.
+-- Assumes nothing.
+use mathlib.Core.Path.{_≡_, refl, ap, sym, _∙_}
+use mathlib.Core.List.{List, [], _++_}
+use mathlib.Core.Option.{Option, none, some}
+use mathlib.Core.Bool.{Bool, true, false}
+use mathlib.Core.Logic.{_⊎_, inl, inr}
+use Prim.Native.Nat.{ℕ, suc, _-_, _≤_, _<_}
+use native.Mathlib.Omega.{arith}
+use lib.Dec.{leb}
+use lib.ListN.{length, take, drop, getElem?}
+use lib.Seq.{take-at, drop-at}
+use borrow.Author.Tests.{le-leb, leb-false}
+use Rattle.answers.specs.Refusal.{numberOf}
+use Rattle.answers.specs.Answer.{Answer, wrote, refused, ifRoom, lent, outputAfter, answerNumber, answerLength}
+use Rattle.answers.specs.Written.{numberIn, lengthIn, Answers}
+use Rattle.answers.specs.declared.Written.{Written}
+use Rattle.answers.specs.declared.Refusal.{Refusal}
+use Rattle.syntax.specs.Bytes.{Bytes, ascii}
+use Rattle.syntax.specs.Rule.{Rule, ruleText, ruleVars, ruleOf}
+use Rattle.syntax.proofs.RuleLaws.{rule-text}
+use Rattle.rules.specs.Accept.{refusal, isNone, accepted}
+use Rattle.rules.proofs.AcceptLaws.{accepted-rule}
+use Rattle.tables.specs.Tables.{Tables}
+use Rattle.tables.specs.Reading.{taken, tablesOf}
+use Rattle.texts.specs.Pieces.{lines}
+use Rattle.texts.specs.Decimal.{decimalOf}
+use Rattle.walks.specs.Order.{upFrom, variablesOf}
+use Rattle.walks.proofs.OrderLaws.{order-admissible}
+use Rattle.values.specs.Sets.{names}
+use Rattle.verdicts.specs.Verdict.{acceptedVerdict, tablesVerdict, verdictOf}
+use Rattle.verdicts.specs.Report.{OrderOf, Admitted}
+use Rattle.verdicts.proofs.VerdictLaws.{turn-order}
+use Rattle.verdicts.proofs.ReportLaws.{verdict-reports}
+use Rattle.sheets.specs.Line.{numbered, saysOf, lineText}
+use Rattle.sheets.specs.Sheet.{orderOf, ruleVerdict, sheetBy, sheetOf, sheetLine}
+use Rattle.sheets.specs.Promise.{Lines, Wrote, TooShort, LineReports}
+use Rattle.sheets.proofs.SheetLaws.{judged-some}
+
+accepted-none : (rule : Bytes) → accepted rule ≡ true → refusal rule ≡ none
+accepted-none rule h = go (refusal rule) h
+  where
+    go : (o : Option Refusal) → isNone o ≡ true → o ≡ none
+    go none q = refl
+    go (some r) q = cc
+
+-- DEMANDS 1 and 2. `line` finishes, on every input, with its line written or with 17, which changes no lent byte; 17 exactly where the line is longer.
+pub line-ends : (tables rules : Bytes) (place : ℕ) {old new : List ℕ} {w : Written} → Lines tables rules place old new w
+    → Wrote (sheetLine (sheetOf tables rules) place) old new w ⊎ TooShort (sheetLine (sheetOf tables rules) place) old new w
+unfolding lent outputAfter
+line-ends tables rules place {old} {new} {w} p = go (sheetLine (sheetOf tables rules) place) (leb (length (sheetLine (sheetOf tables rules) place)) (length old)) refl (p .number) (p .size) (p .output)
+  where
+    go : (t : Bytes) (b : Bool) → leb (length t) (length old) ≡ b → numberIn w ≡ answerNumber (ifRoom b t) → lengthIn w ≡ answerLength (ifRoom b t) → new ≡ outputAfter (ifRoom b t) old
+        → Wrote t old new w ⊎ TooShort t old new w
+    go t true h n l o = inl (record { number = n; size = l; front = rw o (take-at t (drop (length t) old) (length t) refl); kept = rw o (drop-at t (drop (length t) old) (length t) refl) })
+    go t false h n l o = inr (record { number = n; size = l; kept = o; longer = leb-false (length t) (length old) h })
+
+pub line-written : (tables rules : Bytes) (place : ℕ) {old new : List ℕ} {w : Written} → Lines tables rules place old new w
+    → length (sheetLine (sheetOf tables rules) place) ≤ length old → Wrote (sheetLine (sheetOf tables rules) place) old new w
+line-written tables rules place {old} {new} {w} p room = go (line-ends tables rules place p)
+  where
+    go : Wrote (sheetLine (sheetOf tables rules) place) old new w ⊎ TooShort (sheetLine (sheetOf tables rules) place) old new w → Wrote (sheetLine (sheetOf tables rules) place) old new w
+    go (inl x) = x
+    go (inr x) = absurd (omega (arith, x .longer))
+
+-- DEMAND 3, as the sheet's reader meets it, of the line at place k + 1.
+module _ (tables rules : Bytes) (T : Tables) (t : tablesOf tables ≡ taken T) (short : length rules ≤ 32768) (k : ℕ) (rule : Bytes)
+    (at : getElem? (lines rules) k ≡ some rule) where
+  line-is : sheetLine (sheetOf tables rules) (suc k) ≡ lineText (suc k) (ruleVerdict T rule)
+  unfolding sheetOf sheetBy
+  line-is =
+      let m : suc k - 1 ≡ k = omega arith in
+      rw (t, le-leb (length rules) 32768 short) (judged-some T (lines rules) (suc k) rule (λ e. omega arith) (rw m at))
+
+  -- An accepted rule's line reports its verdict: broken, idle or held exactly as the counts say, the counts, the share, and if broken the first breaking choice.
+  pub line-reports : accepted rule ≡ true → (ρ : Rule) × (rule ≡ ruleText [] ρ) × ((old new : List ℕ) (w : Written) → Lines tables rules (suc k) old new w
+      → length (sheetLine (sheetOf tables rules) (suc k)) ≤ length old
+      → (numberIn w ≡ 0) × LineReports T ρ (suc k) (take (lengthIn w) new) × (drop (lengthIn w) new ≡ drop (lengthIn w) old))
+  unfolding verdictOf tablesVerdict ruleVerdict orderOf
+  line-reports h =
+      let r = accepted-none rule h in
+      let (ρ, tree, _) = accepted-rule rule r in
+      let order : OrderOf ρ (upFrom 1 (length (ruleVars [] ρ))) = order-admissible (names (ruleVars [] ρ)) (length (ruleVars [] ρ)) (variablesOf (upFrom 1 (length (ruleVars [] ρ)))) .0 (turn-order ρ) in
+      let reports = verdict-reports {tables = tables} (record { reads = t; accepts = r; tree = tree; ordered = order }) in
+      let same : ruleVerdict T rule ≡ verdictOf tables rule (upFrom 1 (length (ruleVars [] ρ))) = rw (t, tree) in (
+        ρ,
+        rule-text rule ρ tree .0,
+        λ old new w p room.
+            let x = line-written tables rules (suc k) p room in (
+              x .number,
+              record { verdict = verdictOf tables rule (upFrom 1 (length (ruleVars [] ρ))); reports = reports; says = rw (x .size) (x .front ∙ line-is ∙ ap (lineText (suc k)) same) },
+              rw (x .size) (x .kept),
+            ),
+      )
+
+  -- A refused rule's line is its number behind `refused`: "or line number, `refused`, number".
+  pub line-refused : (e : Refusal) → refusal rule ≡ some e
+      → sheetLine (sheetOf tables rules) (suc k) ≡ decimalOf (suc k) ++ numbered (ascii " refused ") (numberOf e)
+  unfolding ruleVerdict acceptedVerdict saysOf
+  line-refused e h = line-is ∙ rw h
