@@ -3,7 +3,7 @@
 use mathlib.Core.Path.{_≡_, refl, ap, sym, _∙_}
 use mathlib.Core.List.{List, [], _∷_, _++_, map, append-assoc, append-nil}
 use mathlib.Core.Option.{Option, none, some}
-use mathlib.Core.Bool.{Bool, true, false, _||_, cond}
+use mathlib.Core.Bool.{Bool, true, false, _&&_, _||_, cond}
 use Prim.Native.Nat.{ℕ, suc, _+_, _-_, _≤_, _<_, _/_, _%_}
 use native.Mathlib.Omega.{arith}
 use native.Mathlib.Decide.{decLt}
@@ -63,6 +63,17 @@ argument-own c w s =
     let l : length (w ++ s) - length s ≡ length w = simp length-append (omega arith) in
     rw l (take-append-seam w s)
 
+-- A byte that is no last letter of `OE` or `AO` ends no name of a choice.
+quiet-last : (x y : ℕ) → eqb y 69 ≡ false → eqb y 79 ≡ false → chooser x y ≡ false
+unfolding chooser same
+quiet-last x y e f = rw (e, f) (go (eqb x 79) (eqb x 65))
+  where
+    go : (a b : Bool) → ((a && false) || (b && false)) ≡ false
+    go true true = refl
+    go true false = refl
+    go false true = refl
+    go false false = refl
+
 -- Reading s comes to its rest r: the brackets are those that were open, and the texts ys are noted. What was read last does not end in the name
 -- of a choice, so that a bracket may follow.
 record Comes (x y : ℕ) (bs : List Bracket) (xs : List Bytes) (s : Bytes) (ys : List Bytes) (r : Bytes) : Type 0 where
@@ -107,12 +118,12 @@ wrapped {w} {v} {c} {f} {g} o p e = record { comes = go }
     go x y bs σ r h =
         let s : Bytes = v ++ (41 ∷ r) in
         let u = o .at x y bs (texts σ) s h in
-        let m = p .comes (u .0) 40 (bracket c s ∷ bs) σ (41 ∷ r) refl in
+        let m = p .comes (u .0) 40 (bracket c s ∷ bs) σ (41 ∷ r) (quiet-last (u .0) 40 refl refl) in
         let z : (w ++ (v ++ ascii ")")) ++ r ≡ w ++ s = append-assoc w (v ++ ascii ")") r ∙ ap (λ (l : Bytes). w ++ l) (append-assoc v (ascii ")") r) in
         record {
           before = m .latest;
           latest = 41;
-          quiet = refl;
+          quiet = quiet-last (m .latest) 41 refl refl;
           so =
               ap (λ (l : Bytes). choicesFrom x y bs (texts σ) l) z
               ∙ u .1
@@ -129,7 +140,7 @@ chosen-wrapped {f = f} a o p = wrapped o p (λ σ r. ap (λ (l : Bytes). noted (
 -- The names that open a bracket.
 
 open-call : (f : Fn) → Opens (spell (isCall f)) false
-unfolding spell choicesFrom chooser
+unfolding spell choicesFrom chooser same
 open-call user = record { at = λ x y bs xs s h. (114, refl) }
 open-call roles = record { at = λ x y bs xs s h. (115, refl) }
 open-call roles* = record { at = λ x y bs xs s h. (42, refl) }
@@ -139,15 +150,15 @@ open-call permissions* = record { at = λ x y bs xs s h. (42, refl) }
 open-call object = record { at = λ x y bs xs s h. (116, refl) }
 
 open-operations : Opens (spell isOperations) false
-unfolding spell choicesFrom chooser
+unfolding spell choicesFrom chooser same
 open-operations = record { at = λ x y bs xs s h. (115, refl) }
 
 open-oe : Opens (spell isOE) true
-unfolding spell choicesFrom chooser
+unfolding spell choicesFrom chooser same
 open-oe = record { at = λ x y bs xs s h. (69, refl) }
 
 open-ao : Opens (spell isAO) true
-unfolding spell choicesFrom chooser
+unfolding spell choicesFrom chooser same
 open-ao = record { at = λ x y bs xs s h. (79, refl) }
 
 open-bracket : Opens (spell isBracket) false
@@ -160,13 +171,13 @@ abbrev Silent : Bytes → Type 0
 Silent w = Reads w (λ σ. σ)
 
 silent-base : (b : Base) → Silent (spell (isBase b))
-unfolding spell choicesFrom chooser
-silent-base bU = record { comes = λ x y bs σ r h. record { before = y; latest = 85; quiet = refl; so = refl } }
-silent-base bR = record { comes = λ x y bs σ r h. record { before = y; latest = 82; quiet = refl; so = refl } }
+unfolding spell choicesFrom chooser same
+silent-base bU = record { comes = λ x y bs σ r h. record { before = y; latest = 85; quiet = quiet-last y 85 refl refl; so = refl } }
+silent-base bR = record { comes = λ x y bs σ r h. record { before = y; latest = 82; quiet = quiet-last y 82 refl refl; so = refl } }
 silent-base bOP = record { comes = λ x y bs σ r h. record { before = 79; latest = 80; quiet = refl; so = refl } }
 silent-base bOBJ = record { comes = λ x y bs σ r h. record { before = 66; latest = 74; quiet = refl; so = refl } }
-silent-base bP = record { comes = λ x y bs σ r h. record { before = y; latest = 80; quiet = refl; so = refl } }
-silent-base bS = record { comes = λ x y bs σ r h. record { before = y; latest = 83; quiet = refl; so = refl } }
+silent-base bP = record { comes = λ x y bs σ r h. record { before = y; latest = 80; quiet = quiet-last y 80 refl refl; so = refl } }
+silent-base bS = record { comes = λ x y bs σ r h. record { before = y; latest = 83; quiet = quiet-last y 83 refl refl; so = refl } }
 silent-base bCR = record { comes = λ x y bs σ r h. record { before = 67; latest = 82; quiet = refl; so = refl } }
 silent-base bCP = record { comes = λ x y bs σ r h. record { before = 67; latest = 80; quiet = refl; so = refl } }
 silent-base bCU = record { comes = λ x y bs σ r h. record { before = 67; latest = 85; quiet = refl; so = refl } }
@@ -179,14 +190,14 @@ silent-byte : (c : ℕ) → Quiet c → Silent (c ∷ [])
 unfolding choicesFrom chooser
 silent-byte c q =
     record {
-      comes = λ x y bs σ r h. record { before = y; latest = c; quiet = rw (q .2, q .3); so = rw (q .0, q .1, choicesFrom) };
+      comes = λ x y bs σ r h. record { before = y; latest = c; quiet = quiet-last y c (q .2) (q .3); so = rw (q .0, q .1, choicesFrom) };
     }
 
 silent-two : (c d : ℕ) → eqb c 40 ≡ false → eqb c 41 ≡ false → Quiet d → Silent (c ∷ d ∷ [])
 unfolding choicesFrom chooser
 silent-two c d e f q =
     record {
-      comes = λ x y bs σ r h. record { before = c; latest = d; quiet = rw (q .2, q .3); so = rw (e, f, choicesFrom) (rw (q .0, q .1, choicesFrom)) };
+      comes = λ x y bs σ r h. record { before = c; latest = d; quiet = quiet-last c d (q .2) (q .3); so = rw (e, f, choicesFrom) (rw (q .0, q .1, choicesFrom)) };
     }
 
 quiet-digit : (n : ℕ) → n < 10 → Quiet (48 + n)
@@ -266,7 +277,7 @@ rule-choices (also c ρ) = reads-then (clause-choices c) (reads-then (silent-byt
 
 -- The choices found in a rule's text are the argument texts of those of its tree, in order.
 pub choices-in : (ρ : Rule) → choicesIn (ruleText [] ρ) ≡ map (text []) (ruleVars [] ρ)
-unfolding choicesIn choicesFrom chooser
+unfolding choicesIn choicesFrom chooser same
 choices-in ρ =
     let m = rule-choices ρ .comes 0 0 [] [] [] refl in
     ap (λ (l : Bytes). choicesFrom 0 0 [] [] l) (sym (append-nil (ruleText [] ρ))) ∙ m .so

@@ -16,6 +16,7 @@ use Rattle.syntax.proofs.TermLaws.{read-text, text-read, text-long, bar
 use Rattle.syntax.specs.Rule.{Cmp, lt, le, gt, ge, eq, ne, is, isnt, Count, number, count, Test, member, alike, empty, sized, Clause}
 use Rattle.syntax.specs.Rule.{plain, when, Rule, last, also, spellCmp, digits, countText, testText, clauseText, ruleText, ruleVars}
 use Rattle.syntax.specs.Rule.{formula, Between, isIn, isSign, cmps, spellBetween, betweens, down, readCount, readSecond}
+use Rattle.syntax.specs.Rule.{CountFits, TestFits, ClauseFits, RuleFits}
 use Rattle.syntax.specs.Rule.{readTest, readClause, readRule, readFormula, whole, ruleOf, ruleOfFormula}
 use Rattle.syntax.specs.code.Printing.{quantifiersAfter, printed}
 use Rattle.syntax.proofs.Closed.{formula-in}
@@ -77,25 +78,6 @@ number-small (suc k) n s r e =
     either-case (digits (suc k)) _ _ s e (λ w p q. let z : n ≡ suc k = cc in omega arith) (λ q. omega (arith, number-small k n s r q))
 
 -- Counts.
-
--- The numbers are at most 64.
-unfoldable pub CountFits : Count → Type 0
-CountFits (number n) = n ≤ 64
-CountFits (count a) = Unit {0}
-
-unfoldable pub TestFits : Test → Type 0
-TestFits (member a b) = Unit {0}
-TestFits (alike g a b) = Unit {0}
-TestFits (empty g a) = Unit {0}
-TestFits (sized c a k) = CountFits k
-
-unfoldable pub ClauseFits : Clause → Type 0
-ClauseFits (plain p) = TestFits p
-ClauseFits (when p q) = TestFits p × TestFits q
-
-unfoldable pub RuleFits : Rule → Type 0
-RuleFits (last c) = ClauseFits c
-RuleFits (also c ρ) = ClauseFits c × RuleFits ρ
 
 digits-start : (c : ℕ) (p : Bytes) (n : ℕ) (r : Bytes) → 57 < c → n ≤ 64 → skip (c ∷ p) (digits n ++ r) ≡ fail
 unfolding skip

@@ -1,11 +1,11 @@
 -- Document 01, "Formula": the choices of a rule text, found in its bytes alone, from front to back. `ChoosingLaws.choices-read` says that
 -- they are those of the rule's tree. Assumes nothing.
 use mathlib.Core.List.{List, [], _∷_, _++_}
-use mathlib.Core.Bool.{Bool, true, false, _&&_, _||_, cond}
+use mathlib.Core.Bool.{Bool, true, false, _||_, cond}
 use Prim.Native.Nat.{ℕ, _-_}
 use lib.Dec.{eqb}
 use lib.ListN.{length, take}
-use Rattle.syntax.specs.Bytes.{Bytes, same}
+use Rattle.syntax.specs.Bytes.{Bytes, ascii, same}
 
 -- A bracket that was opened: whether it is that of an `OE` or `AO`, and the bytes behind it.
 pub record Bracket : Type 0 where
@@ -14,7 +14,7 @@ pub record Bracket : Type 0 where
 
 -- Whether x and y, the last two bytes before a bracket, are `OE` or `AO`.
 unfoldable pub chooser : ℕ → ℕ → Bool
-chooser x y = (eqb y 69 && eqb x 79) || (eqb y 79 && eqb x 65)
+chooser x y = same (x ∷ y ∷ []) (ascii "OE") || same (x ∷ y ∷ []) (ascii "AO")
 
 -- "Equal argument texts choose the same element; different texts choose separately": a text comes behind the others unless it is one of them.
 unfoldable pub among : List Bytes → Bytes → Bool
@@ -38,7 +38,7 @@ closing [] xs s = xs
 closing (b ∷ bs) xs s = cond (b .chooses) (noted xs (argument b s)) xs
 
 -- "Choices are numbered v1, v2, .. in the order in which the closing bracket of their first OE or AO is read": the argument texts noted when s
--- is read, where x and y are the last two bytes before it, the brackets bs are open and the texts xs are noted.
+-- is read, where x and y are the last two bytes before it, the brackets bs are open and the texts xs are noted. (The bytes 40 and 41 are `(` and `)`.)
 unfoldable pub choicesFrom : ℕ → ℕ → List Bracket → List Bytes → Bytes → List Bytes
 choicesFrom x y bs xs [] = xs
 choicesFrom x y bs xs (c ∷ s) =

@@ -40,6 +40,25 @@ pub data Rule : Type 0 where
   last : Clause → Rule
   also : Clause → Rule → Rule
 
+-- "a number 0 to 64": the numbers of a rule are at most 64.
+unfoldable pub CountFits : Count → Type 0
+CountFits (number n) = n ≤ 64
+CountFits (count a) = Unit {0}
+
+unfoldable pub TestFits : Test → Type 0
+TestFits (member a b) = Unit {0}
+TestFits (alike g a b) = Unit {0}
+TestFits (empty g a) = Unit {0}
+TestFits (sized c a k) = CountFits k
+
+unfoldable pub ClauseFits : Clause → Type 0
+ClauseFits (plain p) = TestFits p
+ClauseFits (when p q) = TestFits p × TestFits q
+
+unfoldable pub RuleFits : Rule → Type 0
+RuleFits (last c) = ClauseFits c
+RuleFits (also c ρ) = ClauseFits c × RuleFits ρ
+
 -- How a rule is written.
 
 unfoldable pub spellCmp : Cmp → Bytes
