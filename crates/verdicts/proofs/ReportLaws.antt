@@ -1,6 +1,6 @@
 -- What verdicts report, for accepted tables, every accepted rule and every admissible order: of the fields, and of the 26 bytes.
 -- Assumes nothing.
-use mathlib.Core.Path.{_≡_, refl, sym, ap, _∙_}
+use mathlib.Core.Path.{_≡_, refl, sym, ap, ap₂, _∙_}
 use mathlib.Core.Bool.{Bool, true, false, true≢false}
 use mathlib.Core.List.{List, [], _∷_, _++_, append-assoc}
 use mathlib.Core.Option.{Option, none, some}
@@ -24,7 +24,8 @@ use Rattle.walks.specs.Walk.{bytesOf}
 use Rattle.walks.specs.Order.{variablesOf}
 use Rattle.walks.specs.Meaning.{there}
 use Rattle.walks.specs.Share.{shareOf}
-use Rattle.walks.proofs.ShareLaws.{is-share}
+use Rattle.walks.proofs.ShareLaws.{is-share, one-share}
+use Rattle.walks.proofs.FirstLaws.{first-one}
 use Rattle.verdicts.specs.declared.Verdict.{Verdict}
 use Rattle.verdicts.specs.Verdict.{wordNumber, outcomeOf, fullCount, breakingCount, firstBreaking, verdictAlong, verdictOf, written}
 use Rattle.verdicts.specs.Verdict.{verdictBytes, judged}
@@ -146,3 +147,36 @@ pub accepted-judged : (tables rule : Bytes) (T : Tables) → tablesOf tables ≡
 accepted-judged tables rule T t r =
     let (ρ, h, _) = accepted-rule rule r in
     (ρ, h, λ order o. judged-reports (record { reads = t; accepts = r; tree = h; ordered = o }))
+
+-- Nothing is left free: along an order one word, two counts, one choice and one share only are reported.
+module _ {T : Tables} {ρ : Rule} {order : Bytes} (o : OrderOf ρ order) {w f b s w′ f′ b′ s′ : ℕ} {d d′ : Bytes} (p : Reports T ρ order w f b d s)
+    (q : Reports T ρ order w′ f′ b′ d′ s′) where
+  same-full : f ≡ f′
+  same-full = p .fulls ∙ sym (q .fulls)
+
+  same-breaking : b ≡ b′
+  same-breaking = p .breakings ∙ sym (q .breakings)
+
+  same-word : w ≡ w′
+  same-word = go b f refl refl
+    where
+      go : (k m : ℕ) → b ≡ k → f ≡ m → w ≡ w′
+      go zero zero e h = p .idle .1 h ∙ sym (q .idle .1 (sym same-full ∙ h))
+      go zero (suc m) e h = p .held .1 (omega arith, e) ∙ sym (q .held .1 (omega (arith, same-full), sym same-breaking ∙ e))
+      go (suc k) m e h = p .broken .1 (omega arith) ∙ sym (q .broken .1 (omega (arith, same-breaking)))
+
+  same-first : d ≡ d′
+  same-first = go b refl
+    where
+      go : (k : ℕ) → b ≡ k → d ≡ d′
+      go zero e = p .unfound e ∙ sym (q .unfound (sym same-breaking ∙ e))
+      go (suc k) e = first-one (o .once) (p .found (omega arith)) (q .found (omega (arith, same-breaking)))
+
+  pub reports-one : (w ≡ w′) × (f ≡ f′) × (b ≡ b′) × (d ≡ d′) × (s ≡ s′)
+  reports-one = (
+    same-word,
+    same-full,
+    same-breaking,
+    same-first,
+    one-share f b s (p .shared) ∙ ap₂ shareOf same-full same-breaking ∙ sym (one-share f′ b′ s′ (q .shared)),
+  )

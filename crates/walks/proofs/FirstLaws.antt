@@ -17,10 +17,10 @@ use Rattle.words.specs.Words.{gate}
 use Rattle.walks.specs.Choices.{Items, Sets, sumTo, variables, fullOn, countFull}
 use Rattle.walks.specs.Walk.{walk, orElse, gateO, firstTo, walkFirst}
 use Rattle.walks.specs.Order.{count}
-use Rattle.walks.specs.Meaning.{Every, Admissible, After, Reads, NoLater, Choice, FirstBreaking, there}
+use Rattle.walks.specs.Meaning.{Every, Once, Admissible, After, Reads, NoLater, Choice, FirstBreaking, there}
 use Rattle.walks.specs.code.Among.{ChoiceAmong, Within}
 use Rattle.walks.proofs.PermLaws.{Perm, none as pnone, keep, swap, then, full-perm}
-use Rattle.walks.proofs.OnceLaws.{Distinct, hit-same, hit-other, absent-back, once-perm, once-count, once-distinct, below, perm-sym}
+use Rattle.walks.proofs.OnceLaws.{Distinct, hit-same, hit-other, absent-back, count-variables, once-perm, once-count, once-distinct, below, perm-sym}
 use Rattle.walks.proofs.PruneLaws.{every-map}
 use Rattle.walks.proofs.AmongLaws.{full-own, walk-counts}
 
@@ -215,3 +215,32 @@ module _ (items : Items) (n : ℕ) (s : Sets) (w : Within items s n) (names : �
             let r = found-least 64 s names law b (length base) order ds (a .after) bs base k refl (among k ck, full-perm s p k ∙ fk, bk) in
             subst (λ (t : List ℕ). NoLater order t k) (some-inj (r .0) d (sym (r .1) ∙ e)) (r .2);
       }
+
+-- choices of which neither comes later have the same items at each variable of the order
+same-items : (vs d e : List ℕ) → NoLater vs d e → NoLater vs e d → Every (λ v. getD d v 0 ≡ getD e v 0) vs
+same-items [] d e p q = tt
+same-items (v ∷ vs) d e (inl l) (inl k) = absurd (omega arith)
+same-items (v ∷ vs) d e (inl l) (inr k) = absurd (omega (arith, k .0))
+same-items (v ∷ vs) d e (inr l) (inl k) = absurd (omega (arith, l .0))
+same-items (v ∷ vs) d e (inr l) (inr k) = (l .0, same-items vs d e (l .1) (k .1))
+
+every-member : (P : ℕ → Type 0) (vs : List ℕ) → Every P vs → (u : ℕ) → 0 < count u vs → P u
+unfolding count
+every-member P [] h u l = absurd (omega arith)
+every-member P (v ∷ vs) h u l = go (ℕ-discrete u v) (every-member P vs (h .1) u)
+  where
+    go : Dec (u ≡ v) → (0 < count u vs → P u) → P u
+    go (yes e) ih = subst P (sym e) (h .0)
+    go (no ne) ih = ih (omega (arith, hit-other u v ne))
+
+-- there is one first breaking choice only
+pub first-one : {items : Items} {n : ℕ} {s : Sets} {b : List ℕ → Bool} {order base d e : List ℕ} → Once n order
+    → FirstBreaking items n s b order base d → FirstBreaking items n s b order base e → d ≡ e
+first-one {n = n} {order = order} {d = d} {e = e} o p q = ext-getD 0 d e (p .choice .long ∙ sym (q .choice .long)) (λ u l. go u (decLt u n))
+  where
+    same : Every (λ v. getD d v 0 ≡ getD e v 0) order
+    same = same-items order d e (p .least e (q .choice) (q .full) (q .breaks)) (q .least d (p .choice) (p .full) (p .breaks))
+
+    go : (u : ℕ) → Dec (u < n) → getD d u 0 ≡ getD e u 0
+    go u (yes l) = every-member _ order same u (omega (arith, o u .0 l))
+    go u (no l) = let z = count-variables n u .1 (omega arith) in p .choice .rest u z ∙ sym (q .choice .rest u z)
