@@ -12,8 +12,8 @@ use borrow.Author.Tests.{leb-true}
 use Rattle.answers.specs.declared.Refusal.{Refusal}
 use Rattle.answers.specs.declared.Refusal.the-variants.{RuleLength, Deep, NotARule}
 use Rattle.syntax.specs.Bytes.{Bytes}
-use Rattle.syntax.specs.Rule.{Rule, ruleText, ruleVars, ruleOf}
-use Rattle.syntax.proofs.RuleLaws.{RuleFits, rule-text}
+use Rattle.syntax.specs.Rule.{Rule, RuleFits, ruleText, ruleVars, ruleOf}
+use Rattle.syntax.proofs.RuleLaws.{rule-text}
 use Rattle.rules.specs.Accept.{deep, treeRefusal, refusal}
 use Rattle.rules.proofs.AcceptLaws.{tree-few}
 

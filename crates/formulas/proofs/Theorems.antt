@@ -13,8 +13,8 @@ use Rattle.answers.specs.Answer.{Answer, refused, wrote, answerNumber, ifRoom, 
 use Rattle.answers.specs.declared.Refusal.the-variants.{NoRulesFormula}
 use Rattle.answers.proofs.AnswerLaws.{lent-wrote, lent-refused, lent-fits}
 use Rattle.syntax.specs.Bytes.{Bytes}
-use Rattle.syntax.specs.Rule.{Rule, ruleText, formula, ruleOf}
-use Rattle.syntax.proofs.RuleLaws.{RuleFits, rule-back, rule-text}
+use Rattle.syntax.specs.Rule.{Rule, RuleFits, ruleText, formula, ruleOf}
+use Rattle.syntax.proofs.RuleLaws.{rule-back, rule-text}
 use Rattle.rules.specs.Accept.{refusal, accepted}
 use Rattle.formulas.specs.Formulas.{formulaOf, reduced, Rebuilds, gives, givesNone}
 use Rattle.formulas.proofs.AcceptLaws.{accepted-gives}

@@ -12,3 +12,4 @@ pub mod ItemLaws
 pub mod LevelLaws
 pub mod ChainLaws
 pub mod SettleLaws
+pub mod NamingLaws

@@ -3,4 +3,5 @@ pub mod Items
 pub mod Values
 pub mod Truth
 pub mod Sets
+pub mod Naming
 pub mod code
