@@ -5,6 +5,7 @@
 pub mod damage;
 pub mod formulas;
 pub mod hold;
+pub mod hurtful;
 pub mod orders;
 pub mod random;
 pub mod rules;

@@ -1,6 +1,6 @@
 //! Tables: accepted ones of any size, and ones with each thing that is refused.
 
-use rcl2000::TablesBuilder;
+use rcl2000::{Object, Operation, Permission, Role, TablesBuilder, User};
 
 use crate::damage;
 use crate::random::Random;
@@ -115,31 +115,65 @@ impl Plain {
         out
     }
 
-    /// The same tables by the crate's builder.
+    /// The same tables by the crate's builder, each role by its whole row.
     pub fn builder(&self) -> TablesBuilder {
         let mut builder = TablesBuilder::new();
+        for &row in &self.roles {
+            builder.role_row(items(row).map(Role::numbered));
+        }
+        self.others(&mut builder);
+        builder
+    }
+
+    /// The same tables by the crate's builder, each role by its direct juniors.
+    pub fn builder_by_juniors(&self) -> TablesBuilder {
+        let mut builder = TablesBuilder::new();
         for (number, &row) in self.roles.iter().enumerate() {
-            builder.role(items(row & !(1 << number)));
+            let below = row & !(1 << number);
+            let beyond =
+                items(below).fold(0, |word, junior| word | self.roles[junior] & !(1 << junior));
+            builder.role(items(below & !beyond).map(Role::numbered));
         }
-        for &roles in &self.users {
-            builder.user(items(roles));
+        self.others(&mut builder);
+        builder
+    }
+
+    /// Adds the other sections.
+    fn others(&self, builder: &mut TablesBuilder) {
+        let roles = |word: u64| items(word).map(Role::numbered);
+        for &word in &self.users {
+            builder.user(roles(word));
         }
-        for &(user, roles) in &self.sessions {
-            builder.session(user as usize, items(roles));
+        for &(user, word) in &self.sessions {
+            builder.session(User::numbered(user.into()), roles(word));
         }
-        builder.permissions(self.operations, self.objects, |operation, object| {
-            items(self.permissions[operation * self.objects + object])
-        });
+        for _ in 0..self.operations {
+            builder.operation();
+        }
+        for _ in 0..self.objects {
+            builder.object();
+        }
+        for (number, &word) in self.permissions.iter().enumerate() {
+            builder.held_by(self.permission(number), roles(word));
+        }
         for &word in &self.cr {
-            builder.conflicting_roles(items(word));
+            builder.conflicting_roles(roles(word));
         }
         for &word in &self.cu {
-            builder.conflicting_users(items(word));
+            builder.conflicting_users(items(word).map(User::numbered));
         }
         for &word in &self.cp {
-            builder.conflicting_permissions(items(word));
+            builder.conflicting_permissions(items(word).map(|number| self.permission(number)));
         }
-        builder
+    }
+
+    /// The permission with a number. Tables without objects have none; it is then out of range.
+    fn permission(&self, number: usize) -> Permission {
+        let objects = self.objects.max(1);
+        Permission {
+            operation: Operation::numbered(number / objects),
+            object: Object::numbered(number % objects),
+        }
     }
 
     /// Makes one thing wrong that a check looks for, where there is a row to do it in.

@@ -5,6 +5,7 @@
 use differential::hold::{Met, Question};
 use differential::random::Random;
 use differential::{formulas, orders, rules, scaled, tables};
+use rcl2000::{BuildError, Unencodable};
 use reference::verdict::steps;
 
 const TABLES: u64 = 70_000;
@@ -88,6 +89,37 @@ fn the_builder_encodes_what_the_tables_say() {
     for _ in 0..scaled(2_000) {
         let plain = tables::accepted(random, 64);
         assert_eq!(plain.builder().build(), Ok(plain.bytes()));
+        assert_eq!(plain.builder_by_juniors().build(), Ok(plain.bytes()));
+    }
+}
+
+/// Spoiled tables: the builder gives the reference's refusal, with rows for 7, 8 and 9.
+#[test]
+fn the_builder_names_the_rows_at_fault() {
+    let random = &mut Random::new(11);
+    let mut met = [0; 19];
+    for _ in 0..scaled(20_000) {
+        let mut plain = tables::accepted(random, 12);
+        plain.spoil(random);
+        let expected = reference::tables::read(&plain.bytes()).err().unwrap_or(0);
+        let number = match plain.builder().build() {
+            Ok(_) => 0,
+            Err(BuildError::Refused { refusal, faults }) => {
+                assert!(!faults.is_empty(), "{refusal}");
+                refusal.number()
+            }
+            Err(BuildError::Unencodable(Unencodable::TooMany { .. })) => 2,
+            Err(BuildError::Unencodable(Unencodable::NoSuchItem { .. })) => 5,
+            Err(error) => panic!("{error}"),
+        };
+        // The builder makes the permissions' rows itself, so that it cannot miscount them.
+        if expected != 6 && number != 3 {
+            assert_eq!(number, expected);
+        }
+        met[number as usize] += 1;
+    }
+    for number in [0, 5, 7, 8, 9] {
+        assert!(met[number] >= scaled(20_000) / 1_000, "{number}: {met:?}");
     }
 }
 

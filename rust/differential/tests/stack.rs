@@ -1,148 +1,58 @@
-//! Inputs that are meant to hurt cost little: on a stack of 256 KiB, and in little time.
+//! Inputs that are meant to hurt cost little: on the stack that the crate states, and in little
+//! time. `cargo run --release -p differential --bin stack` says how much stack is needed.
 
 use std::thread;
 use std::time::{Duration, Instant};
 
-use differential::formulas::doubling;
 use differential::hold::Question;
+use differential::hurtful;
 use differential::random::Random;
-use differential::{formulas, rules, scaled, tables};
+use rcl2000::{STACK_JUDGE, STACK_REBUILD, STACK_REDUCE};
 use reference::Answer;
 
-const STACK: usize = 256 * 1024;
+/// For the thread itself and for comparing.
+const OWN: usize = 16 * 1024;
 
 /// No call on such an input takes longer, also on a busy machine.
 const LONGEST: Duration = Duration::from_secs(5);
 
-/// The length of the longest inputs.
-const MEGABYTES: usize = 4 << 20;
+#[test]
+fn reducing_on_a_small_stack() {
+    on_stack(STACK_REDUCE, |question| {
+        matches!(question, Question::Reduce(_))
+    });
+}
 
 #[test]
-fn hurtful_inputs_on_a_small_stack() {
-    let questions = [
-        repeated(),
-        brackets(),
-        exponential(),
-        generated(),
-        largest(),
-    ]
-    .concat();
-    let questions: Vec<(Question, Answer<Vec<u8>>)> = questions
+fn rebuilding_on_a_small_stack() {
+    on_stack(STACK_REBUILD, |question| {
+        matches!(question, Question::Rebuild(_))
+    });
+}
+
+#[test]
+fn judging_on_a_small_stack() {
+    on_stack(STACK_JUDGE, |question| {
+        matches!(question, Question::Judge(..))
+    });
+}
+
+/// The chosen questions are answered rightly on a thread with that much stack.
+fn on_stack(stack: usize, chosen: impl Fn(&Question) -> bool) {
+    let questions: Vec<(Question, Answer<Vec<u8>>)> = hurtful::questions()
         .into_iter()
+        .filter(chosen)
         .map(|question| (question.clone(), question.fast()))
         .collect();
-    let small = thread::Builder::new().stack_size(STACK);
+    let small = thread::Builder::new().stack_size(stack + OWN);
     let thread = small.spawn(move || {
         let random = &mut Random::new(8);
         for (question, expected) in &questions {
             let start = Instant::now();
             question.hold_all(expected, random);
-            assert!(
-                start.elapsed() < LONGEST,
-                "{:?} for four calls",
-                start.elapsed()
-            );
+            let taken = start.elapsed();
+            assert!(taken < LONGEST, "{taken:?} for eight calls");
         }
     });
     thread.unwrap().join().unwrap();
-}
-
-/// The same text as a rule, as a formula, and as tables, a rule and an order.
-fn everywhere(text: Vec<u8>) -> Vec<Question> {
-    let nobody = vec![0; 9];
-    vec![
-        Question::Reduce(text.clone().into()),
-        Question::Rebuild(text.clone().into()),
-        Question::judge(text.clone(), b"U=U".to_vec(), vec![]),
-        Question::judge(nobody.clone(), text.clone(), vec![]),
-        Question::judge(nobody, b"U=U".to_vec(), text),
-    ]
-}
-
-/// Megabytes of one thing.
-fn repeated() -> Vec<Question> {
-    [
-        "(", ")", "[", "[v1@", "[v1@U]", ":", "U", "^U=U", "OE(", "AO(", "v1", "-{v1})", "9", "\0",
-        "\u{1}", "@",
-    ]
-    .iter()
-    .flat_map(|piece| everywhere(piece.repeat(MEGABYTES / piece.len()).into_bytes()))
-    .collect()
-}
-
-/// Brackets nested as deep as 4,096 and 4,097 bytes allow, and as 256 and 257 do.
-fn brackets() -> Vec<Question> {
-    let mut questions = Vec::new();
-    for length in [
-        31, 32, 33, 255, 256, 257, 2_000, 4_095, 4_096, 4_097, 100_000,
-    ] {
-        for open in [
-            "(",
-            "(U&",
-            "roles(",
-            "OE(",
-            "AO(",
-            "operations(",
-            "|",
-            "((U-{v1})&",
-        ] {
-            for before in ["", ":", "[v1@", "[v1@U]:", "|", ":|"] {
-                let mut text = before.to_string() + &open.repeat(length / open.len());
-                text.truncate(length);
-                questions.extend(everywhere(text.clone().into_bytes()));
-                let closed = text + "U" + &")".repeat(length / open.len()) + "=U";
-                questions.push(Question::Rebuild(closed.clone().into_bytes().into()));
-                questions.push(Question::Reduce(closed.into_bytes().into()));
-            }
-        }
-    }
-    questions
-}
-
-/// Short formulas whose rules would be endless.
-fn exponential() -> Vec<Question> {
-    let mut questions = Vec::new();
-    for first in ["U", "(U+U)", "CR", "roles(U)", "OBJ"] {
-        for next in [
-            "({v}+{v})",
-            "({p}-{{v}})",
-            "(({p}-{{v}})+({p}-{{v}}))",
-            "roles(({v}&{v}))",
-            "((({v}+{v})+({v}+{v}))+(({v}+{v})+({v}+{v})))",
-        ] {
-            for count in [2, 5, 8, 9, 20, 60] {
-                let text = doubling(first, next, count);
-                questions.push(Question::Rebuild(text.into_bytes().into()));
-            }
-        }
-    }
-    questions
-}
-
-fn generated() -> Vec<Question> {
-    let random = &mut Random::new(9);
-    (0..scaled(3_000))
-        .flat_map(|_| {
-            [
-                Question::Rebuild(formulas::hurtful(random).into()),
-                Question::Reduce(rules::at_limit(random).into_bytes().into()),
-            ]
-        })
-        .collect()
-}
-
-/// The rules of source document 002 on the largest tables, as far as they have few choices.
-fn largest() -> Vec<Question> {
-    let tables = tables::full(&mut Random::new(10)).bytes();
-    let rules = rules::PAPER.iter().filter(|rule| rule.len() < 45);
-    rules
-        .map(|rule| {
-            let count = reference::rule::read(rule.as_bytes())
-                .unwrap()
-                .variables
-                .len();
-            let order = (1..=count as u8).collect();
-            Question::judge(tables.clone(), rule.as_bytes().to_vec(), order)
-        })
-        .collect()
 }

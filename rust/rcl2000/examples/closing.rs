@@ -6,7 +6,7 @@ use std::error::Error;
 use std::path::Path;
 use std::{env, fs};
 
-use rcl2000::{judge, variables, Refusal, TablesBuilder, Unencodable, Verdict};
+use rcl2000::{judge_in_turn, BuildError, Role, TablesBuilder};
 
 fn main() -> Result<(), Box<dyn Error>> {
     let here = Path::new(env!("CARGO_MANIFEST_DIR"));
@@ -20,7 +20,7 @@ fn main() -> Result<(), Box<dyn Error>> {
     }
     let rules = fs::read_to_string(folder.join("rules.txt"))?;
     for (place, rule) in rules.split_terminator('\n').enumerate() {
-        match judged(&tables, rule) {
+        match judge_in_turn(&tables, rule.as_bytes()) {
             Ok(verdict) => println!("{} {verdict}", place + 1),
             Err(refusal) => {
                 println!("{} refused {}", place + 1, refusal.number());
@@ -31,17 +31,11 @@ fn main() -> Result<(), Box<dyn Error>> {
     Ok(())
 }
 
-/// The verdict in the order 1, 2, ..
-fn judged(tables: &[u8], rule: &str) -> Result<Verdict, Refusal> {
-    let order: Vec<u8> = (1..=variables(rule.as_bytes())?).collect();
-    judge(tables, rule.as_bytes(), &order)
-}
-
 /// Who works at the mill, in what, and what is to be kept apart.
-fn evening() -> Result<Vec<u8>, Unencodable> {
+fn evening() -> Result<Vec<u8>, BuildError> {
     let mut tables = TablesBuilder::new();
     // The leader is senior to both press hands, who come after him.
-    let leader = tables.role([1, 2]);
+    let leader = tables.role([1, 2].map(Role::numbered));
     let north_hand = tables.role([]);
     let south_hand = tables.role([]);
     let grader = tables.role([]);
@@ -58,16 +52,18 @@ fn evening() -> Result<Vec<u8>, Unencodable> {
     tables.session(clara, [grader]);
     tables.session(dino, [tester]);
     tables.session(elsa, [weigher]);
-    // Fill, draw, test and grade, at the north and the south tank.
-    let hands = [north_hand, south_hand];
-    let (operations, tanks, test, grade) = (4, 2, 2, 3);
-    tables.permissions(operations, tanks, |operation, tank| {
-        [[hands[tank]], [blender], [tester], [grader]][operation]
-    });
+    let [fill, draw, test, grade] = tables.operations();
+    let [north, south] = tables.objects();
+    for (tank, hand) in [(north, north_hand), (south, south_hand)] {
+        tables.held_by(tables.permission(fill, tank), [hand]);
+        tables.held_by(tables.permission(draw, tank), [blender]);
+        tables.held_by(tables.permission(test, tank), [tester]);
+        tables.held_by(tables.permission(grade, tank), [grader]);
+    }
     tables.conflicting_roles([grader, tester]);
     tables.conflicting_roles([weigher, blender]);
     tables.conflicting_users([berto, fabio]);
-    for tank in 0..tanks {
+    for tank in [north, south] {
         let kept_apart = [test, grade].map(|operation| tables.permission(operation, tank));
         tables.conflicting_permissions(kept_apart);
     }

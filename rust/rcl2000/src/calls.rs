@@ -1,6 +1,6 @@
-//! The library's three functions, and the safe calls over them.
+//! The safe calls, each with an allocated answer or into lent bytes.
 
-use crate::{Refusal, Verdict};
+use crate::{library, Refusal, Verdict};
 
 /// The most bytes that an accepted rule has.
 pub const MAX_RULE: usize = 256;
@@ -8,27 +8,26 @@ pub const MAX_RULE: usize = 256;
 /// The most bytes that a formula of an accepted rule has.
 pub const MAX_FORMULA: usize = 4_096;
 
-/// A slice passes as a pointer and a length. Each function reads its inputs and writes nothing but
-/// the lent output, and none asks anything of its arguments.
-mod library {
-    extern "C" {
-        pub fn reduce(rule: *const u8, rule_len: usize, out: *mut u8, out_len: usize) -> u32;
+/// The most bytes that accepted tables have.
+pub const MAX_TABLES: usize = 3_785;
 
-        pub fn rebuild(formula: *const u8, formula_len: usize, out: *mut u8, out_len: usize)
-            -> u32;
+/// The most variables that an accepted rule has.
+pub const MAX_VARIABLES: usize = 8;
 
-        pub fn judge(
-            tables: *const u8,
-            tables_len: usize,
-            rule: *const u8,
-            rule_len: usize,
-            order: *const u8,
-            order_len: usize,
-            out: *mut u8,
-            out_len: usize,
-        ) -> u32;
-    }
-}
+/// The stack that [`reduce`] takes at the most, in bytes.
+pub const STACK_REDUCE: usize = 40 * 1024;
+
+/// The stack that [`rebuild`] takes at the most, in bytes.
+pub const STACK_REBUILD: usize = 160 * 1024;
+
+/// The stack that [`judge`] takes at the most, in bytes.
+pub const STACK_JUDGE: usize = 64 * 1024;
+
+/// The order that lists every variable in turn.
+const IN_TURN: [u8; MAX_VARIABLES] = [1, 2, 3, 4, 5, 6, 7, 8];
+
+/// A rule without variables, which any tables answer at once.
+const NO_CHOICE: &[u8] = b"U=U";
 
 /// The formula of a rule.
 ///
@@ -39,14 +38,21 @@ mod library {
 /// assert_eq!(reduce(b"AO(U)"), Err(Refusal::NotARule));
 /// assert_eq!(reduce(b"roles(R)={}"), Err(Refusal::Kind));
 /// ```
+///
+/// # Errors
+///
+/// What is wrong with the rule: a refusal from 11 to 15.
+///
+/// # Cost
+///
+/// Microseconds; at most 40 KiB of stack ([`STACK_REDUCE`]).
 pub fn reduce(rule: &[u8]) -> Result<Vec<u8>, Refusal> {
     allocated(MAX_FORMULA, |out| reduce_into(rule, out))
 }
 
 /// Writes the formula of a rule into the first bytes of `out` and gives their number.
 ///
-/// The rest of `out` keeps its contents, and all of it does on a refusal:
-/// [`Refusal::ShortSheet`] where the formula is longer than `out`.
+/// The rest of `out` keeps its contents, and all of it does on a refusal.
 ///
 /// ```
 /// use rcl2000::{reduce_into, Refusal};
@@ -57,10 +63,17 @@ pub fn reduce(rule: &[u8]) -> Result<Vec<u8>, Refusal> {
 /// assert_eq!(reduce_into(b"AO(U)={}", &mut out), Err(Refusal::ShortSheet));
 /// assert_eq!(&out, b":|CR|=1...");
 /// ```
+///
+/// # Errors
+///
+/// As [`reduce`]; then [`Refusal::ShortSheet`] where the formula is longer than `out`. No formula
+/// is longer than [`MAX_FORMULA`].
+///
+/// # Cost
+///
+/// As [`reduce`].
 pub fn reduce_into(rule: &[u8], out: &mut [u8]) -> Result<usize, Refusal> {
-    // SAFETY: each pointer and length is that of a slice; `out` is lent alone.
-    let reply = unsafe { library::reduce(rule.as_ptr(), rule.len(), out.as_mut_ptr(), out.len()) };
-    length(reply)
+    length(library::reduce(rule, out))
 }
 
 /// The rule of a formula: the accepted rule that [`reduce`] gives this formula for.
@@ -71,14 +84,22 @@ pub fn reduce_into(rule: &[u8], out: &mut [u8]) -> Result<usize, Refusal> {
 /// assert_eq!(rebuild(b"[v1@U]:(U-{v1})={}").unwrap(), b"AO(U)={}");
 /// assert_eq!(rebuild(b"[v1@U]:U=U"), Err(Refusal::NoRulesFormula));
 /// ```
+///
+/// # Errors
+///
+/// [`Refusal::NoRulesFormula`], whatever is wrong with the formula.
+///
+/// # Cost
+///
+/// Microseconds, also for text that is meant to hurt; at most 160 KiB of stack
+/// ([`STACK_REBUILD`]).
 pub fn rebuild(formula: &[u8]) -> Result<Vec<u8>, Refusal> {
     allocated(MAX_RULE, |out| rebuild_into(formula, out))
 }
 
 /// Writes the rule of a formula into the first bytes of `out` and gives their number.
 ///
-/// The rest of `out` keeps its contents, and all of it does on a refusal:
-/// [`Refusal::ShortSheet`] where the rule is longer than `out`.
+/// The rest of `out` keeps its contents, and all of it does on a refusal.
 ///
 /// ```
 /// let mut out = [0; rcl2000::MAX_RULE];
@@ -86,18 +107,24 @@ pub fn rebuild(formula: &[u8]) -> Result<Vec<u8>, Refusal> {
 /// assert_eq!(&out[..length], b"|CR|=1");
 /// # Ok::<(), rcl2000::Refusal>(())
 /// ```
+///
+/// # Errors
+///
+/// As [`rebuild`]; then [`Refusal::ShortSheet`] where the rule is longer than `out`. No rule is
+/// longer than [`MAX_RULE`].
+///
+/// # Cost
+///
+/// As [`rebuild`].
 pub fn rebuild_into(formula: &[u8], out: &mut [u8]) -> Result<usize, Refusal> {
-    // SAFETY: each pointer and length is that of a slice; `out` is lent alone.
-    let reply =
-        unsafe { library::rebuild(formula.as_ptr(), formula.len(), out.as_mut_ptr(), out.len()) };
-    length(reply)
+    length(library::rebuild(formula, out))
 }
 
 /// The verdict on a rule, its choices walked in `order`.
 ///
 /// The order lists the numbers of the rule's variables, from 1, each once and each after those
-/// that its set names: 1, 2, .. up to [`variables`] always serves. It settles which breaking
-/// choice is the first, and nothing else.
+/// that its set names. It settles which breaking choice is the first, and nothing else; where that
+/// is all one, [`judge_in_turn`] takes the order 1, 2, ..
 ///
 /// ```
 /// use rcl2000::{judge, Refusal, TablesBuilder, Word};
@@ -118,17 +145,29 @@ pub fn rebuild_into(formula: &[u8], out: &mut [u8]) -> Result<usize, Refusal> {
 /// assert_eq!(judge(&tables, b"roles(OE(U))=R", &[]), Err(Refusal::Order));
 /// # Ok::<(), Box<dyn std::error::Error>>(())
 /// ```
+///
+/// # Errors
+///
+/// What is wrong with the tables, a refusal from 1 to 10; else with the rule, 11 to 15; else with
+/// the order, [`Refusal::Order`].
+///
+/// # Cost
+///
+/// Time goes with the full choices, some 20 to 100 ns for each on a present machine, and these can
+/// be as many as 64 to the power of the number of variables: with two variables at most 4,096 and
+/// a tenth of a millisecond, with four 16 million and a third of a second, with eight 2.8 × 10¹⁴
+/// and months. A call cannot be interrupted: whoever judges rules that others wrote looks at
+/// [`variables`] first, or judges where it may run on. At most 64 KiB of stack ([`STACK_JUDGE`]).
 pub fn judge(tables: &[u8], rule: &[u8], order: &[u8]) -> Result<Verdict, Refusal> {
     let mut out = [0; Verdict::BYTES];
     judge_into(tables, rule, order, &mut out)?;
-    Ok(Verdict::from_bytes(&out).expect("the library writes verdicts only"))
+    Ok(Verdict::from_bytes(&out))
 }
 
 /// Writes the verdict on a rule into the first [`Verdict::BYTES`] bytes of `out` and gives their
 /// number. [`Verdict::from_bytes`] reads them.
 ///
-/// The rest of `out` keeps its contents, and all of it does on a refusal:
-/// [`Refusal::ShortSheet`] where `out` is too short.
+/// The rest of `out` keeps its contents, and all of it does on a refusal.
 ///
 /// ```
 /// use rcl2000::{judge_into, Verdict, Word};
@@ -136,47 +175,125 @@ pub fn judge(tables: &[u8], rule: &[u8], order: &[u8]) -> Result<Verdict, Refusa
 /// let nobody = [0; 9];
 /// let mut out = [0; Verdict::BYTES];
 /// judge_into(&nobody, b"roles(OE(U))={}", &[1], &mut out)?;
-/// assert_eq!(Verdict::from_bytes(&out).unwrap().word, Word::Idle);
+/// assert_eq!(Verdict::from_bytes(&out).word, Word::Idle);
 /// # Ok::<(), rcl2000::Refusal>(())
 /// ```
+///
+/// # Errors
+///
+/// As [`judge`]; then [`Refusal::ShortSheet`] where `out` has fewer bytes than a verdict.
+///
+/// # Cost
+///
+/// As [`judge`].
 pub fn judge_into(
     tables: &[u8],
     rule: &[u8],
     order: &[u8],
     out: &mut [u8],
 ) -> Result<usize, Refusal> {
-    // SAFETY: each pointer and length is that of a slice; `out` is lent alone.
-    let reply = unsafe {
-        library::judge(
-            tables.as_ptr(),
-            tables.len(),
-            rule.as_ptr(),
-            rule.len(),
-            order.as_ptr(),
-            order.len(),
-            out.as_mut_ptr(),
-            out.len(),
-        )
-    };
-    length(reply)
+    length(library::judge(tables, rule, order, out))
+}
+
+/// The verdict on a rule, its choices walked in the order 1, 2, .., as the day sheet has it.
+///
+/// ```
+/// use rcl2000::{judge_in_turn, Refusal};
+///
+/// let nobody = [0; 9];
+/// assert_eq!(judge_in_turn(&nobody, b"OE(U)=OE(U)")?.to_string(), "idle 0 0 -");
+/// assert_eq!(judge_in_turn(&nobody, b"OE(U)=U"), Err(Refusal::Kind));
+/// assert_eq!(judge_in_turn(&[], b"OE(U)=U"), Err(Refusal::CutShort));
+/// # Ok::<(), rcl2000::Refusal>(())
+/// ```
+///
+/// # Errors
+///
+/// What is wrong with the tables, a refusal from 1 to 10; else with the rule, 11 to 15.
+///
+/// # Cost
+///
+/// As [`judge`].
+pub fn judge_in_turn(tables: &[u8], rule: &[u8]) -> Result<Verdict, Refusal> {
+    // A rule that is refused has no variables. `judge` then says so, unless it refuses the tables.
+    let count = variables(rule).map_or(0, usize::from);
+    judge(tables, rule, &IN_TURN[..count.min(MAX_VARIABLES)])
 }
 
 /// How many variables a rule has: the quantifiers of its formula. The numbers from 1 up to it are
 /// an order for [`judge`].
 ///
 /// ```
-/// use rcl2000::{judge, variables};
+/// use rcl2000::variables;
 ///
-/// let rule = b"OE(U)=OE(U)";
-/// let order: Vec<u8> = (1..=variables(rule)?).collect();
-/// assert_eq!(judge(&[0; 9], rule, &order)?.to_string(), "idle 0 0 -");
+/// assert_eq!(variables(b"|CR|=1")?, 0);
+/// assert_eq!(variables(b"|(roles(OE(U))&OE(CR))|<=1")?, 2);
 /// # Ok::<(), rcl2000::Refusal>(())
 /// ```
+///
+/// # Errors
+///
+/// What is wrong with the rule: a refusal from 11 to 15.
+///
+/// # Cost
+///
+/// As [`reduce`], and 4 KiB of stack more.
 pub fn variables(rule: &[u8]) -> Result<u8, Refusal> {
     let mut out = [0; MAX_FORMULA];
     let length = reduce_into(rule, &mut out)?;
     // Each quantifier opens one `[`, and nothing else does.
-    Ok(out[..length].iter().filter(|&&byte| byte == b'[').count() as u8)
+    let opened = out.iter().take(length).filter(|&&byte| byte == b'[');
+    Ok(opened.count() as u8)
+}
+
+/// Whether the library accepts a rule, whatever the tables.
+///
+/// ```
+/// use rcl2000::{check_rule, Refusal};
+///
+/// assert_eq!(check_rule(b"|CR|=1"), Ok(()));
+/// assert_eq!(check_rule(b"|CR|=1 "), Err(Refusal::NotARule));
+/// ```
+///
+/// # Errors
+///
+/// What is wrong with the rule: a refusal from 11 to 15.
+///
+/// # Cost
+///
+/// As [`reduce`].
+pub fn check_rule(rule: &[u8]) -> Result<(), Refusal> {
+    accepted(reduce_into(rule, &mut []))
+}
+
+/// Whether the library accepts tables, whatever the rule.
+///
+/// ```
+/// use rcl2000::{check_tables, Refusal};
+///
+/// assert_eq!(check_tables(&[0; 9]), Ok(()));
+/// assert_eq!(check_tables(&[0; 8]), Err(Refusal::CutShort));
+/// assert_eq!(check_tables(&[0; 10]), Err(Refusal::LeftOver));
+/// ```
+///
+/// # Errors
+///
+/// What is wrong with the tables: a refusal from 1 to 10.
+///
+/// # Cost
+///
+/// Microseconds; stack as for [`judge`].
+pub fn check_tables(tables: &[u8]) -> Result<(), Refusal> {
+    accepted(judge_into(tables, NO_CHOICE, &[], &mut []))
+}
+
+/// Whether a call with an empty output accepted its inputs: no answer is empty, and the output's
+/// length is looked at last.
+fn accepted(reply: Result<usize, Refusal>) -> Result<(), Refusal> {
+    match reply {
+        Ok(_) | Err(Refusal::ShortSheet) => Ok(()),
+        Err(refusal) => Err(refusal),
+    }
 }
 
 /// What `write` puts into a buffer that is as long as any of its answers.
@@ -192,9 +309,24 @@ fn allocated(
 
 /// The library's one number: a length, or 65,536 times a refusal's number.
 fn length(reply: u32) -> Result<usize, Refusal> {
-    match reply >> 16 {
-        0 => Ok(reply as usize),
-        number => Err(Refusal::from_number(number)
-            .expect("the library gives the refusals of this crate's version only")),
+    match Refusal::from_number(reply >> 16) {
+        None => Ok(reply as usize),
+        Some(refusal) => Err(refusal),
+    }
+}
+
+#[cfg(test)]
+mod tests {
+    use super::*;
+
+    #[test]
+    fn a_reply_is_a_length_or_a_refusal_known_or_not() {
+        assert_eq!(length(0), Ok(0));
+        assert_eq!(length(65_535), Ok(65_535));
+        assert_eq!(length(13 << 16), Err(Refusal::NotARule));
+        for number in 19..=25 {
+            let refusal = length(number << 16).unwrap_err();
+            assert_eq!(refusal, Refusal::Unknown { number });
+        }
     }
 }

@@ -5,13 +5,8 @@
 //! judges a rule on tables of roles, users, sessions and permissions. The work is done by a
 //! library whose code is proved; here are safe calls over it, with Rust's types for its answers.
 //!
-//! Every call comes twice: once with an allocated answer ([`reduce`], [`rebuild`], [`judge`]), and
-//! once into bytes that the caller lends ([`reduce_into`], [`rebuild_into`], [`judge_into`]).
-//! Either gives a [`Refusal`] where the input is turned back, and then no lent byte has changed.
-//! The calls keep no state and may be made from any number of threads.
-//!
 //! ```
-//! use rcl2000::{judge, reduce, TablesBuilder, Word};
+//! use rcl2000::{judge_in_turn, reduce, TablesBuilder, Word};
 //!
 //! // Two roles that exclude each other, and two users, of whom the first has both.
 //! let mut tables = TablesBuilder::new();
@@ -25,20 +20,60 @@
 //! let rule = b"|(roles(OE(U))&OE(CR))|<=1";
 //! assert_eq!(reduce(rule)?, b"[v1@U][v2@CR]:|(roles(v1)&v2)|<=1");
 //!
-//! let verdict = judge(&tables, rule, &[1, 2])?;
+//! let verdict = judge_in_turn(&tables, rule)?;
 //! assert_eq!(verdict.word, Word::Broken);
 //! assert_eq!((verdict.full, verdict.breaking), (2, 1));
 //! assert_eq!(verdict.to_string(), "broken 2 1 50 v1=0 v2=0");
 //! # Ok::<(), Box<dyn std::error::Error>>(())
 //! ```
+//!
+//! # The calls
+//!
+//! [`reduce`], [`rebuild`] and [`judge`] allocate their answers; [`reduce_into`],
+//! [`rebuild_into`] and [`judge_into`] write them into bytes that the caller lends and allocate
+//! nothing. Any of them gives a [`Refusal`] where the input is turned back, and then no lent byte
+//! has changed. Nothing here panics, whatever the input.
+//!
+//! # What a call may cost
+//!
+//! - **Time.** All calls take microseconds but one: [`judge`] walks the full choices, and these
+//!   grow as 64 to the power of the number of variables. It cannot be interrupted. Each call says
+//!   what it may cost.
+//! - **Stack.** The library takes its memory from the stack of the thread that calls it:
+//!   at the most 40 KiB for [`reduce`], 160 KiB for [`rebuild`] and 64 KiB for [`judge`],
+//!   whatever the input ([`STACK_REDUCE`], [`STACK_REBUILD`], [`STACK_JUDGE`]; measured, not
+//!   proved). Rust's threads have 2 MiB unless asked for less.
+//! - **Threads.** The library keeps no state between calls and shares none: any number of threads
+//!   may call at once.
+//! - **Aliasing.** The borrow checker sees to it that a lent output overlaps no input. Inputs may
+//!   overlap each other.
+//! - **Machine.** The archive is for x86-64 Linux, and so is this crate.
+//!
+//! # The archive
+//!
+//! The crate links `librcl2000.a`, which `rt staticlib rcl2000` writes. Its build script looks for
+//! it in `target/staticlib` of the repository that the crate is in, or in the folder that
+//! `RCL2000_LIB_DIR` names, and tries it before it links it: an archive without the three calls,
+//! or one that answers otherwise than this version of the crate says, is a build error.
 
+#![deny(missing_docs, unsafe_code)]
+
+mod builder;
 mod calls;
+mod faults;
+mod items;
+#[allow(unsafe_code)]
+mod library;
 mod refusal;
-mod tables;
 mod verdict;
+mod words;
 
-pub use calls::{judge, judge_into, rebuild, rebuild_into, reduce, reduce_into, variables};
-pub use calls::{MAX_FORMULA, MAX_RULE};
+pub use builder::TablesBuilder;
+pub use calls::{check_rule, check_tables, variables};
+pub use calls::{judge, judge_in_turn, judge_into, rebuild, rebuild_into, reduce, reduce_into};
+pub use calls::{MAX_FORMULA, MAX_RULE, MAX_TABLES, MAX_VARIABLES};
+pub use calls::{STACK_JUDGE, STACK_REBUILD, STACK_REDUCE};
+pub use faults::{BuildError, Fault, Unencodable};
+pub use items::{Object, Operation, Permission, Role, Row, Section, Session, User};
 pub use refusal::Refusal;
-pub use tables::{Section, TablesBuilder, Unencodable};
 pub use verdict::{Verdict, Word};

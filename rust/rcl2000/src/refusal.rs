@@ -3,161 +3,126 @@
 use std::error::Error;
 use std::fmt;
 
-/// Why an input was turned back.
-///
-/// Its `Display` is a sentence for whoever has to put the input right.
-///
-/// ```
-/// use rcl2000::Refusal;
-///
-/// let refusal = rcl2000::reduce(b"|U|<=065").unwrap_err();
-/// assert_eq!(refusal, Refusal::NotARule);
-/// assert_eq!((refusal.number(), refusal.word()), (13, "not a rule"));
-/// assert_eq!(
-///     refusal.to_string(),
-///     "13, not a rule: the text is not written as a rule is written"
-/// );
-/// ```
-#[derive(Clone, Copy, PartialEq, Eq, Hash, Debug)]
-#[repr(u8)]
-pub enum Refusal {
-    CutShort = 1,
-    Overfull = 2,
-    NotEntered = 3,
-    BadMark = 4,
-    NoSuchItem = 5,
-    Miscounted = 6,
-    Rank = 7,
-    Overreach = 8,
-    Twin = 9,
-    LeftOver = 10,
-    RuleLength = 11,
-    Deep = 12,
-    NotARule = 13,
-    Kind = 14,
-    Choices = 15,
-    NoRulesFormula = 16,
-    ShortSheet = 17,
-    Order = 18,
+/// Says each refusal once: its number, its name here, document 01's word for it and its meaning.
+macro_rules! refusals {
+    ($($number:literal $name:ident $word:literal $meaning:literal)*) => {
+        /// Why an input was turned back.
+        ///
+        /// Its `Display` is a sentence for whoever has to put the input right.
+        ///
+        /// ```
+        /// use rcl2000::Refusal;
+        ///
+        /// let refusal = rcl2000::reduce(b"|U|<=065").unwrap_err();
+        /// assert_eq!(refusal, Refusal::NotARule);
+        /// assert_eq!((refusal.number(), refusal.word()), (13, "not a rule"));
+        /// assert_eq!(
+        ///     refusal.to_string(),
+        ///     "13, not a rule: the text is not written as a rule is written"
+        /// );
+        /// ```
+        ///
+        /// Later versions of the library will refuse by further numbers. A number that this
+        /// version does not know is [`Unknown`](Refusal::Unknown) and carries it.
+        #[derive(Clone, Copy, PartialEq, Eq, Hash, Debug)]
+        #[non_exhaustive]
+        pub enum Refusal {
+            $(
+                #[doc = concat!($number, ", ", $word, ": ", $meaning, ".")]
+                $name,
+            )*
+            /// A number that this version of the crate does not know. Only the crate makes it,
+            /// and never of a number that it knows.
+            #[non_exhaustive]
+            Unknown {
+                /// The number.
+                number: u32,
+            },
+        }
+
+        /// The refusals that are known, in the order of their numbers.
+        const KNOWN: &[Refusal] = &[$(Refusal::$name),*];
+
+        impl Refusal {
+            /// Document 01's number.
+            ///
+            /// ```
+            /// assert_eq!(rcl2000::Refusal::Twin.number(), 9);
+            /// ```
+            pub fn number(self) -> u32 {
+                match self {
+                    $(Refusal::$name => $number,)*
+                    Refusal::Unknown { number } => number,
+                }
+            }
+
+            /// Document 01's word for it.
+            ///
+            /// ```
+            /// assert_eq!(rcl2000::Refusal::Deep.word(), "deep");
+            /// ```
+            pub fn word(self) -> &'static str {
+                match self {
+                    $(Refusal::$name => $word,)*
+                    Refusal::Unknown { .. } => "unknown",
+                }
+            }
+
+            fn meaning(self) -> &'static str {
+                match self {
+                    $(Refusal::$name => $meaning,)*
+                    Refusal::Unknown { .. } => "a refusal of a later version of the library",
+                }
+            }
+        }
+    };
 }
 
-use Refusal::*;
-
-/// Each refusal in the order of the numbers, with its word and what it tells.
-const ALL: [(Refusal, &str, &str); 18] = [
-    (
-        CutShort,
-        "cut short",
-        "the tables end where a count or a row is due, or inside a row",
-    ),
-    (
-        Overfull,
-        "overfull",
-        "the tables announce more rows in a section than it may have",
-    ),
-    (
-        NotEntered,
-        "not entered",
-        "a user or a permission has a row that nobody has entered yet",
-    ),
-    (
-        BadMark,
-        "bad mark",
-        "the mark of a user or a permission is neither 0 nor 1",
-    ),
-    (
-        NoSuchItem,
-        "no such item",
-        "a row names a role, user or permission that the tables do not have",
-    ),
-    (
-        Miscounted,
-        "miscounted",
-        "there is not one permission for each operation on each object",
-    ),
-    (
-        Rank,
-        "rank",
-        "one role misses itself or a junior's junior, or two dominate each other",
-    ),
-    (
-        Overreach,
-        "overreach",
-        "a session has a role active that is not assigned to its user",
-    ),
-    (Twin, "twin", "a conflict set is listed twice"),
-    (
-        LeftOver,
-        "left over",
-        "there are bytes after the end of the tables",
-    ),
-    (
-        RuleLength,
-        "rule length",
-        "the rule is empty or longer than 256 bytes",
-    ),
-    (Deep, "deep", "the rule opens more than 32 brackets at once"),
-    (
-        NotARule,
-        "not a rule",
-        "the text is not written as a rule is written",
-    ),
-    (
-        Kind,
-        "kind",
-        "a part of the rule meets a kind of thing that it does not take",
-    ),
-    (
-        Choices,
-        "choices",
-        "the rule makes more than 8 different choices",
-    ),
-    (
-        NoRulesFormula,
-        "no rule's formula",
-        "no accepted rule has this formula",
-    ),
-    (
-        ShortSheet,
-        "short sheet",
-        "the answer is longer than the space lent for it",
-    ),
-    (
-        Order,
-        "order",
-        "the order does not list each variable once, after those that its set names",
-    ),
-];
+refusals! {
+    1 CutShort "cut short" "the tables end where a count or a row is due, or inside a row"
+    2 Overfull "overfull" "the tables announce more rows in a section than it may have"
+    3 NotEntered "not entered" "a user or a permission has a row that nobody has entered yet"
+    4 BadMark "bad mark" "the mark of a user or a permission is neither 0 nor 1"
+    5 NoSuchItem "no such item" "a row names a role, user or permission that the tables do not have"
+    6 Miscounted "miscounted" "there is not one permission for each operation on each object"
+    7 Rank "rank" "one role misses itself or a junior's junior, or two dominate each other"
+    8 Overreach "overreach" "a session has a role active that is not assigned to its user"
+    9 Twin "twin" "a conflict set is listed twice"
+    10 LeftOver "left over" "there are bytes after the end of the tables"
+    11 RuleLength "rule length" "the rule is empty or longer than 256 bytes"
+    12 Deep "deep" "the rule opens more than 32 brackets at once"
+    13 NotARule "not a rule" "the text is not written as a rule is written"
+    14 Kind "kind" "a part of the rule meets a kind of thing that it does not take"
+    15 Choices "choices" "the rule makes more than 8 different choices"
+    16 NoRulesFormula "no rule's formula" "no accepted rule has this formula"
+    17 ShortSheet "short sheet" "the answer is longer than the space lent for it"
+    18 Order "order" "the order does not list each variable once, after those that its set names"
+}
 
 impl Refusal {
-    /// Document 01's number.
-    pub fn number(self) -> u32 {
-        self as u32
-    }
-
-    /// Document 01's word.
-    pub fn word(self) -> &'static str {
-        ALL[self as usize - 1].1
-    }
-
-    /// The refusal with this number.
+    /// The refusal with this number: `None` for 0, which is acceptance, and
+    /// [`Unknown`](Refusal::Unknown) for a number of a later version.
     ///
     /// ```
     /// use rcl2000::Refusal;
     ///
     /// assert_eq!(Refusal::from_number(9), Some(Refusal::Twin));
     /// assert_eq!(Refusal::from_number(0), None);
+    /// let later = Refusal::from_number(19).unwrap();
+    /// assert!(matches!(later, Refusal::Unknown { number: 19, .. }));
+    /// assert_eq!(later.number(), 19);
     /// ```
     pub fn from_number(number: u32) -> Option<Refusal> {
-        let place = (number as usize).checked_sub(1)?;
-        ALL.get(place).map(|&(refusal, _, _)| refusal)
+        let place = number.checked_sub(1)? as usize;
+        let known = KNOWN.get(place).copied();
+        Some(known.unwrap_or(Refusal::Unknown { number }))
     }
 }
 
 impl fmt::Display for Refusal {
     fn fmt(&self, f: &mut fmt::Formatter) -> fmt::Result {
-        let (_, word, meaning) = ALL[*self as usize - 1];
-        write!(f, "{}, {word}: {meaning}", self.number())
+        let (number, word, meaning) = (self.number(), self.word(), self.meaning());
+        write!(f, "{number}, {word}: {meaning}")
     }
 }
 
@@ -168,12 +133,21 @@ mod tests {
     use super::*;
 
     #[test]
-    fn the_list_is_in_the_order_of_the_numbers() {
-        for (place, &(refusal, word, _)) in ALL.iter().enumerate() {
+    fn the_numbers_run_from_1_without_a_gap() {
+        for (place, &refusal) in KNOWN.iter().enumerate() {
             assert_eq!(refusal.number() as usize, place + 1);
-            assert_eq!(refusal.word(), word);
             assert_eq!(Refusal::from_number(refusal.number()), Some(refusal));
         }
-        assert_eq!(Refusal::from_number(19), None);
+        assert_eq!(KNOWN.len(), 18);
+    }
+
+    #[test]
+    fn a_number_that_is_not_known_is_a_case_of_its_own() {
+        for number in [19, 25, 65_535, u32::MAX] {
+            let refusal = Refusal::from_number(number).unwrap();
+            assert_eq!(refusal, Refusal::Unknown { number });
+            assert_eq!(refusal.number(), number);
+            assert!(refusal.to_string().starts_with(&number.to_string()));
+        }
     }
 }

@@ -3,7 +3,19 @@
 use std::fmt;
 
 /// What a verdict comes to.
-#[derive(Clone, Copy, PartialEq, Eq, Hash, Debug)]
+///
+/// Words are ordered by what they ask of whoever reads them: held, idle, broken. So the greatest of
+/// a page's words is the page's: broken if some rule is, else idle if some rule is, else held.
+/// `Display` pads.
+///
+/// ```
+/// use rcl2000::Word;
+///
+/// assert_eq!([Word::Held, Word::Broken, Word::Idle].iter().max(), Some(&Word::Broken));
+/// assert_eq!(format!("[{:<6}|{:>6}]", Word::Held, Word::Idle), "[held  |  idle]");
+/// ```
+#[derive(Clone, Copy, PartialEq, Eq, PartialOrd, Ord, Hash, Debug)]
+#[non_exhaustive]
 pub enum Word {
     /// Every full choice makes the rule true, and there is one.
     Held,
@@ -11,15 +23,22 @@ pub enum Word {
     Idle,
     /// Some full choice makes the rule false.
     Broken,
+    /// A number that this version of the crate does not know. Only the crate makes it.
+    #[non_exhaustive]
+    Unknown {
+        /// The number.
+        number: u8,
+    },
 }
 
 impl fmt::Display for Word {
     fn fmt(&self, f: &mut fmt::Formatter) -> fmt::Result {
-        f.write_str(match self {
-            Word::Held => "held",
-            Word::Idle => "idle",
-            Word::Broken => "broken",
-        })
+        match self {
+            Word::Held => f.pad("held"),
+            Word::Idle => f.pad("idle"),
+            Word::Broken => f.pad("broken"),
+            Word::Unknown { number } => f.pad(&format!("unknown-{number}")),
+        }
     }
 }
 
@@ -28,6 +47,7 @@ impl fmt::Display for Word {
 /// Its `Display` has the fields of the day sheet, one blank between them.
 #[derive(Clone, Copy, PartialEq, Eq, Hash, Debug)]
 pub struct Verdict {
+    /// What it comes to.
     pub word: Word,
     /// How many choices are full: every variable lies in its set.
     pub full: u64,
@@ -47,32 +67,33 @@ impl Verdict {
     /// The verdict that is written so, by [`judge_into`](crate::judge_into).
     ///
     /// ```
-    /// use rcl2000::Verdict;
+    /// use rcl2000::{Verdict, Word};
     ///
     /// let mut bytes = [0; Verdict::BYTES];
     /// rcl2000::judge_into(&[0; 9], b"|CR|=1", &[], &mut bytes)?;
-    /// let verdict = Verdict::from_bytes(&bytes).unwrap();
+    /// let verdict = Verdict::from_bytes(&bytes);
     /// assert_eq!((verdict.full, verdict.breaking, verdict.share), (1, 1, Some(100)));
     /// assert_eq!(verdict.first, [None; 8]);
     ///
-    /// assert_eq!(Verdict::from_bytes(&[3; Verdict::BYTES]), None);
+    /// let other = Verdict::from_bytes(&[3; Verdict::BYTES]);
+    /// assert!(matches!(other.word, Word::Unknown { number: 3, .. }));
     /// # Ok::<(), rcl2000::Refusal>(())
     /// ```
-    pub fn from_bytes(bytes: &[u8; Verdict::BYTES]) -> Option<Verdict> {
+    pub fn from_bytes(bytes: &[u8; Verdict::BYTES]) -> Verdict {
         let item = |byte: u8| (byte != 255).then_some(byte);
         let number = |at: usize| u64::from_le_bytes(std::array::from_fn(|i| bytes[at + i]));
-        Some(Verdict {
+        Verdict {
             word: match bytes[0] {
                 0 => Word::Held,
                 1 => Word::Idle,
                 2 => Word::Broken,
-                _ => return None,
+                number => Word::Unknown { number },
             },
             full: number(1),
             breaking: number(9),
             first: std::array::from_fn(|variable| item(bytes[17 + variable])),
             share: item(bytes[25]),
-        })
+        }
     }
 }
 

@@ -1,7 +1,8 @@
 //! Document 01's own examples, A to K, its tables T and listing, and the edges that it names.
 
-use rcl2000::{judge, judge_into, rebuild, rebuild_into, reduce, reduce_into, variables};
-use rcl2000::{Refusal, TablesBuilder, Verdict, Word};
+use rcl2000::{check_rule, check_tables, judge, judge_in_turn, judge_into, variables};
+use rcl2000::{rebuild, rebuild_into, reduce, reduce_into};
+use rcl2000::{Refusal, TablesBuilder, Verdict, Word, MAX_TABLES};
 
 const A: &str = "|(roles(OE(U))&OE(CR))|<=1";
 const B: &str = "OE(OE(CR))@roles(OE(U))=>(AO(OE(CR))&roles(OE(U)))={}";
@@ -11,17 +12,15 @@ const D: &str = "|CR|=1";
 /// Tables T: two roles, two users (the first has both roles), and one set of conflicting roles.
 fn tables() -> Vec<u8> {
     let mut tables = TablesBuilder::new();
-    tables.role([]);
-    tables.role([]);
-    tables.user([0, 1]);
-    tables.user([0]);
-    tables.conflicting_roles([0, 1]);
+    let (first, second) = (tables.role([]), tables.role([]));
+    tables.user([first, second]);
+    tables.user([first]);
+    tables.conflicting_roles([first, second]);
     tables.build().unwrap()
 }
 
 fn in_turn(tables: &[u8], rule: &str) -> Result<Verdict, Refusal> {
-    let order: Vec<u8> = (1..=variables(rule.as_bytes())?).collect();
-    judge(tables, rule.as_bytes(), &order)
+    judge_in_turn(tables, rule.as_bytes())
 }
 
 #[test]
@@ -107,6 +106,44 @@ fn sixty_four_users_and_one_more() {
     users.user([]);
     let error = users.build().unwrap_err();
     assert_eq!(error.to_string(), "tables hold at most 64 users, not 65");
+}
+
+#[test]
+fn checks_alone_say_what_judging_says() {
+    for rule in [A, B, C, D, "", "U", "OE(U)=U", "|roles(OE(U))"] {
+        let judged = judge_in_turn(&tables(), rule.as_bytes());
+        assert_eq!(check_rule(rule.as_bytes()), judged.map(|_| ()), "{rule}");
+    }
+    let bytes = tables();
+    for length in 0..=bytes.len() {
+        let judged = in_turn(&bytes[..length], D);
+        assert_eq!(check_tables(&bytes[..length]), judged.map(|_| ()));
+    }
+    // Tables are looked at before the rule.
+    assert_eq!(in_turn(&[1], "U"), Err(Refusal::CutShort));
+    assert_eq!(in_turn(&bytes, "U"), Err(Refusal::NotARule));
+}
+
+#[test]
+fn the_largest_tables() {
+    let mut builder = TablesBuilder::new();
+    let roles = [(); 64].map(|()| builder.role([]));
+    let users = [(); 64].map(|()| builder.user(roles));
+    let operations: [_; 8] = builder.operations();
+    let objects: [_; 8] = builder.objects();
+    for operation in operations {
+        for object in objects {
+            let permission = builder.permission(operation, object);
+            builder.held_by(permission, [roles[0]]);
+            builder.conflicting_permissions([permission]);
+        }
+    }
+    for place in 0..64 {
+        builder.session(users[place], [roles[place]]);
+        builder.conflicting_roles([roles[place]]);
+        builder.conflicting_users([users[place]]);
+    }
+    assert_eq!(builder.build().unwrap().len(), MAX_TABLES);
 }
 
 #[test]

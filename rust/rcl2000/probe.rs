@@ -1,0 +1,68 @@
+//! Compiled by `build.rs` with the archive and run: asks it what this version of the crate says
+//! that it answers, and fails where an answer is another.
+
+#[path = "src/library.rs"]
+mod library;
+
+use std::process::exit;
+
+/// Document 01's tables T: two roles, two users, the first with both roles, and one CR word.
+const T: &[u8] = b"\x02\x01\0\0\0\0\0\0\0\x02\0\0\0\0\0\0\0\
+    \x02\x01\x03\0\0\0\0\0\0\0\x01\x01\0\0\0\0\0\0\0\0\0\0\0\x01\x03\0\0\0\0\0\0\0\0\0";
+
+/// Role 0 above role 1, a user with role 0, a session of the user with role 1.
+const JUNIOR: &[u8] = b"\x02\x03\0\0\0\0\0\0\0\x02\0\0\0\0\0\0\0\
+    \x01\x01\x01\0\0\0\0\0\0\0\x01\0\x02\0\0\0\0\0\0\0\0\0\0\0\0\0";
+
+/// A user with mark 2.
+const MARK: &[u8] = b"\0\x01\x02\0\0\0\0\0\0\0\0\0\0\0\0\0\0\0";
+
+/// One role and eight users, the first with the role.
+const EIGHT: &[u8] = b"\x01\x01\0\0\0\0\0\0\0\x08\x01\x01\0\0\0\0\0\0\0\
+    \x01\0\0\0\0\0\0\0\0\x01\0\0\0\0\0\0\0\0\x01\0\0\0\0\0\0\0\0\x01\0\0\0\0\0\0\0\0\
+    \x01\0\0\0\0\0\0\0\0\x01\0\0\0\0\0\0\0\0\x01\0\0\0\0\0\0\0\0\0\0\0\0\0\0\0";
+
+const A: &[u8] = b"|(roles(OE(U))&OE(CR))|<=1";
+const B: &[u8] = b"OE(OE(CR))@roles(OE(U))=>(AO(OE(CR))&roles(OE(U)))={}";
+
+/// The byte that fills a lent output before the call.
+const FILL: u8 = b'.';
+
+fn main() {
+    let refused = |number: u32| (65_536 * number, &b""[..]);
+    // The calls of document 01: arguments, numbers, lengths, the bytes of a verdict.
+    let formula = b"[v1@U][v2@CR]:|(roles(v1)&v2)|<=1";
+    let broken = b"\x02\x02\0\0\0\0\0\0\0\x01\0\0\0\0\0\0\0\0\0\xff\xff\xff\xff\xff\xff\x32";
+    holds("reduce A", (33, formula), |out| library::reduce(A, out));
+    holds("rebuild A", (26, A), |out| library::rebuild(formula, out));
+    holds("K", refused(16), |out| library::rebuild(b"[v1@U]:U=U", out));
+    holds("E", (26, broken), |out| library::judge(T, A, &[1, 2], out));
+    holds("J", refused(18), |out| library::judge(T, B, &[2, 1, 3], out));
+    holds("17", refused(17), |out| library::reduce(A, &mut out[..32]));
+    // What the requests after document 01 will change, by which their archives are told apart: 8
+    // for a junior role (N2), 4 for a mark of 2 (N6), a half in a hundred upward (N7).
+    let (rule, eighth) = (b"roles(OE(U))={}", half_of_a_hundred_upward());
+    holds("N2", refused(8), |out| library::judge(JUNIOR, A, &[1, 2], out));
+    holds("N6", refused(4), |out| library::judge(MARK, A, &[1, 2], out));
+    holds("N7", (26, &eighth), |out| library::judge(EIGHT, rule, &[1], out));
+}
+
+/// The verdict with one choice of eight broken: 12.5 in a hundred are 13.
+fn half_of_a_hundred_upward() -> [u8; 26] {
+    let mut verdict = [0xff; 26];
+    verdict[..18].copy_from_slice(b"\x02\x08\0\0\0\0\0\0\0\x01\0\0\0\0\0\0\0\0");
+    verdict[25] = 13;
+    verdict
+}
+
+/// The call returns this number, and leaves these bytes and then what was there.
+fn holds(name: &str, expected: (u32, &[u8]), call: impl FnOnce(&mut [u8]) -> u32) {
+    let (number, bytes) = expected;
+    let (mut out, mut after) = ([FILL; 64], [FILL; 64]);
+    after[..bytes.len()].copy_from_slice(bytes);
+    let reply = call(&mut out);
+    if reply != number || out != after {
+        println!("example {name} gave {reply}, not {number}, or other bytes");
+        exit(1);
+    }
+}

@@ -1,0 +1,51 @@
+//! The archive's three functions. All the unsafe code of this crate stands here.
+
+mod archive {
+    extern "C" {
+        pub fn reduce(rule: *const u8, rule_len: usize, out: *mut u8, out_len: usize) -> u32;
+
+        pub fn rebuild(formula: *const u8, formula_len: usize, out: *mut u8, out_len: usize)
+            -> u32;
+
+        pub fn judge(
+            tables: *const u8,
+            tables_len: usize,
+            rule: *const u8,
+            rule_len: usize,
+            order: *const u8,
+            order_len: usize,
+            out: *mut u8,
+            out_len: usize,
+        ) -> u32;
+    }
+}
+
+// SAFETY of the three calls: the functions of the archive take a slice as a pointer and a length,
+// ask nothing else of their arguments, read nothing but the inputs, write nothing but the first
+// bytes of `out`, and keep no pointer; that is proved of them. Every pointer here is that of a
+// Rust slice with its own length, so it is valid for that many bytes and never null, and `out`,
+// borrowed mutably, overlaps no input. `build.rs` has seen that the archive has functions of these
+// names and that they answer as functions with these arguments do.
+
+pub fn reduce(rule: &[u8], out: &mut [u8]) -> u32 {
+    unsafe { archive::reduce(rule.as_ptr(), rule.len(), out.as_mut_ptr(), out.len()) }
+}
+
+pub fn rebuild(formula: &[u8], out: &mut [u8]) -> u32 {
+    unsafe { archive::rebuild(formula.as_ptr(), formula.len(), out.as_mut_ptr(), out.len()) }
+}
+
+pub fn judge(tables: &[u8], rule: &[u8], order: &[u8], out: &mut [u8]) -> u32 {
+    unsafe {
+        archive::judge(
+            tables.as_ptr(),
+            tables.len(),
+            rule.as_ptr(),
+            rule.len(),
+            order.as_ptr(),
+            order.len(),
+            out.as_mut_ptr(),
+            out.len(),
+        )
+    }
+}

@@ -1,0 +1,156 @@
+//! What the builder says of tables that the library would refuse, row by row.
+
+use rcl2000::{BuildError, Fault, Object, Operation, Permission, Refusal, Role, Row, Section};
+use rcl2000::{TablesBuilder, Unencodable, User};
+
+/// The refusal and the faults of tables that can be encoded.
+fn refused(tables: &TablesBuilder) -> (Refusal, Vec<Fault>) {
+    match tables.build() {
+        Err(BuildError::Refused { refusal, faults }) => (refusal, faults),
+        other => panic!("{other:?}"),
+    }
+}
+
+#[test]
+fn what_was_never_entered_is_named_user_by_user_and_pair_by_pair() {
+    let mut tables = TablesBuilder::new();
+    let role = tables.role([]);
+    tables.user([]);
+    let late = tables.user_not_entered();
+    let [fill, draw] = tables.operations();
+    let [north, south] = tables.objects();
+    tables.held_by(tables.permission(fill, north), [role]);
+    tables.held_by(tables.permission(draw, south), []);
+    let rows = [
+        Row::User(late),
+        Row::Permission(tables.permission(fill, south)),
+        Row::Permission(tables.permission(draw, north)),
+    ];
+    let faults = rows.map(|row| Fault::NotEntered { row }).to_vec();
+    assert_eq!(refused(&tables), (Refusal::NotEntered, faults));
+    // The marks are 0 in the bytes, which are to be had all the same.
+    let bytes = tables.encode().unwrap();
+    assert_eq!((bytes[1 + 8 + 1], bytes[1 + 8 + 1 + 9]), (1, 0));
+}
+
+#[test]
+fn roles_that_are_juniors_of_each_other() {
+    let mut tables = TablesBuilder::new();
+    let [a, b, c] = [0, 1, 2].map(Role::numbered);
+    tables.role([b]);
+    tables.role([c]);
+    tables.role([a]);
+    let pairs = [(a, b), (a, c), (b, c)];
+    let faults = pairs.map(|(first, second)| Fault::EachOther { first, second });
+    assert_eq!(refused(&tables), (Refusal::Rank, faults.to_vec()));
+}
+
+#[test]
+fn rows_of_roles_that_miss_something() {
+    let mut tables = TablesBuilder::new();
+    let [a, b, c] = [0, 1, 2].map(Role::numbered);
+    tables.role_row([a, b]);
+    tables.role_row([b, c]);
+    tables.role_row([]);
+    let faults = vec![
+        Fault::MissesJunior {
+            role: a,
+            junior: b,
+            missing: c,
+        },
+        Fault::MissesItself { role: c },
+    ];
+    assert_eq!(refused(&tables), (Refusal::Rank, faults));
+}
+
+#[test]
+fn juniors_of_a_whole_row_count_as_the_row_says() {
+    let mut tables = TablesBuilder::new();
+    let [low, middle] = [0, 1].map(Role::numbered);
+    tables.role_row([low]);
+    tables.role_row([low, middle]);
+    let high = tables.role([middle]);
+    tables.user([high]);
+    let bytes = tables.build().unwrap();
+    assert_eq!(bytes[1 + 16], 0b111);
+}
+
+#[test]
+fn sessions_that_reach_too_far_and_equal_words() {
+    let mut tables = TablesBuilder::new();
+    let (hand, leader) = (tables.role([]), tables.role([]));
+    let (anna, bruno) = (tables.user([hand]), tables.user([]));
+    tables.session(anna, [hand]);
+    let second = tables.session(anna, [hand, leader]);
+    let third = tables.session(bruno, [hand]);
+    let overreach = |session, user, role| Fault::Overreach {
+        session,
+        user,
+        role,
+    };
+    let faults = vec![
+        overreach(second, anna, leader),
+        overreach(third, bruno, hand),
+    ];
+    assert_eq!(refused(&tables), (Refusal::Overreach, faults));
+
+    let mut tables = TablesBuilder::new();
+    let users = [tables.user([]), tables.user([])];
+    tables.conflicting_users(users);
+    tables.conflicting_users([]);
+    tables.conflicting_users([users[1], users[0], users[1]]);
+    tables.conflicting_users([]);
+    let twins = |first, second| Fault::Twins {
+        first: Row::ConflictingUsers(first),
+        second: Row::ConflictingUsers(second),
+    };
+    let faults = vec![twins(0, 2), twins(1, 3)];
+    assert_eq!(refused(&tables), (Refusal::Twin, faults));
+}
+
+#[test]
+fn a_permission_may_be_named_first_and_is_looked_for_in_the_end() {
+    let permission = Permission {
+        operation: Operation::numbered(1),
+        object: Object::numbered(0),
+    };
+    let mut tables = TablesBuilder::new();
+    tables.held_by(permission, []);
+    tables.conflicting_permissions([permission]);
+    let missing = |of| Unencodable::NoSuchItem {
+        row: Row::Permission(permission),
+        of,
+        item: if of == Section::Operations { 1 } else { 0 },
+    };
+    tables.operation();
+    assert_eq!(tables.encode(), Err(missing(Section::Operations)));
+    tables.operation();
+    assert_eq!(tables.encode(), Err(missing(Section::Objects)));
+    tables.object();
+    let bytes = tables.encode().unwrap();
+    // Two operations, one object, two rows: the first never entered; CP has bit 1.
+    assert_eq!(bytes[3..6], [2, 1, 2]);
+    assert_eq!((bytes[6], bytes[15]), (0, 1));
+    assert_eq!(bytes[bytes.len() - 8], 0b10);
+}
+
+#[test]
+fn numbers_of_any_size_are_looked_for_and_nothing_else() {
+    let mut tables = TablesBuilder::new();
+    tables.user([Role::numbered(usize::MAX)]);
+    let error = tables.encode().unwrap_err();
+    let text = format!(
+        "user 0 names role {}, which the tables do not have",
+        usize::MAX
+    );
+    assert_eq!(error.to_string(), text);
+    let mut tables = TablesBuilder::new();
+    tables.session(User::numbered(64), []);
+    let text = "session 0 names user 64, which the tables do not have";
+    assert_eq!(tables.encode().unwrap_err().to_string(), text);
+    for _ in 0..9 {
+        tables.operation();
+    }
+    let text = "tables hold at most 8 operations, not 9";
+    assert_eq!(tables.build().unwrap_err().to_string(), text);
+}
