@@ -1,0 +1,105 @@
+/*
+ * RCL 2000 duty rules: the calls of the proved library.
+ *
+ *     rt staticlib rcl2000                # writes target/staticlib/librcl2000.a
+ *     cc -I include program.c target/staticlib/librcl2000.a
+ *
+ * A call takes byte slices, each as a pointer and a length, and returns one number: L, how many bytes it wrote to the
+ * first of the lent output, or 65,536 times the number of a refusal. The other lent bytes keep their contents, and on
+ * a refusal all of them do. The calls ask nothing of the bytes that they are handed: every input has its answer.
+ *
+ * What a caller has to know:
+ *
+ * - Pointers. Each points to as many bytes as its length says, and is not NULL, also where the length is 0.
+ * - Aliasing. `out` overlaps no input. Inputs may overlap each other. Nothing else may write to any of them before the
+ *   call returns. No pointer is kept after that.
+ * - Time. reduce and rebuild take microseconds. judge takes as long as there are full choices, some 20 to 100 ns for each
+ *   on a present machine, and there may be as many as 64 to the power of the number of variables: 4,096 with two
+ *   variables, 16 million with four, 2.8e14 with eight, which takes months. A call cannot be interrupted. Whoever judges
+ *   rules that others wrote counts the variables first (the `[` in the formula that reduce writes).
+ * - Stack. All memory comes from the stack of the thread that calls, at the most RCL2000_STACK_REDUCE,
+ *   RCL2000_STACK_REBUILD and RCL2000_STACK_JUDGE bytes, whatever the input. (Measured and tested, not proved.)
+ * - Threads. No state is kept between calls or shared: any number of threads may call at once.
+ * - Names. The archive defines the three names below and no other, and needs memcpy and memset. A program with a
+ *   function of its own called reduce, rebuild or judge cannot link it.
+ * - Machine. x86-64 Linux.
+ */
+#ifndef RCL2000_H
+#define RCL2000_H
+
+#if !defined(__x86_64__) || !defined(__linux__)
+#error "librcl2000.a is for x86-64 Linux"
+#endif
+
+#include <stddef.h>
+#include <stdint.h>
+
+/* The most bytes that accepted tables, an accepted rule, and a formula of one have; the most variables. */
+#define RCL2000_MAX_TABLES 3785
+#define RCL2000_MAX_RULE 256
+#define RCL2000_MAX_FORMULA 4096
+#define RCL2000_MAX_VARIABLES 8
+
+/* The stack that each call takes at the most, in bytes. */
+#define RCL2000_STACK_REDUCE (40 * 1024)
+#define RCL2000_STACK_REBUILD (160 * 1024)
+#define RCL2000_STACK_JUDGE (64 * 1024)
+
+/* A verdict is 26 bytes: the word, full and breaking as numbers of 8 bytes, lowest byte first, the first breaking choice
+   by variable, and the share in a hundred. Unused items of the choice, and the share of an idle rule, are 255. */
+#define RCL2000_VERDICT 26
+#define RCL2000_VERDICT_WORD 0
+#define RCL2000_VERDICT_FULL 1
+#define RCL2000_VERDICT_BREAKING 9
+#define RCL2000_VERDICT_CHOICE 17
+#define RCL2000_VERDICT_SHARE 25
+#define RCL2000_NONE 255
+
+/* The word of a verdict. An idle rule met nobody: that is not held. */
+enum rcl2000_word { RCL2000_HELD = 0, RCL2000_IDLE = 1, RCL2000_BROKEN = 2 };
+
+/* The refusal's number in what a call returned; 0 where it answered, and returned L. */
+#define RCL2000_REFUSAL(returned) ((uint32_t)(returned) >> 16)
+
+/* The refusals. Later versions add numbers, so one that is not listed is a refusal too. */
+enum rcl2000_refusal {
+    RCL2000_CUT_SHORT = 1,         /* the tables end where a count or a row is due, or inside a row */
+    RCL2000_OVERFULL = 2,          /* a count of the tables is above its limit */
+    RCL2000_NOT_ENTERED = 3,       /* the row of a user or a permission never arrived */
+    RCL2000_BAD_MARK = 4,          /* a mark is neither 0 nor 1 */
+    RCL2000_NO_SUCH_ITEM = 5,      /* a row names an item that the tables do not have */
+    RCL2000_MISCOUNTED = 6,        /* the permissions are not operations times objects */
+    RCL2000_RANK = 7,              /* role rows are not reflexive, transitive, antisymmetric */
+    RCL2000_OVERREACH = 8,         /* a session has a role that its user is not assigned */
+    RCL2000_TWIN = 9,              /* two words of one collection are equal */
+    RCL2000_LEFT_OVER = 10,        /* there are bytes after the tables */
+    RCL2000_RULE_LENGTH = 11,      /* the rule has 0 or more than 256 bytes */
+    RCL2000_DEEP = 12,             /* more than 32 brackets are open at once */
+    RCL2000_NOT_A_RULE = 13,       /* the text is outside the grammar */
+    RCL2000_KIND = 14,             /* kinds do not fit */
+    RCL2000_CHOICES = 15,          /* there are more than 8 variables */
+    RCL2000_NO_RULES_FORMULA = 16, /* no accepted rule has this formula */
+    RCL2000_SHORT_SHEET = 17,      /* the lent output is shorter than L */
+    RCL2000_ORDER = 18             /* the order does not list each variable once, after those that its set names */
+};
+
+#ifdef __cplusplus
+extern "C" {
+#endif
+
+/* The formula of a rule, at most RCL2000_MAX_FORMULA bytes. Refusals: 11 to 15, 17. */
+uint32_t reduce(const uint8_t *rule, size_t rule_length, uint8_t *out, size_t out_length);
+
+/* The rule of a formula, at most RCL2000_MAX_RULE bytes. Refusals: 16, 17. */
+uint32_t rebuild(const uint8_t *formula, size_t formula_length, uint8_t *out, size_t out_length);
+
+/* The verdict on a rule, RCL2000_VERDICT bytes. The order lists the rule's variables, from 1, one byte each; 1, 2, ..
+   always serves. Refusals: 1 to 10, 11 to 15, 18, 17. */
+uint32_t judge(const uint8_t *tables, size_t tables_length, const uint8_t *rule, size_t rule_length,
+               const uint8_t *order, size_t order_length, uint8_t *out, size_t out_length);
+
+#ifdef __cplusplus
+}
+#endif
+
+#endif
