@@ -1,6 +1,9 @@
 // The listing program: prints the day sheet of `tables.bin` and `rules.txt` in the folder that it
 // runs in. Each line is made by `sheets::line`; here are only the files and the printing.
+// A program has no exit status of its own: where the sheet cannot be written whole it stops and says
+// so on standard error, and `bin/day-sheet` makes an exit status of that.
 use answers::Written;
+use libc::STDERR_FILENO;
 use libc::STDOUT_FILENO;
 ghost use Rattle.io.specs.Counts.{Counts};
 ghost use Prim.Native.Nat.{_≤_};
@@ -12,23 +15,38 @@ struct Contents {
     n: usize,
 }
 
+// What became of a line of the sheet.
+enum Line {
+    Printed,
+    Missing,
+    Unwritten,
+}
+
 fn main() {
+    if !print_files() {
+        io::write_all(
+            STDERR_FILENO,
+            b"day_sheet: the sheet could not be written whole\n",
+        );
+    }
+}
+
+// Prints the sheet of the two files; answers whether it is written whole.
+fn print_files() -> bool {
     // The first 4,096 bytes of the tables suffice; rules of more than 32,768 bytes are too long.
     let mut tables = [0u8; 4096];
     let mut rules = [0u8; 32769];
     let t = read_file(b"tables.bin", &mut tables);
     let r = read_file(b"rules.txt", &mut rules);
     if !t.good {
-        io::write_all(STDOUT_FILENO, b"no tables.bin\n");
-        return;
+        return io::write_all(STDOUT_FILENO, b"no tables.bin\n");
     }
     if !r.good {
-        io::write_all(STDOUT_FILENO, b"no rules.txt\n");
-        return;
+        return io::write_all(STDOUT_FILENO, b"no rules.txt\n");
     }
     let n = t.n;
     let m = r.n;
-    print_sheet(&tables[..n], &rules[..m]);
+    print_sheet(&tables[..n], &rules[..m])
 }
 
 fn read_file(path: &[u8], out: &mut [u8]) -> Contents
@@ -74,27 +92,35 @@ fn read_some(fd: i32, out: &mut [u8]) -> Contents
     }
 }
 
-// Rules of 32,768 bytes have no more lines than bytes.
-fn print_sheet(tables: &[u8], rules: &[u8]) {
+// Rules of 32,768 bytes have no more lines than bytes. Answers whether every line is written.
+fn print_sheet(tables: &[u8], rules: &[u8]) -> bool {
     let mut place = 1;
     while place <= 32768 {
-        if !print_line(tables, rules, place) {
-            return;
+        let line = print_line(tables, rules, place);
+        match line {
+            Line::Printed => {}
+            Line::Missing => return true,
+            Line::Unwritten => return false,
         }
         place += 1;
     }
+    true
 }
 
-// Prints the line at a place; answers whether there is one.
-fn print_line(tables: &[u8], rules: &[u8], place: usize) -> bool {
+// Prints the line at a place, if there is one.
+fn print_line(tables: &[u8], rules: &[u8], place: usize) -> Line {
     let mut line = [0u8; 512];
     let Written::Wrote(n) = sheets::line(tables, rules, place, &mut line) else {
-        return false;
+        return Line::Missing;
     };
     if n == 0 {
-        return false;
+        return Line::Missing;
     }
-    io::write_all(STDOUT_FILENO, &line[..n]);
-    io::write_all(STDOUT_FILENO, b"\n");
-    true
+    if !io::write_all(STDOUT_FILENO, &line[..n]) {
+        return Line::Unwritten;
+    }
+    if !io::write_all(STDOUT_FILENO, b"\n") {
+        return Line::Unwritten;
+    }
+    Line::Printed
 }

@@ -34,14 +34,20 @@ slice-aggregate-write-all c = sym (length-take-le _ _ (lent-within _ (c .before 
 write-all-requires : tie.Need-write-all-requires
 write-all-requires c κs = search needs
 
+returns-3 : tie.Need-returns-3
+returns-3 c = search needs
+
 slice-aggregate-write-all-2 : tie.Need-slice-aggregate-write-all-2
 slice-aggregate-write-all-2 c = search needs
 
 write-all-requires-2 : tie.Need-write-all-requires-2
 write-all-requires-2 c κs = search needs
 
-returns-3 : tie.Need-returns-3
-returns-3 c = search needs
+returns-4 : tie.Need-returns-4
+returns-4 c = search needs
+
+returns-5 : tie.Need-returns-5
+returns-5 c = search needs
 
 pub print-line-spec : {M : Type 1} → statement M
 print-line-spec =
@@ -56,6 +62,8 @@ print-line-spec =
     array-share-prefix-line
     slice-aggregate-write-all
     write-all-requires
+    returns-3
     slice-aggregate-write-all-2
     write-all-requires-2
-    returns-3)
+    returns-4
+    returns-5)
