@@ -1,13 +1,18 @@
 //! Calls of the proved library held against an expected answer, byte by byte.
 
 use rcl2000::Refusal;
-use reference::protocol::hex;
+use reference::protocol::{hex, FILL};
 use reference::Answer;
 
 use crate::random::Random;
 
-/// The byte that fills a lent output and its guards before the call.
-const FILL: u8 = 0xa5;
+/// The number that the library gave, from what the crate makes of it.
+pub fn reply(answer: Result<usize, Refusal>) -> u32 {
+    match answer {
+        Ok(length) => length as u32,
+        Err(refusal) => 65_536 * refusal.number(),
+    }
+}
 
 /// One question to the library.
 #[derive(Clone, Debug)]
@@ -54,7 +59,7 @@ impl Question {
     }
 
     /// The command that asks this, as the vectors write it.
-    fn command(&self, length: usize) -> String {
+    pub fn command(&self, length: usize) -> String {
         match self {
             Question::Reduce(rule) => format!("reduce {} {length}", hex(rule)),
             Question::Rebuild(formula) => format!("rebuild {} {length}", hex(formula)),
@@ -70,12 +75,8 @@ impl Question {
     pub fn hold(&self, expected: &Answer<Vec<u8>>, length: usize, guard: usize) {
         let mut lent = vec![FILL; guard + length + guard].into_boxed_slice();
         let mut after = lent.clone();
-        let reply = self.ask(&mut lent[guard..guard + length]);
+        let reply = reply(self.ask(&mut lent[guard..guard + length]));
         let wanted = reference::lend(expected.clone(), &mut after[guard..guard + length]);
-        let reply = match reply {
-            Ok(length) => length as u32,
-            Err(refusal) => 65_536 * refusal.number(),
-        };
         assert!(
             reply == wanted && lent == after,
             "{}\nexpected {wanted} {}\ngot      {reply} {}\n{guard} bytes at either end are guards",

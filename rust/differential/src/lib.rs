@@ -9,7 +9,9 @@ pub mod hurtful;
 pub mod orders;
 pub mod random;
 pub mod rules;
+pub mod subjects;
 pub mod tables;
+pub mod vectors;
 
 /// How many inputs to try where the gate tries `count`: `RCL2000_PERCENT` scales it, 100 being
 /// the gate's.

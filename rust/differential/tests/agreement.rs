@@ -1,86 +1,93 @@
 //! The library, the plain reference and the fast reference agree on generated inputs.
 //!
-//! `RCL2000_PERCENT=2000 cargo test --release -p differential` tries twenty times as many.
+//! `RCL2000_PERCENT=2000 cargo test --release -p differential` tries twenty times as many;
+//! `cargo run --release -p differential -- --long MINUTES` goes on with ever new ones.
 
-use differential::hold::{Met, Question};
+use differential::hold::Question;
 use differential::random::Random;
-use differential::{formulas, orders, rules, scaled, tables};
-use rcl2000::{BuildError, Unencodable};
-use reference::verdict::steps;
+use differential::subjects::{full, large, LARGE, SUBJECTS};
+use differential::{rules, scaled, tables};
+use rcl2000::{BuildError, Unencodable, Verdict};
 
-const TABLES: u64 = 70_000;
-const RULES: u64 = 90_000;
-const FORMULAS: u64 = 70_000;
-const VERDICTS: u64 = 80_000;
-const WIDE: u64 = 2_000;
+/// How many large verdicts are compared.
+const LARGE_ONES: u64 = 8;
 
-const _: () = assert!(TABLES + RULES + FORMULAS + VERDICTS + WIDE >= 300_000);
+/// The gate asks 312,000 questions.
+#[test]
+fn the_gate_asks_enough() {
+    let asked: u64 = SUBJECTS.iter().map(|subject| subject.count).sum();
+    assert_eq!(asked, 312_000);
+}
 
-/// The most steps of a walk where every choice is tried.
-const FEW: u128 = 2_000;
-
-/// The most steps of a walk by the fast modules.
-const MANY: u128 = 10_000;
-
-/// Holds the library and the fast modules to the plain ones on `count` questions, which must meet
-/// each of the answers.
-fn agree(
-    seed: u64,
-    count: u64,
-    answers: impl IntoIterator<Item = usize>,
-    mut ask: impl FnMut(&mut Random) -> Question,
-) {
-    let random = &mut Random::new(seed);
-    let mut met = Met::default();
-    for _ in 0..scaled(count) {
-        let question = ask(random);
-        let expected = question.plain();
-        assert_eq!(expected, question.fast());
-        question.hold_all(&expected, random);
-        met.note(&expected);
-    }
-    if scaled(count) >= count {
-        met.expect(answers, count / 1_000);
+/// Asks a subject's questions, which must meet each of its answers.
+fn agree(name: &str) {
+    let subject = SUBJECTS.iter().find(|subject| subject.name == name);
+    let subject = subject.expect("there is such a subject");
+    let met = subject.agree(subject.seed, scaled(subject.count));
+    if scaled(subject.count) >= subject.count {
+        met.expect(subject.answers.iter().copied(), subject.count / 1_000);
     }
 }
 
 #[test]
 fn tables_agree() {
-    agree(1, TABLES, 0..=10, |random| {
-        Question::judge(tables::any(random), b"U=U".to_vec(), vec![])
-    });
+    agree("tables");
 }
 
 #[test]
 fn rules_agree() {
-    agree(2, RULES, [0, 11, 12, 13, 14, 15], |random| {
-        Question::Reduce(rules::any(random).into())
-    });
+    agree("rules");
 }
 
 #[test]
 fn formulas_agree() {
-    agree(3, FORMULAS, [0, 16], |random| {
-        Question::Rebuild(formulas::any(random).into())
-    });
+    agree("formulas");
 }
 
-/// Small tables, on which every choice is tried.
 #[test]
 fn verdicts_agree() {
-    agree(4, VERDICTS, [0, 1, 5, 13, 18], |random| {
-        judged(random, 4, FEW)
-    });
+    agree("verdicts");
 }
 
-/// Tables of any size, by the fast modules alone.
 #[test]
 fn wide_verdicts_agree() {
-    let random = &mut Random::new(5);
-    for _ in 0..scaled(WIDE) {
-        let question = judged(random, 64, MANY);
-        question.hold_all(&question.fast(), random);
+    agree("wide verdicts");
+}
+
+/// Verdicts with more than a million full choices, by the fast modules.
+#[test]
+fn large_verdicts_agree() {
+    let random = &mut Random::new(12);
+    for _ in 0..scaled(LARGE_ONES) {
+        let (question, expected) = large(random);
+        question.hold(&expected, Verdict::BYTES, 16);
     }
+}
+
+/// The fourth rule of Table I on the largest tables, 64⁴ choices, by the fast modules.
+#[test]
+fn sixteen_million_choices_agree() {
+    let tables = tables::full(&mut Random::new(1)).bytes();
+    let question = Question::judge(tables, rules::PAPER[3].into(), vec![1, 2, 3, 4]);
+    let expected = question.fast();
+    assert_eq!(expected.as_deref().map(full), Ok(1 << 24));
+    question.hold(&expected, Verdict::BYTES, 16);
+}
+
+/// A million choices, by the plain modules, which try every one.
+#[test]
+fn a_million_choices_one_by_one() {
+    let mut plain = tables::full(&mut Random::new(13));
+    plain.users.truncate(32);
+    plain.sessions.clear();
+    plain.cr.truncate(32);
+    plain.cp.truncate(48);
+    plain.cu.clear();
+    let rule = b"|(roles(OE(U))&OE(CR))|<2=>OE(OE(CP))@permissions(roles(OE(U)))".to_vec();
+    let question = Question::judge(plain.bytes(), rule, vec![1, 2, 3, 4]);
+    let expected = question.plain();
+    assert!(expected.as_deref().map(full).is_ok_and(|full| full > LARGE));
+    question.hold(&expected, Verdict::BYTES, 16);
 }
 
 #[test]
@@ -120,34 +127,5 @@ fn the_builder_names_the_rows_at_fault() {
     }
     for number in [0, 5, 7, 8, 9] {
         assert!(met[number] >= scaled(20_000) / 1_000, "{number}: {met:?}");
-    }
-}
-
-/// Tables, a rule and an order with at most `limit` steps, each now and then refused.
-fn judged(random: &mut Random, most: usize, limit: u128) -> Question {
-    let text = match random.below(8) {
-        0 => rules::any(random),
-        1 => random.pick(&rules::PAPER).as_bytes().to_vec(),
-        _ => rules::grown(random, 0).into_bytes(),
-    };
-    let Ok(rule) = reference::rule::read(&text) else {
-        return Question::judge(tables::any(random), text, vec![]);
-    };
-    let order = orders::any(random, &rule);
-    if random.once_in(20) {
-        let tables = tables::any(random);
-        let few = |read: &reference::tables::Tables| steps(read, &rule) <= limit;
-        if reference::tables::read(&tables).as_ref().map_or(true, few) {
-            return Question::judge(tables, text, order);
-        }
-    }
-    let mut most = most;
-    loop {
-        let tables = tables::accepted(random, most).bytes();
-        let read = reference::tables::read(&tables).expect("made to be accepted");
-        if steps(&read, &rule) <= limit {
-            return Question::judge(tables, text, order);
-        }
-        most = most.saturating_sub(1 + most / 8);
     }
 }

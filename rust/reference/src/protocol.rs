@@ -3,58 +3,97 @@
 use crate::{fast, formula, lend, rule, sheet, tables, verdict, Answer};
 
 /// The byte that fills a lent output before the call.
-const FILL: u8 = 0xa5;
+pub const FILL: u8 = 0xa5;
 
-/// The answer to one command by the plain modules; `?` for anything else.
-pub fn answer(line: &str) -> String {
-    let fields: Vec<_> = line.split(' ').collect();
-    plain(&fields).unwrap_or_else(|| "?".to_string())
+/// The most bytes of a line that is a command.
+const LONGEST_LINE: usize = 80_000;
+
+/// The most bytes that an output may have.
+const LONGEST_OUTPUT: usize = 65_536;
+
+/// What a line asks.
+pub enum Command {
+    /// Whether tables are accepted.
+    Tables(Vec<u8>),
+    /// Whether a rule is accepted.
+    Rule(Vec<u8>),
+    /// The formula of a rule, into so many bytes.
+    Reduce(Vec<u8>, usize),
+    /// The rule of a formula.
+    Rebuild(Vec<u8>, usize),
+    /// The verdict on tables, a rule and an order.
+    Judge([Vec<u8>; 3], usize),
+    /// The day sheet of tables and rules.
+    Sheet(Vec<u8>, Vec<u8>),
 }
 
-/// The same by [`fast`], in the commands that it has.
-pub fn fast_answer(line: &str) -> String {
-    let fields: Vec<_> = line.split(' ').collect();
-    quick(&fields)
-        .or_else(|| plain(&fields))
-        .unwrap_or_else(|| "?".to_string())
-}
+use Command::*;
 
-fn quick(fields: &[&str]) -> Option<String> {
-    Some(match fields {
-        ["tables", bytes] => refusal(fast::read(&unhex(bytes)?)),
-        ["reduce", text, length] => lent(fast::reduce(&unhex(text)?), length)?,
-        ["rebuild", text, length] => lent(fast::rebuild(&unhex(text)?), length)?,
-        ["judge", tables, text, order, length] => {
-            let verdict = fast::judge(&unhex(tables)?, &unhex(text)?, &unhex(order)?);
-            lent(verdict.map(|verdict| verdict.bytes()), length)?
+impl Command {
+    /// The command of a line: fields with one blank between them, bytes as [`hex`] writes them, a
+    /// length in decimal digits.
+    pub fn read(line: &[u8]) -> Option<Command> {
+        if line.len() > LONGEST_LINE {
+            return None;
         }
-        _ => return None,
-    })
+        let fields: Vec<&[u8]> = line.split(|&byte| byte == b' ').collect();
+        Some(match fields[..] {
+            [b"tables", tables] => Tables(unhex(tables)?),
+            [b"rule", rule] => Rule(unhex(rule)?),
+            [b"reduce", rule, length] => Reduce(unhex(rule)?, number(length)?),
+            [b"rebuild", formula, length] => Rebuild(unhex(formula)?, number(length)?),
+            [b"judge", tables, rule, order, length] => Judge(
+                [unhex(tables)?, unhex(rule)?, unhex(order)?],
+                number(length)?,
+            ),
+            [b"sheet", tables, rules] => Sheet(unhex(tables)?, unhex(rules)?),
+            _ => return None,
+        })
+    }
+
+    /// The answer of the plain modules.
+    pub fn plain(&self) -> String {
+        match self {
+            Tables(tables) => refusal(tables::read(tables)),
+            Rule(rule) => refusal(rule::read(rule)),
+            Reduce(rule, length) => lent(formula::reduce(rule), *length),
+            Rebuild(formula, length) => lent(formula::rebuild(formula), *length),
+            Judge([tables, rule, order], length) => {
+                let verdict = verdict::judge(tables, rule, order);
+                lent(verdict.map(|verdict| verdict.bytes()), *length)
+            }
+            Sheet(tables, rules) => hex(sheet::sheet(tables, rules).as_bytes()),
+        }
+    }
+
+    /// The answer of [`fast`], where it has the call.
+    pub fn fast(&self) -> String {
+        match self {
+            Tables(tables) => refusal(fast::read(tables)),
+            Reduce(rule, length) => lent(fast::reduce(rule), *length),
+            Rebuild(formula, length) => lent(fast::rebuild(formula), *length),
+            Judge([tables, rule, order], length) => {
+                let verdict = fast::judge(tables, rule, order);
+                lent(verdict.map(|verdict| verdict.bytes()), *length)
+            }
+            Rule(_) | Sheet(..) => self.plain(),
+        }
+    }
 }
 
-fn plain(fields: &[&str]) -> Option<String> {
-    Some(match fields {
-        ["tables", bytes] => refusal(tables::read(&unhex(bytes)?)),
-        ["rule", text] => refusal(rule::read(&unhex(text)?)),
-        ["reduce", text, length] => lent(formula::reduce(&unhex(text)?), length)?,
-        ["rebuild", text, length] => lent(formula::rebuild(&unhex(text)?), length)?,
-        ["judge", tables, text, order, length] => {
-            let verdict = verdict::judge(&unhex(tables)?, &unhex(text)?, &unhex(order)?);
-            lent(verdict.map(|verdict| verdict.bytes()), length)?
-        }
-        ["sheet", tables, rules] => hex(sheet::sheet(&unhex(tables)?, &unhex(rules)?).as_bytes()),
-        _ => return None,
-    })
+/// The answer to a line: `?` where it is no command.
+pub fn answer(line: &[u8], respond: impl FnOnce(&Command) -> String) -> String {
+    Command::read(line).map_or("?".to_string(), |command| respond(&command))
 }
 
 fn refusal<T>(answer: Answer<T>) -> String {
     answer.err().unwrap_or(0).to_string()
 }
 
-fn lent(answer: Answer<Vec<u8>>, length: &str) -> Option<String> {
-    let mut out = vec![FILL; length.parse().ok()?];
+fn lent(answer: Answer<Vec<u8>>, length: usize) -> String {
+    let mut out = vec![FILL; length];
     let returned = lend(answer, &mut out);
-    Some(format!("{returned} {}", hex(&out)))
+    format!("{returned} {}", hex(&out))
 }
 
 /// Lowercase hexadecimal; `-` for no bytes.
@@ -66,16 +105,33 @@ pub fn hex(bytes: &[u8]) -> String {
 }
 
 /// The bytes of [`hex`].
-pub fn unhex(text: &str) -> Option<Vec<u8>> {
-    if text == "-" {
+fn unhex(text: &[u8]) -> Option<Vec<u8>> {
+    if text == b"-" {
         return Some(Vec::new());
     }
-    let digits: Option<Vec<u8>> = text.chars().map(|c| Some(c.to_digit(16)? as u8)).collect();
-    let digits = digits.filter(|digits| digits.len() % 2 == 0)?;
-    Some(
-        digits
-            .chunks(2)
-            .map(|pair| pair[0] * 16 + pair[1])
-            .collect(),
-    )
+    if text.is_empty() || text.len() % 2 == 1 {
+        return None;
+    }
+    let pairs = text.chunks(2);
+    pairs
+        .map(|pair| Some(digit(pair[0])? * 16 + digit(pair[1])?))
+        .collect()
+}
+
+fn digit(byte: u8) -> Option<u8> {
+    match byte {
+        b'0'..=b'9' => Some(byte - b'0'),
+        b'a'..=b'f' => Some(byte - b'a' + 10),
+        _ => None,
+    }
+}
+
+/// Decimal digits and nothing else, of at most the longest output.
+fn number(text: &[u8]) -> Option<usize> {
+    if text.is_empty() || !text.iter().all(u8::is_ascii_digit) {
+        return None;
+    }
+    let text = std::str::from_utf8(text).ok()?;
+    let number = text.parse().ok()?;
+    (number <= LONGEST_OUTPUT).then_some(number)
 }

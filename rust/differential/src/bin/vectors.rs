@@ -1,65 +1,82 @@
-//! Holds the proved library and the reference to the vectors in a folder: each `NAME.in` has one
-//! command to a line, and `NAME.out` the answer to each.
+//! Holds the proved library and the reference to vectors: `vectors PATH..`, each a file `NAME.in`
+//! with one command to a line, beside which `NAME.out` has the answer to each, or a folder of such
+//! files. It fails on any difference, and where a file is missing or empty.
 
-use std::path::Path;
+use std::path::{Path, PathBuf};
 use std::{env, fs, process};
 
-use differential::hold::Question;
-use reference::protocol::{answer, fast_answer, hex, unhex};
+use differential::vectors::hold;
+
+/// How many differences of a file are printed.
+const PRINTED: usize = 10;
 
 fn main() {
-    let Some(folder) = env::args().nth(1) else {
-        eprintln!("vectors FOLDER");
+    let paths: Vec<PathBuf> = env::args_os().skip(1).map(PathBuf::from).collect();
+    if paths.is_empty() {
+        eprintln!("vectors PATH.., each a folder or a file NAME.in");
         process::exit(2);
-    };
-    let mut differences = 0;
-    for entry in fs::read_dir(folder).expect("the folder can be read") {
-        let path = entry.expect("the folder can be read").path();
-        if path.extension().is_some_and(|extension| extension == "in") {
-            differences += differing(&path);
+    }
+    let mut failed = false;
+    for path in &paths {
+        match files(path) {
+            Ok(files) => failed |= files.iter().filter(|file| !held(file)).count() > 0,
+            Err(message) => {
+                println!("{}: {message}", path.display());
+                failed = true;
+            }
         }
     }
-    process::exit(i32::from(differences > 0));
+    process::exit(i32::from(failed));
 }
 
-/// How many lines of a file have another answer from one of the three.
-fn differing(commands: &Path) -> usize {
-    let read = |path: &Path| fs::read_to_string(path).expect("the vectors can be read");
-    let (commands_text, answers_text) = (read(commands), read(&commands.with_extension("out")));
-    let mut differences = 0;
-    let mut lines = 0;
-    for (command, expected) in commands_text.lines().zip(answers_text.lines()) {
-        let library = library_answer(command).unwrap_or_else(|| expected.to_string());
-        let answers = [library, answer(command), fast_answer(command)];
-        lines += 1;
-        if answers.iter().any(|answer| answer != expected) {
-            differences += 1;
-            println!("{command}\nexpected {expected}\ngot      {answers:?}");
+/// The files of commands: the path itself, or those of the folder that it is, in order. Answers
+/// without their commands are a fault too.
+fn files(path: &Path) -> Result<Vec<PathBuf>, String> {
+    if !path.is_dir() {
+        return Ok(vec![path.to_path_buf()]);
+    }
+    let mut files = Vec::new();
+    for entry in fs::read_dir(path).map_err(|error| error.to_string())? {
+        let file = entry.map_err(|error| error.to_string())?.path();
+        let extension = file.extension().and_then(|extension| extension.to_str());
+        if matches!(extension, Some("in" | "out")) {
+            files.push(file.with_extension("in"));
         }
     }
-    println!(
-        "{}: {lines} lines, {differences} differences",
-        commands.display()
-    );
-    differences
+    files.sort();
+    files.dedup();
+    match files.is_empty() {
+        true => Err("no file of commands in this folder".to_string()),
+        false => Ok(files),
+    }
 }
 
-/// The library's answer, to the commands that it has a call for.
-fn library_answer(command: &str) -> Option<String> {
-    let fields: Vec<&str> = command.split(' ').collect();
-    let (question, length) = match fields[..] {
-        ["reduce", rule, length] => (Question::Reduce(unhex(rule)?.into()), length),
-        ["rebuild", formula, length] => (Question::Rebuild(unhex(formula)?.into()), length),
-        ["judge", tables, rule, order, length] => (
-            Question::judge(unhex(tables)?, unhex(rule)?, unhex(order)?),
-            length,
-        ),
-        _ => return None,
+/// Whether all three answer a file's commands as its answers say. Says what they do otherwise.
+fn held(commands: &Path) -> bool {
+    let name = commands.display();
+    let (texts, answers) = (fs::read(commands), fs::read(commands.with_extension("out")));
+    let (texts, answers) = match (texts, answers) {
+        (Ok(texts), Ok(answers)) => (texts, answers),
+        (Err(error), _) => {
+            println!("{name}: {error}");
+            return false;
+        }
+        (_, Err(error)) => {
+            println!("{name}: its answers: {error}");
+            return false;
+        }
     };
-    let mut out = vec![0xa5; length.parse().ok()?].into_boxed_slice();
-    let reply = match question.ask(&mut out) {
-        Ok(length) => length as u32,
-        Err(refusal) => 65_536 * refusal.number(),
-    };
-    Some(format!("{reply} {}", hex(&out)))
+    match hold(&texts, &answers) {
+        Ok(lines) => {
+            println!("{name}: {lines} lines, as expected");
+            true
+        }
+        Err(faults) => {
+            for fault in faults.iter().take(PRINTED) {
+                println!("{name}: {fault}");
+            }
+            println!("{name}: {} faults", faults.len());
+            false
+        }
+    }
 }

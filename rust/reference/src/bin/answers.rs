@@ -3,16 +3,16 @@
 
 use std::io::{self, BufRead, Write};
 
-use reference::protocol::{answer, fast_answer};
+use reference::protocol::{answer, Command};
 
 fn main() -> io::Result<()> {
     let respond = match std::env::args().nth(1).as_deref() {
-        Some("fast") => fast_answer,
-        _ => answer,
+        Some("fast") => Command::fast,
+        _ => Command::plain,
     };
     let mut out = io::BufWriter::new(io::stdout().lock());
-    for line in io::stdin().lock().lines() {
-        writeln!(out, "{}", respond(&line?))?;
+    for line in io::stdin().lock().split(b'\n') {
+        writeln!(out, "{}", answer(&line?, respond))?;
     }
     out.flush()
 }

@@ -1,0 +1,155 @@
+//! What is asked: streams of questions, on which the library and both halves of the reference agree.
+
+use reference::tables::Tables;
+use reference::verdict::steps;
+use reference::Answer;
+
+use crate::hold::{Met, Question};
+use crate::random::Random;
+use crate::{formulas, orders, rules, tables};
+
+/// The most steps of a walk where every choice is tried.
+const FEW: u128 = 2_000;
+
+/// The most steps of a walk by the fast modules.
+const MANY: u128 = 10_000;
+
+/// How many full choices a large verdict has, and about how many steps its walk takes.
+pub const LARGE: u64 = 1_000_000;
+const LARGEST: u128 = 6_000_000;
+
+/// A stream of questions.
+pub struct Subject {
+    /// What it is about.
+    pub name: &'static str,
+    /// How many questions the gate asks, and the seed that it asks them from.
+    pub count: u64,
+    pub seed: u64,
+    /// The answers that so many must meet: refusals by number, and 0 for acceptance.
+    pub answers: &'static [usize],
+    /// Whether the plain modules answer too, or the fast ones alone.
+    plain: bool,
+    ask: fn(&mut Random) -> Question,
+}
+
+/// Tables, rules, formulas and verdicts, in turn.
+pub const SUBJECTS: [Subject; 5] = [
+    Subject {
+        name: "tables",
+        count: 70_000,
+        seed: 1,
+        answers: &[0, 1, 2, 3, 4, 5, 6, 7, 8, 9, 10],
+        plain: true,
+        ask: |random| Question::judge(tables::any(random), b"U=U".to_vec(), vec![]),
+    },
+    Subject {
+        name: "rules",
+        count: 90_000,
+        seed: 2,
+        answers: &[0, 11, 12, 13, 14, 15],
+        plain: true,
+        ask: |random| Question::Reduce(rules::any(random).into()),
+    },
+    Subject {
+        name: "formulas",
+        count: 70_000,
+        seed: 3,
+        answers: &[0, 16],
+        plain: true,
+        ask: |random| Question::Rebuild(formulas::any(random).into()),
+    },
+    // Small tables, on which every choice is tried.
+    Subject {
+        name: "verdicts",
+        count: 80_000,
+        seed: 4,
+        answers: &[0, 1, 5, 13, 18],
+        plain: true,
+        ask: |random| judged(random, 4, FEW),
+    },
+    // Tables of any size.
+    Subject {
+        name: "wide verdicts",
+        count: 2_000,
+        seed: 5,
+        answers: &[0],
+        plain: false,
+        ask: |random| judged(random, 64, MANY),
+    },
+];
+
+impl Subject {
+    /// Asks as many questions and holds all to one answer. Gives the answers that were met.
+    pub fn agree(&self, seed: u64, count: u64) -> Met {
+        let random = &mut Random::new(seed);
+        let mut met = Met::default();
+        for _ in 0..count {
+            let question = (self.ask)(random);
+            let expected = question.fast();
+            if self.plain {
+                assert_eq!(question.plain(), expected, "{}", question.command(26));
+            }
+            question.hold_all(&expected, random);
+            met.note(&expected);
+        }
+        met
+    }
+}
+
+/// Tables, a rule and an order with at most `limit` steps, each now and then refused.
+fn judged(random: &mut Random, most: usize, limit: u128) -> Question {
+    let text = match random.below(8) {
+        0 => rules::any(random),
+        1 => random.pick(&rules::PAPER).as_bytes().to_vec(),
+        _ => rules::grown(random, 0).into_bytes(),
+    };
+    let Ok(rule) = reference::rule::read(&text) else {
+        return Question::judge(tables::any(random), text, vec![]);
+    };
+    let order = orders::any(random, &rule);
+    if random.once_in(20) {
+        let tables = tables::any(random);
+        let few = |read: &Tables| steps(read, &rule) <= limit;
+        if reference::tables::read(&tables).as_ref().map_or(true, few) {
+            return Question::judge(tables, text, order);
+        }
+    }
+    let mut most = most;
+    loop {
+        let tables = tables::accepted(random, most).bytes();
+        let read = reference::tables::read(&tables).expect("made to be accepted");
+        if steps(&read, &rule) <= limit {
+            return Question::judge(tables, text, order);
+        }
+        most = most.saturating_sub(1 + most / 8);
+    }
+}
+
+/// A question whose verdict has more than [`LARGE`] full choices, with the fast modules' answer.
+pub fn large(random: &mut Random) -> (Question, Answer<Vec<u8>>) {
+    loop {
+        let text = match random.below(4) {
+            0 => random.pick(&rules::PAPER).as_bytes().to_vec(),
+            _ => rules::grown(random, 0).into_bytes(),
+        };
+        let Ok(rule) = reference::rule::read(&text) else {
+            continue;
+        };
+        let tables = tables::accepted(random, 64).bytes();
+        let read = reference::tables::read(&tables).expect("made to be accepted");
+        if !(u128::from(LARGE)..=LARGEST).contains(&steps(&read, &rule)) {
+            continue;
+        }
+        let question = Question::judge(tables, text, orders::admissible(random, &rule));
+        let answer = question.fast();
+        if answer.as_ref().is_ok_and(|verdict| full(verdict) > LARGE) {
+            return (question, answer);
+        }
+    }
+}
+
+/// The full choices of a verdict's bytes.
+pub fn full(verdict: &[u8]) -> u64 {
+    let bytes = verdict[1..9].iter().rev();
+    bytes.fold(0, |sum, &byte| sum << 8 | u64::from(byte))
+}

@@ -1,0 +1,82 @@
+//! Commands with the answers that are expected, line for line.
+
+use reference::protocol::{answer, hex, Command, FILL};
+
+use crate::hold::{reply, Question};
+
+/// Holds the library, the plain modules and the fast ones to the answers of a file of commands.
+/// Gives the number of lines.
+///
+/// # Errors
+///
+/// What is wrong: no commands at all, other numbers of lines, or each line that is answered
+/// otherwise by one of the three.
+pub fn hold(commands: &[u8], answers: &[u8]) -> Result<usize, Vec<String>> {
+    let (commands, answers) = (lines(commands), lines(answers));
+    if commands.is_empty() {
+        return Err(vec!["there are no commands".to_string()]);
+    }
+    if commands.len() != answers.len() {
+        let (commands, answers) = (commands.len(), answers.len());
+        return Err(vec![format!("{commands} commands but {answers} answers")]);
+    }
+    let pairs = commands.iter().zip(answers).enumerate();
+    let differences: Vec<String> = pairs
+        .filter_map(|(place, (command, expected))| {
+            let difference = differing(command, expected)?;
+            Some(format!("line {}: {difference}", place + 1))
+        })
+        .collect();
+    match differences.is_empty() {
+        true => Ok(commands.len()),
+        false => Err(differences),
+    }
+}
+
+/// The lines of a file, the last one with or without its end.
+fn lines(text: &[u8]) -> Vec<&[u8]> {
+    let mut lines: Vec<&[u8]> = text.split(|&byte| byte == b'\n').collect();
+    if lines.last().is_some_and(|last| last.is_empty()) {
+        lines.pop();
+    }
+    lines
+}
+
+/// Who answers a command otherwise, if anyone does.
+fn differing(command: &[u8], expected: &[u8]) -> Option<String> {
+    let answered = [
+        ("the library", answer(command, library)),
+        ("the reference", answer(command, Command::plain)),
+        ("its fast modules", answer(command, Command::fast)),
+    ];
+    let (who, got) = answered
+        .into_iter()
+        .find(|(_, answer)| answer.as_bytes() != expected)?;
+    let (command, expected) = (
+        String::from_utf8_lossy(command),
+        String::from_utf8_lossy(expected),
+    );
+    Some(format!("{command}\n  expected {expected}\n  {who}: {got}"))
+}
+
+/// The library's answer, to the commands that it has a call for; the reference's to the others.
+fn library(command: &Command) -> String {
+    let checked = |answer: Result<(), rcl2000::Refusal>| {
+        let number = answer.err().map_or(0, |refusal| refusal.number());
+        number.to_string()
+    };
+    let (question, length) = match command {
+        Command::Tables(tables) => return checked(rcl2000::check_tables(tables)),
+        Command::Rule(rule) => return checked(rcl2000::check_rule(rule)),
+        Command::Reduce(rule, length) => (Question::Reduce(rule[..].into()), *length),
+        Command::Rebuild(formula, length) => (Question::Rebuild(formula[..].into()), *length),
+        Command::Judge([tables, rule, order], length) => (
+            Question::judge(tables.clone(), rule.clone(), order.clone()),
+            *length,
+        ),
+        Command::Sheet(..) => return command.plain(),
+    };
+    let mut out = vec![FILL; length].into_boxed_slice();
+    let returned = reply(question.ask(&mut out));
+    format!("{returned} {}", hex(&out))
+}
