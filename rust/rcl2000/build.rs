@@ -7,7 +7,7 @@ use std::env;
 use std::ffi::OsString;
 use std::fs;
 use std::path::{Path, PathBuf};
-use std::process::{exit, Command};
+use std::process::{exit, Command, Output};
 use std::time::SystemTime;
 
 /// Names another folder to look in, relative to the folder where cargo was called.
@@ -118,22 +118,17 @@ fn symbols(archive: &[u8]) -> Option<Vec<String>> {
     Some(names.map(String::from).collect())
 }
 
-/// Links the archive into `probe.rs` and runs it. Where a program for the target does not run
-/// here, or the probe cannot be compiled, that is said and nothing is tried.
+/// Whether the archive answers as this version of the crate says, or what it does otherwise. Where
+/// that cannot be tried here, it is said and passes.
 fn tried(folder: &Path) -> Result<(), String> {
-    let probe = match compiled(folder) {
-        Ok(probe) => probe,
+    let output = match probed(folder) {
+        Ok(output) if output.status.success() => return Ok(()),
+        Ok(output) => output,
         Err(why) => {
             println!("cargo:warning={ARCHIVE} is not tried: {why}");
             return Ok(());
         }
     };
-    let output = Command::new(probe)
-        .output()
-        .map_err(|error| error.to_string())?;
-    if output.status.success() {
-        return Ok(());
-    }
     let said = String::from_utf8_lossy(&output.stdout);
     match said.trim() {
         "" => Err(output.status.to_string()),
@@ -141,8 +136,8 @@ fn tried(folder: &Path) -> Result<(), String> {
     }
 }
 
-/// The probe as a program, or why there is none.
-fn compiled(folder: &Path) -> Result<PathBuf, String> {
+/// Links the archive into `probe.rs` and runs that, or says why it cannot be run.
+fn probed(folder: &Path) -> Result<Output, String> {
     if set("HOST") != set("TARGET") {
         return Err("its programs do not run on this machine".to_string());
     }
@@ -155,12 +150,13 @@ fn compiled(folder: &Path) -> Result<PathBuf, String> {
         option.push(linker);
         compiler.arg("-C").arg(option);
     }
-    let output = compiler.output().map_err(|error| error.to_string())?;
-    if output.status.success() {
-        return Ok(probe);
+    let compiled = compiler.output().map_err(|error| error.to_string())?;
+    if !compiled.status.success() {
+        let why = String::from_utf8_lossy(&compiled.stderr);
+        return Err(why.lines().next().unwrap_or("no reason given").to_string());
     }
-    let why = String::from_utf8_lossy(&output.stderr);
-    Err(why.lines().next().unwrap_or("no reason given").to_string())
+    let ran = Command::new(probe).output();
+    ran.map_err(|error| error.to_string())
 }
 
 /// Whether a source of the library was written after the archive, where both are the repository's.
