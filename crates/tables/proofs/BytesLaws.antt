@@ -31,7 +31,24 @@ lowest-word (x ∷ b) h =
     let d : (x + 256 * wordFrom b) / 256 ≡ wordFrom b = omega arith in
     rw (m, d) (ap (λ (s : Bytes). x ∷ s) (lowest-word b (λ i. h (suc i))))
 
--- Parts of bytes are bytes.
+-- The bytes of a word are bytes; so are bytes one after another, and parts of them.
+pub lowest-bytes : (n w : ℕ) → AreBytes (lowestFirst n w)
+unfolding lowestFirst AreBytes
+lowest-bytes zero w i = omega arith
+lowest-bytes (suc n) w zero = omega arith
+lowest-bytes (suc n) w (suc i) = lowest-bytes n (w / 256) i
+
+pub bytes-cons : (n : ℕ) (s : Bytes) → n < 256 → AreBytes s → AreBytes (n ∷ s)
+unfolding AreBytes
+bytes-cons n s l h zero = l
+bytes-cons n s l h (suc i) = h i
+
+pub bytes-append : (b s : Bytes) → AreBytes b → AreBytes s → AreBytes (b ++ s)
+unfolding AreBytes
+bytes-append [] s h k i = k i
+bytes-append (x ∷ b) s h k zero = h 0
+bytes-append (x ∷ b) s h k (suc i) = bytes-append b s (λ j. h (suc j)) k i
+
 pub bytes-behind : (b s : Bytes) → AreBytes (b ++ s) → AreBytes s
 unfolding AreBytes
 bytes-behind [] s h = h

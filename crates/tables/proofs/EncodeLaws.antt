@@ -319,12 +319,12 @@ sessions-again [] = refl
 sessions-again (s ∷ ss) = ap (λ (x : List Session). s ∷ x) (sessions-again ss)
 
 -- Bounds of each word are bounds of every word.
-below-every : (n : ℕ) (ws : List ℕ) → Below n ws → Every (λ w. w < 2 ^ n) ws
+pub below-every : (n : ℕ) (ws : List ℕ) → Below n ws → Every (λ w. w < 2 ^ n) ws
 unfolding Below
 below-every n [] h = tt
 below-every n (w ∷ ws) h = (h 0, below-every n ws (λ i. h (suc i)))
 
-sessions-known : (users roles : ℕ) (us ws : List ℕ) → ((i : ℕ) → i < length us → getD us i 0 < users) → Below roles ws
+pub sessions-known : (users roles : ℕ) (us ws : List ℕ) → ((i : ℕ) → i < length us → getD us i 0 < users) → Below roles ws
     → Every (Known users roles) (sessionsOf us ws)
 unfolding sessionsOf Below
 sessions-known users roles [] ws f h = tt

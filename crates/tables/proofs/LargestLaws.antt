@@ -1,70 +1,27 @@
--- Document 01: "The largest tables take 3,785 bytes": the length of encoded tables, and tables of that length that are accepted.
+-- Document 01: "The largest tables take 3,785 bytes": tables of that length are accepted.
 -- Assumes nothing.
 use mathlib.Core.Path.{_≡_, refl, sym, ap, _∙_}
 use mathlib.Core.Bool.{true, _&&_}
-use mathlib.Core.List.{List, [], _∷_, map}
-use Prim.Native.Nat.{ℕ, zero, suc, _+_, _*_, _^_, _≤_, _<_}
-use native.Mathlib.Nat.{mul-suc}
+use mathlib.Core.List.{List}
+use Prim.Native.Nat.{ℕ, zero, suc, _^_, _≤_, _<_}
 use native.Mathlib.Omega.{arith}
 use lib.Dec.{eqb}
-use lib.ListN.{length, getD, length-append, length-map}
+use lib.ListN.{length, getD}
 use borrow.Author.Tests.{eqb-true, eq-eqb, ne-eqb}
 use Rattle.words.specs.Words.{has, itemOf}
 use Rattle.words.proofs.WordsLaws.{has-zero, has-item, item-lt, and-both}
 use Rattle.tables.specs.Tables.{Tables}
 use Rattle.tables.specs.Checks.{allTo, implies, above, reflexive, transitive, antisymmetric, ranked, inReach, apart}
-use Rattle.tables.specs.Bytes.{Bytes}
+use Rattle.tables.specs.Bytes.{Bytes, AreBytes}
 use Rattle.tables.specs.Accepted.{Below, Passes}
-use Rattle.tables.specs.Reading.{Session, taken, tablesOf}
+use Rattle.tables.specs.Reading.{taken, tablesOf}
 use Rattle.tables.specs.Flat.{tabulate}
-use Rattle.tables.specs.Encode.{wordBytes, markedBytes, sessionBytes, joined, counted, sessionsOf, sectionBytes, encode, bytesOf}
+use Rattle.tables.specs.Encode.{encode}
 use Rattle.tables.proofs.FlatLaws.{length-tabulate, tabulate-at}
 use Rattle.tables.proofs.AllLaws.{all-every}
 use Rattle.tables.proofs.CheckLaws.{implied}
-use Rattle.tables.proofs.BytesLaws.{lowest-length}
-use Rattle.tables.proofs.EncodeLaws.{sessions-users, passes-accepted}
-
--- Rows of k bytes each, after their count.
-module _ {A : Type 0} (k : ℕ) (row : A → Bytes) (h : (x : A) → length (row x) ≡ k) where
-  rows-length : (xs : List A) → length (joined (map row xs)) ≡ k * length xs
-  unfolding joined
-  rows-length [] = omega arith
-  rows-length (x ∷ xs) = omega (arith, length-append (row x) (joined (map row xs)), h x, rows-length xs, mul-suc k (length xs))
-
-  counted-length : (xs : List A) → length (counted row xs) ≡ 1 + k * length xs
-  unfolding counted
-  counted-length xs = omega (arith, rows-length xs)
-
-words-length : (ws : List ℕ) → length (counted wordBytes ws) ≡ 1 + 8 * length ws
-unfolding wordBytes
-words-length ws = counted-length 8 wordBytes (λ w. lowest-length 8 w) ws
-
-marked-length : (ws : List ℕ) → length (counted markedBytes ws) ≡ 1 + 9 * length ws
-unfolding markedBytes
-marked-length ws = counted-length 9 markedBytes (λ w. ap suc (lowest-length 8 w)) ws
-
-sessions-length : (ss : List Session) → length (counted sessionBytes ss) ≡ 1 + 9 * length ss
-unfolding sessionBytes
-sessions-length ss = counted-length 9 sessionBytes (λ s. ap suc (lowest-length 8 (s .active))) ss
-
--- Tables whose sessions each have a user have the bytes that their counts say.
-pub encode-length : (T : Tables) → length (T .sessionUsers) ≡ length (T .sessionRows) → length (encode T) ≡ bytesOf T
-unfolding encode sectionBytes joined
-encode-length T l =
-    let ss = sessionsOf (T .sessionUsers) (T .sessionRows) in
-    let n : length ss ≡ length (T .sessionUsers) =
-    sym (length-map ss (λ s. s .user)) ∙ ap length (sessions-users (T .sessionUsers) (T .sessionRows) l) in
-    simp length-append
-    (omega (
-      arith,
-      words-length (T .roleRows),
-      marked-length (T .userRows),
-      sessions-length ss,
-      marked-length (T .permissionRows),
-      words-length (T .cr),
-      words-length (T .cu),
-      words-length (T .cp),
-    ))
+use Rattle.tables.proofs.EncodeLaws.{passes-accepted}
+use Rattle.tables.proofs.EncodedLaws.{encode-length, encode-bytes}
 
 -- Full sections: roles that dominate themselves alone, users and permissions without roles, 64 sessions of user 0, and the words 0 to 63.
 abbrev alone : List ℕ
@@ -175,7 +132,13 @@ full-passes =
       cps = apart;
     }
 
--- "The largest tables take 3,785 bytes": bytes that many are accepted.
-pub largest : (b : Bytes) × (length b ≡ 3785) × (T : Tables) × (tablesOf b ≡ taken T)
+-- "The largest tables take 3,785 bytes": that many bytes are accepted.
+pub largest : (b : Bytes) × AreBytes b × (length b ≡ 3785) × (T : Tables) × (tablesOf b ≡ taken T)
 unfolding full
-largest = (encode full, encode-length full refl ∙ rw (length-tabulate 64 itemOf, length-tabulate 64 (λ _. 0), length-tabulate 64 (λ i. i)), full, passes-accepted full full-passes)
+largest = (
+  encode full,
+  encode-bytes full (full-passes .sound),
+  encode-length full refl ∙ rw (length-tabulate 64 itemOf, length-tabulate 64 (λ _. 0), length-tabulate 64 (λ i. i)),
+  full,
+  passes-accepted full full-passes,
+)

@@ -11,6 +11,7 @@ pub mod FitsLaws
 pub mod BytesLaws
 pub mod EncodeLaws
 pub mod SizeLaws
+pub mod EncodedLaws
 pub mod LargestLaws
 pub mod LocalLaws
 pub mod PageLaws

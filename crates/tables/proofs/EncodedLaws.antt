@@ -1,0 +1,116 @@
+-- What encoded tables are: bytes, and as many as the counts say.
+-- Assumes nothing.
+use mathlib.Core.Path.{_≡_, sym, ap, _∙_}
+use mathlib.Core.List.{List, [], _∷_, map}
+use Prim.Native.Nat.{ℕ, suc, _+_, _*_, _^_, _≤_, _<_}
+use native.Mathlib.Nat.{mul-suc}
+use native.Mathlib.Omega.{arith}
+use lib.ListN.{length, length-append, length-map}
+use Rattle.tables.specs.Tables.{Tables}
+use Rattle.tables.specs.Bytes.{Bytes, AreBytes, lowestFirst}
+use Rattle.tables.specs.Accepted.{Sound}
+use Rattle.tables.specs.Reading.{Session}
+use Rattle.tables.specs.Encode.{wordBytes, markedBytes, sessionBytes, joined, counted, sessionsOf, sectionBytes, encode, bytesOf}
+use Rattle.tables.proofs.SectionsLaws.{product-few}
+use Rattle.tables.proofs.BytesLaws.{lowest-length, lowest-bytes, bytes-cons, bytes-append}
+use Rattle.tables.proofs.FitsLaws.{Every, Known}
+use Rattle.tables.proofs.EncodeLaws.{sessions-users, sessions-known, below-every}
+
+-- Rows of k bytes each, after their count.
+module _ {A : Type 0} (k : ℕ) (row : A → Bytes) (h : (x : A) → length (row x) ≡ k) where
+  rows-length : (xs : List A) → length (joined (map row xs)) ≡ k * length xs
+  unfolding joined
+  rows-length [] = omega arith
+  rows-length (x ∷ xs) = omega (arith, length-append (row x) (joined (map row xs)), h x, rows-length xs, mul-suc k (length xs))
+
+  counted-length : (xs : List A) → length (counted row xs) ≡ 1 + k * length xs
+  unfolding counted
+  counted-length xs = omega (arith, rows-length xs)
+
+words-length : (ws : List ℕ) → length (counted wordBytes ws) ≡ 1 + 8 * length ws
+unfolding wordBytes
+words-length ws = counted-length 8 wordBytes (λ w. lowest-length 8 w) ws
+
+marked-length : (ws : List ℕ) → length (counted markedBytes ws) ≡ 1 + 9 * length ws
+unfolding markedBytes
+marked-length ws = counted-length 9 markedBytes (λ w. ap suc (lowest-length 8 w)) ws
+
+sessions-length : (ss : List Session) → length (counted sessionBytes ss) ≡ 1 + 9 * length ss
+unfolding sessionBytes
+sessions-length ss = counted-length 9 sessionBytes (λ s. ap suc (lowest-length 8 (s .active))) ss
+
+sessions-count : (T : Tables) → length (T .sessionUsers) ≡ length (T .sessionRows) → length (sessionsOf (T .sessionUsers) (T .sessionRows)) ≡ length (T .sessionUsers)
+sessions-count T l =
+    let ss = sessionsOf (T .sessionUsers) (T .sessionRows) in
+    sym (length-map ss (λ s. s .user)) ∙ ap length (sessions-users (T .sessionUsers) (T .sessionRows) l)
+
+none-bytes : AreBytes []
+unfolding AreBytes
+none-bytes i = omega arith
+
+-- Tables whose sessions each have a user have the bytes that their counts say.
+pub encode-length : (T : Tables) → length (T .sessionUsers) ≡ length (T .sessionRows) → length (encode T) ≡ bytesOf T
+unfolding encode sectionBytes joined
+encode-length T l =
+    let ss = sessionsOf (T .sessionUsers) (T .sessionRows) in
+    let n = sessions-count T l in
+    simp length-append
+    (omega (
+      arith,
+      words-length (T .roleRows),
+      marked-length (T .userRows),
+      sessions-length ss,
+      marked-length (T .permissionRows),
+      words-length (T .cr),
+      words-length (T .cu),
+      words-length (T .cp),
+    ))
+
+-- The bytes of each row are bytes, where the rows have P.
+module _ {A : Type 0} (P : A → Type 0) (row : A → Bytes) (h : (a : A) → P a → AreBytes (row a)) where
+  rows-bytes : (xs : List A) → Every P xs → AreBytes (joined (map row xs))
+  unfolding joined AreBytes
+  rows-bytes [] e i = omega arith
+  rows-bytes (x ∷ xs) e i = bytes-append (row x) (joined (map row xs)) (h x (e .0)) (rows-bytes xs (e .1)) i
+
+  counted-bytes : (xs : List A) → length xs ≤ 64 → Every P xs → AreBytes (counted row xs)
+  unfolding counted
+  counted-bytes xs l e = bytes-cons (length xs) (joined (map row xs)) (omega arith) (rows-bytes xs e)
+
+words-bytes : (n : ℕ) (ws : List ℕ) → length ws ≤ 64 → Every (λ w. w < 2 ^ n) ws → AreBytes (counted wordBytes ws)
+unfolding wordBytes
+words-bytes n ws l e = counted-bytes (λ w. w < 2 ^ n) wordBytes (λ w _. lowest-bytes 8 w) ws l e
+
+marked-bytes : (n : ℕ) (ws : List ℕ) → length ws ≤ 64 → Every (λ w. w < 2 ^ n) ws → AreBytes (counted markedBytes ws)
+unfolding markedBytes
+marked-bytes n ws l e = counted-bytes (λ w. w < 2 ^ n) markedBytes (λ w _. bytes-cons 1 (lowestFirst 8 w) (omega arith) (lowest-bytes 8 w)) ws l e
+
+sessions-bytes : (users roles : ℕ) → users ≤ 64 → (ss : List Session) → length ss ≤ 64 → Every (Known users roles) ss → AreBytes (counted sessionBytes ss)
+unfolding sessionBytes
+sessions-bytes users roles few ss l e =
+    counted-bytes (Known users roles) sessionBytes
+    (λ s k. bytes-cons (s .user) (lowestFirst 8 (s .active)) (omega (arith, k .user)) (lowest-bytes 8 (s .active))) ss l e
+
+-- Encoded tables are bytes, such as `read` is lent.
+pub encode-bytes : (T : Tables) → Sound T → AreBytes (encode T)
+unfolding encode sectionBytes joined
+encode-bytes T sound =
+    let f = sound .fits in
+    let b = sound .bounded in
+    let R = length (T .roleRows) in
+    let U = length (T .userRows) in
+    let ss = sessionsOf (T .sessionUsers) (T .sessionRows) in
+    let n : length ss ≤ 64 = omega (arith, sessions-count T (b .paired), f .sessionsUsers) in
+    let held : length (T .permissionRows) ≤ 64 = rw (f .permissions) (product-few (f .operations) (f .objects)) in
+    bytes-append (counted wordBytes (T .roleRows)) _ (words-bytes R (T .roleRows) (f .roles) (below-every R (T .roleRows) (b .roles)))
+    (bytes-append (counted markedBytes (T .userRows)) _ (marked-bytes R (T .userRows) (f .users) (below-every R (T .userRows) (b .users)))
+    (bytes-append (counted sessionBytes ss) _
+    (sessions-bytes U R (f .users) ss n (sessions-known U R (T .sessionUsers) (T .sessionRows) (b .numbers) (b .sessions)))
+    (bytes-cons (T .operationCount) _ (omega (arith, f .operations))
+    (bytes-cons (T .objectCount) _ (omega (arith, f .objects))
+    (bytes-append (counted markedBytes (T .permissionRows)) _
+    (marked-bytes R (T .permissionRows) held (below-every R (T .permissionRows) (b .permissions)))
+    (bytes-append (counted wordBytes (T .cr)) _ (words-bytes R (T .cr) (f .crs) (below-every R (T .cr) (b .crs)))
+    (bytes-append (counted wordBytes (T .cu)) _ (words-bytes U (T .cu) (f .cus) (below-every U (T .cu) (b .cus)))
+    (bytes-append (counted wordBytes (T .cp)) [] (words-bytes (length (T .permissionRows)) (T .cp) (f .cps) (below-every (length (T .permissionRows)) (T .cp) (b .cps)))
+    none-bytes))))))))
