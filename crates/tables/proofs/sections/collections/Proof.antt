@@ -59,7 +59,7 @@ collection-requires-3 c κs =
     let collection2 = c .before .before .before .before .before .before .collection2 in
     let second = c .before .before .second in
     let g = as-took (collection2 .ensures) (second .given .1) in
-    (g .within, ((pre .1 .0 .2, collection2 .kept .1 .1 .1 .0 ∙ collection .kept .1 .1 .1 .0 ∙ pre .1 .1), (omega arith, omega arith)))
+    (g .within, ((omega (arith, pre), collection2 .kept .1 .1 .1 .0 ∙ collection .kept .1 .1 .1 .0 ∙ pre .1 .1), (omega arith, omega arith)))
 
 same-length-3 : tie.Need-same-length-3
 same-length-3 c = search needs
