@@ -3,6 +3,7 @@
 use mathlib.Core.Path.{_≡_, refl, sym, ap, ap₂, _∙_}
 use mathlib.Core.Bool.{Bool, true, false, cond}
 use mathlib.Core.List.{List, [], _∷_, _++_, map, append-assoc}
+use mathlib.Core.Logic.{_↔_}
 use Prim.Native.Nat.{ℕ, zero, suc, _*_, _^_, _≤_, _<_}
 use native.Mathlib.Nat.{pow-le-pow-right}
 use native.Mathlib.Omega.{arith}
@@ -19,7 +20,7 @@ use Rattle.tables.specs.Reading.{Session, rows, section, permissions, Ri
 use Rattle.tables.specs.Reading.{assembled, taken, tablesOf}
 use Rattle.tables.specs.Encode.{wordBytes, markedBytes, sessionBytes, joined, counted, sessionsOf, sectionBytes, encode}
 use Rattle.tables.proofs.BytesLaws.{lowest-length, word-lowest, lowest-word, bytes-behind, bytes-before}
-use Rattle.tables.proofs.FitsLaws.{next-case, refuse-case, count-few, Every, Known, rows-are, sections-sound, accepted-read}
+use Rattle.tables.proofs.FitsLaws.{next-case, refuse-case, count-few, Every, Known, rows-are, sections-sound, accepted-read, accepted-passes}
 use Rattle.tables.proofs.SectionsLaws.{product-few}
 
 -- The reader m reads back the bytes of each value that has P, and takes no other bytes for it.
@@ -406,3 +407,7 @@ accepted-bytes b h q =
     none-left : (s : Bytes) → length s ≤ 0 → s ≡ []
     none-left [] l = refl
     none-left (x ∷ s) l = absurd (omega arith)
+
+-- Both ways at once: bytes are accepted for the tables T exactly where T passes the checks and they are T's bytes.
+pub accepted-exactly : (b : Bytes) → AreBytes b → (T : Tables) → (tablesOf b ≡ taken T) ↔ (Passes T × (b ≡ encode T))
+accepted-exactly b h T = (λ q. (accepted-passes b q, accepted-bytes b h q), λ p. ap tablesOf (p .1) ∙ passes-accepted T (p .0))
