@@ -61,8 +61,12 @@ fn holds(name: &str, expected: (u32, &[u8]), call: impl FnOnce(&mut [u8]) -> u32
     let (mut out, mut after) = ([FILL; 64], [FILL; 64]);
     after[..bytes.len()].copy_from_slice(bytes);
     let reply = call(&mut out);
-    if reply != number || out != after {
-        println!("example {name} gave {reply}, not {number}, or other bytes");
-        exit(1);
+    if reply == number && out == after {
+        return;
     }
+    match reply == number {
+        true => println!("example {name} gives other bytes"),
+        false => println!("example {name} gives {reply} and not {number}"),
+    }
+    exit(1);
 }
