@@ -37,14 +37,22 @@ fn main() {
     holds("rebuild A", (26, A), |out| library::rebuild(formula, out));
     holds("K", refused(16), |out| library::rebuild(b"[v1@U]:U=U", out));
     holds("E", (26, broken), |out| library::judge(T, A, &[1, 2], out));
-    holds("J", refused(18), |out| library::judge(T, B, &[2, 1, 3], out));
+    holds("J", refused(18), |out| {
+        library::judge(T, B, &[2, 1, 3], out)
+    });
     holds("17", refused(17), |out| library::reduce(A, &mut out[..32]));
     // What the requests after document 01 will change, by which their archives are told apart: 8
     // for a junior role (N2), 4 for a mark of 2 (N6), a half in a hundred upward (N7).
     let (rule, eighth) = (b"roles(OE(U))={}", half_of_a_hundred_upward());
-    holds("N2", refused(8), |out| library::judge(JUNIOR, A, &[1, 2], out));
-    holds("N6", refused(4), |out| library::judge(MARK, A, &[1, 2], out));
-    holds("N7", (26, &eighth), |out| library::judge(EIGHT, rule, &[1], out));
+    holds("N2", refused(8), |out| {
+        library::judge(JUNIOR, A, &[1, 2], out)
+    });
+    holds("N6", refused(4), |out| {
+        library::judge(MARK, A, &[1, 2], out)
+    });
+    holds("N7", (26, &eighth), |out| {
+        library::judge(EIGHT, rule, &[1], out)
+    });
 }
 
 /// The verdict with one choice of eight broken: 12.5 in a hundred are 13.
