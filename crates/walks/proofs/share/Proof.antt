@@ -31,8 +31,7 @@ cast-result c =
     let b : ℕ = c .before .args .breaking in
     let pos : 0 < 2 * f = omega (arith, c .if1 .left) in
     let low : b ≤ f = c .before .pre .0 in
-    let less : 200 * b + f < 256 * (2 * f) = omega arith in
-    record { fits = div-lt-iff-lt-mul pos .1 less }
+    record { fits = div-lt-iff-lt-mul pos .1 (omega arith) }
 
 returns-2 : tie.Need-returns-2
 unfolding shareOf
