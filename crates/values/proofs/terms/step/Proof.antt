@@ -109,6 +109,7 @@ shared-slice-read-two : tie.Need-shared-slice-read-two
 shared-slice-read-two c =
     let P = c .before .before .before .before .before .before .before .before .before .before .before .before .before .before .pre in
     let low : 18 ≤ getD (c .before .before .before .before .before .before .before .before .before .before .before .before .before .before .args .nodes .now) (c .before .before .before .before .before .before .before .before .before .before .before .before .before .before .args .k) 0 % 256 = omega (arith, c .before .before .before .before .if3 .left, c .before .before .if4 .left, c .before .if5 .left) in
+    let in-left = left-in (P .0 .tidy) (P .0 .below) (omega (arith, low)) in
     omega (arith, right-in (P .0 .tidy) (P .0 .below) low (omega (arith, c .before .before .before .before .before .if2 .left)), P .1)
 
 two-requires : tie.Need-two-requires
