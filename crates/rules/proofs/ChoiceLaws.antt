@@ -39,13 +39,13 @@ one-many : (k l : Kind) → oneKind k ≡ some l → countable k ≡ true
 unfolding oneKind countable
 one-many (element s) l e = cc
 one-many (set s) l e = refl
-one-many (collection s) l e = refl
+one-many (collection c) l e = refl
 
 others-many : (k l : Kind) → othersKind k ≡ some l → countable k ≡ true
 unfolding othersKind countable
 others-many (element s) l e = cc
 others-many (set s) l e = refl
-others-many (collection s) l e = refl
+others-many (collection c) l e = refl
 
 -- The variables of a term that has a kind can be chosen from.
 

@@ -20,9 +20,9 @@ use Rattle.syntax.specs.code.Arena.{baseOp, fnOp, oeOp, aoOp, memberOp, whenOp,
 use Rattle.syntax.specs.code.Arena.{Holds, HoldsTest, HoldsClause, HoldsRule}
 use Rattle.syntax.proofs.ArenaLaws.{base-small, two-range, Parts, none-parts, one-parts, both-parts}
 use Rattle.rules.specs.Kind.{Kind, Kind≟, holds, oneOf, baseKind, takes, makes, ofElement}
-use Rattle.rules.specs.Kind.{callKind, oneKind, othersKind, asSet, joined, twoKind, with, kind, check, countable, isMember, countKinds}
+use Rattle.rules.specs.Kind.{callKind, inside, oneKind, othersKind, asSet, joined, twoKind, with, kind, check, countable, isMember, countKinds}
 use Rattle.rules.specs.Kind.{testKinds, clauseKinds, ruleKinds}
-use Rattle.rules.specs.code.Numbers.{kindList, kindOf, oneArgument, oneTable, oneNumber, setNumber, twoNumber, countableNumber, fitsNumber, nodeNumber, KindAt, Kinded}
+use Rattle.rules.specs.code.Numbers.{noKind, kindsFit, kindList, kindOf, oneArgument, oneTable, oneNumber, setNumber, twoNumber, countableNumber, fitsNumber, nodeNumber, KindAt, Kinded}
 use Rattle.rules.proofs.TableLaws.{left-of-and, right-of-and, entry, upto, below, pair}
 use Rattle.rules.proofs.NodeLaws.{opOf, leftOf, rightOf, numbered-parts}
 
@@ -57,21 +57,21 @@ same-bool false false t = refl
 
 -- z is a kind's number, and the kind is the one given.
 pub record Numbers (z : ℕ) (k : Option Kind) : Type 0 where
-  pub small : z < 16
+  pub small : z < kindsFit
   pub is : kindOf z ≡ k
 
 numbersB : ℕ → Option Kind → Bool
-numbersB z k = ltb z 16 && sameKind (kindOf z) k
+numbersB z k = ltb z kindsFit && sameKind (kindOf z) k
 
 numbers : (z : ℕ) (k : Option Kind) → T (numbersB z k) → Numbers z k
 unfolding numbersB
 numbers z k t =
     record {
-      small = ltb→ (left-of-and (ltb z 16) (sameKind (kindOf z) k) t);
-      is = same-kind (kindOf z) k (right-of-and (ltb z 16) (sameKind (kindOf z) k) t);
+      small = ltb→ (left-of-and (ltb z kindsFit) (sameKind (kindOf z) k) t);
+      is = same-kind (kindOf z) k (right-of-and (ltb z kindsFit) (sameKind (kindOf z) k) t);
     }
   where
-    ltb→ : T (ltb z 16) → z < 16
+    ltb→ : T (ltb z kindsFit) → z < kindsFit
     ltb→ t = lit< t
 
 -- The table of one argument, at all of its entries.
@@ -79,61 +79,61 @@ tableRight : ℕ → ℕ → Bool
 tableRight k x = numbersB x (with (kindOf (k % 15)) (getD oneArgument (k / 15) (λ _. none)))
 
 table-law : (k : ℕ) → k < 135 → Numbers (getD oneTable k 0) (with (kindOf (k % 15)) (getD oneArgument (k / 15) (λ _. none)))
-unfolding tableRight numbersB sameKind kindOf kindList oneArgument callKind oneOf takes makes ofElement oneKind othersKind oneTable
+unfolding tableRight numbersB sameKind kindOf kindList oneArgument callKind oneOf takes makes ofElement oneKind inside othersKind oneTable
 table-law k h = numbers (getD oneTable k 0) (with (kindOf (k % 15)) (getD oneArgument (k / 15) (λ _. none))) (entry tableRight oneTable tt k h)
 
-one-law : (o x : ℕ) → 9 ≤ o → o < 18 → x < 16 → Numbers (oneNumber o x) (with (kindOf x) (getD oneArgument (o - 9) (λ _. none)))
+one-law : (o x : ℕ) → 9 ≤ o → o < 18 → x < kindsFit → Numbers (oneNumber o x) (with (kindOf x) (getD oneArgument (o - 9) (λ _. none)))
 unfolding oneNumber kindOf kindList
 one-law o x lo hi h = ⊎-elim at-none at-some (eq-or-lt-of-le le)
   where
-    le : x ≤ 15
+    le : x ≤ noKind
     le = omega arith
 
-    at-none : x ≡ 15 → Numbers (oneNumber o x) (with (kindOf x) (getD oneArgument (o - 9) (λ _. none)))
+    at-none : x ≡ noKind → Numbers (oneNumber o x) (with (kindOf x) (getD oneArgument (o - 9) (λ _. none)))
     at-none e = rw e (record { small = lit< tt; is = refl })
 
-    at-some : x < 15 → Numbers (oneNumber o x) (with (kindOf x) (getD oneArgument (o - 9) (λ _. none)))
+    at-some : x < noKind → Numbers (oneNumber o x) (with (kindOf x) (getD oneArgument (o - 9) (λ _. none)))
     at-some l =
         let k : ℕ = 15 * (o - 9) + x in
         let p : k % 15 ≡ x = omega arith in
         let q : k / 15 ≡ o - 9 = omega arith in
-        rw (lt-ltb x 15 l) (rw p at (rw q at (table-law k (omega arith))))
+        rw (lt-ltb x noKind l) (rw p at (rw q at (table-law k (omega arith))))
 
 -- Two arguments, at all pairs of numbers.
 
 twoRight : Op → ℕ → ℕ → Bool
 twoRight o a b = numbersB (twoNumber (twoOp o) a b) (with (kindOf a) (λ k. with (kindOf b) (λ l. twoKind o k l)))
 
-two-right : (o : Op) → T (upto (λ a. upto (twoRight o a) 16) 16)
+two-right : (o : Op) → T (upto (λ a. upto (twoRight o a) kindsFit) kindsFit)
 unfolding twoRight numbersB sameKind kindOf kindList twoOp twoNumber setNumber twoKind joined asSet
 two-right operations = tt
 two-right meet = tt
 two-right join = tt
 
-two-law : (o : Op) (a b : ℕ) → a < 16 → b < 16 → Numbers (twoNumber (twoOp o) a b) (with (kindOf a) (λ k. with (kindOf b) (λ l. twoKind o k l)))
+two-law : (o : Op) (a b : ℕ) → a < kindsFit → b < kindsFit → Numbers (twoNumber (twoOp o) a b) (with (kindOf a) (λ k. with (kindOf b) (λ l. twoKind o k l)))
 unfolding twoRight
-two-law o a b h l = numbers (twoNumber (twoOp o) a b) (with (kindOf a) (λ k. with (kindOf b) (λ l. twoKind o k l))) (pair (twoRight o) 16 (two-right o) a b h l)
+two-law o a b h l = numbers (twoNumber (twoOp o) a b) (with (kindOf a) (λ k. with (kindOf b) (λ l. twoKind o k l))) (pair (twoRight o) kindsFit (two-right o) a b h l)
 
 -- Tests, at all numbers and pairs of numbers.
 
-countable-law : (a : ℕ) → a < 16 → countableNumber a ≡ check (kindOf a) countable
+countable-law : (a : ℕ) → a < kindsFit → countableNumber a ≡ check (kindOf a) countable
 unfolding sameBool countableNumber kindOf kindList countable
 countable-law a h =
     same-bool (countableNumber a) (check (kindOf a) countable)
-    (below (λ a. sameBool (countableNumber a) (check (kindOf a) countable)) 16 tt a h)
+    (below (λ a. sameBool (countableNumber a) (check (kindOf a) countable)) kindsFit tt a h)
 
-member-law : (a b : ℕ) → a < 16 → b < 16 → fitsNumber memberOp a b ≡ check (kindOf a) (λ k. check (kindOf b) (λ l. isMember k l))
+member-law : (a b : ℕ) → a < kindsFit → b < kindsFit → fitsNumber memberOp a b ≡ check (kindOf a) (λ k. check (kindOf b) (λ l. isMember k l))
 unfolding sameBool fitsNumber kindOf kindList isMember
 member-law a b h l =
     same-bool (fitsNumber memberOp a b) (check (kindOf a) (λ k. check (kindOf b) (λ l. isMember k l)))
-    (pair (λ a b. sameBool (fitsNumber memberOp a b) (check (kindOf a) (λ k. check (kindOf b) (λ l. isMember k l)))) 16 tt a b h l)
+    (pair (λ a b. sameBool (fitsNumber memberOp a b) (check (kindOf a) (λ k. check (kindOf b) (λ l. isMember k l)))) kindsFit tt a b h l)
 
-alike-law : (g : Sign) (a b : ℕ) → a < 16 → b < 16 → fitsNumber (alikeOp g) a b ≡ check (kindOf a) (λ k. check (kindOf b) (λ l. holds (Kind≟ k l)))
+alike-law : (g : Sign) (a b : ℕ) → a < kindsFit → b < kindsFit → fitsNumber (alikeOp g) a b ≡ check (kindOf a) (λ k. check (kindOf b) (λ l. holds (Kind≟ k l)))
 unfolding sameBool fitsNumber alikeOp kindOf kindList
 alike-law g a b h l =
     same-sign g
     ∙ same-bool (fitsNumber 22 a b) (check (kindOf a) (λ k. check (kindOf b) (λ l. holds (Kind≟ k l))))
-    (pair (λ a b. sameBool (fitsNumber 22 a b) (check (kindOf a) (λ k. check (kindOf b) (λ l. holds (Kind≟ k l))))) 16 tt a b h l)
+    (pair (λ a b. sameBool (fitsNumber 22 a b) (check (kindOf a) (λ k. check (kindOf b) (λ l. holds (Kind≟ k l))))) kindsFit tt a b h l)
   where
     same-sign : (g : Sign) → fitsNumber (alikeOp g) a b ≡ fitsNumber 22 a b
     same-sign is = refl
@@ -156,29 +156,29 @@ counts-law o a b lo hi =
     let q : 24 ≤ o = omega arith in
     rw (le-ltb o 22 p, le-ltb o 24 q, le-ltb o 32 lo, lt-ltb o 38 hi) (cond-and (countableNumber a) (countableNumber b))
 
-joined-law : (o a b : ℕ) → 38 ≤ o → fitsNumber o a b ≡ (eqb a 16 && eqb b 16)
+joined-law : (o a b : ℕ) → 38 ≤ o → fitsNumber o a b ≡ (eqb a kindsFit && eqb b kindsFit)
 unfolding fitsNumber
 joined-law o a b lo =
     let p : 22 ≤ o = omega arith in
     let q : 24 ≤ o = omega arith in
     let r : 32 ≤ o = omega arith in
-    rw (le-ltb o 22 p, le-ltb o 24 q, le-ltb o 32 r, le-ltb o 38 lo) (cond-and (eqb a 16) (eqb b 16))
+    rw (le-ltb o 22 p, le-ltb o 24 q, le-ltb o 32 r, le-ltb o 38 lo) (cond-and (eqb a kindsFit) (eqb b kindsFit))
 
-fits-law : (o a b : ℕ) → 21 ≤ o → eqb (nodeNumber o a b) 16 ≡ fitsNumber o a b
+fits-law : (o a b : ℕ) → 21 ≤ o → eqb (nodeNumber o a b) kindsFit ≡ fitsNumber o a b
 unfolding nodeNumber
 fits-law o a b h =
     let p : 9 ≤ o = omega arith in
     let q : 18 ≤ o = omega arith in
     rw (le-ltb o 9 p, le-ltb o 18 q, le-ltb o 21 h) (go (fitsNumber o a b))
   where
-    go : (x : Bool) → eqb (cond x 16 15) 16 ≡ x
+    go : (x : Bool) → eqb (cond x kindsFit noKind) kindsFit ≡ x
     go true = refl
     go false = refl
 
 -- A node's number, by the numbers of the nodes below it.
 
 abbrev pub stepNumber : List ℕ → List ℕ → ℕ → ℕ
-stepNumber ns ks k = nodeNumber (opOf ns k) (getD ks (leftOf ns k) 15) (getD ks (rightOf ns k) 15)
+stepNumber ns ks k = nodeNumber (opOf ns k) (getD ks (leftOf ns k) noKind) (getD ks (rightOf ns k) noKind)
 
 -- The operation o makes a term of one argument, whose kind f gives.
 record Makes (o : ℕ) (f : Kind → Option Kind) : Type 0 where
@@ -216,12 +216,12 @@ base-numbers bCR x y = record { small = lit< tt; is = refl }
 base-numbers bCP x y = record { small = lit< tt; is = refl }
 base-numbers bCU x y = record { small = lit< tt; is = refl }
 
-one-numbers : {o : ℕ} {f : Kind → Option Kind} → Makes o f → (x y : ℕ) → x < 16 → Numbers (nodeNumber o x y) (with (kindOf x) f)
+one-numbers : {o : ℕ} {f : Kind → Option Kind} → Makes o f → (x y : ℕ) → x < kindsFit → Numbers (nodeNumber o x y) (with (kindOf x) f)
 unfolding nodeNumber
 one-numbers {o} {f} m x y h =
     rw (le-ltb o 9 (m .low), lt-ltb o 18 (m .high)) (subst (λ (g : Kind → Option Kind). Numbers (oneNumber o x) (with (kindOf x) g)) (m .is) (one-law o x (m .low) (m .high) h))
 
-two-numbers : (o : Op) (x y : ℕ) → x < 16 → y < 16 → Numbers (nodeNumber (twoOp o) x y) (with (kindOf x) (λ k. with (kindOf y) (λ l. twoKind o k l)))
+two-numbers : (o : Op) (x y : ℕ) → x < kindsFit → y < kindsFit → Numbers (nodeNumber (twoOp o) x y) (with (kindOf x) (λ k. with (kindOf y) (λ l. twoKind o k l)))
 unfolding nodeNumber
 two-numbers o x y h l =
     let lo = two-range o .low in
@@ -249,12 +249,12 @@ cmp-number ne = lit< tt
 
 module _ (ns ks : List ℕ) (k : ℕ) (below : Kinded ns k ks) where
   -- What is known of the terms at the node's left and right.
-  at-left : {o i j : ℕ} (a : Term) → Parts (getD ns k 0) o i j → i < k → Holds ns i a → Numbers (getD ks (leftOf ns k) 15) (kind a)
+  at-left : {o i j : ℕ} (a : Term) → Parts (getD ns k 0) o i j → i < k → Holds ns i a → Numbers (getD ks (leftOf ns k) noKind) (kind a)
   at-left {o} {i} a p h x =
       let w = below .at i h .term a x in
       rw (p .left) (record { small = w .0; is = w .1 })
 
-  at-right : {j : ℕ} (b : Term) → rightOf ns k ≡ j → j < k → Holds ns j b → Numbers (getD ks (rightOf ns k) 15) (kind b)
+  at-right : {j : ℕ} (b : Term) → rightOf ns k ≡ j → j < k → Holds ns j b → Numbers (getD ks (rightOf ns k) noKind) (kind b)
   at-right {j} b p h x =
       let w = below .at j h .term b x in
       rw p (record { small = w .0; is = w .1 })
@@ -263,11 +263,11 @@ module _ (ns ks : List ℕ) (k : ℕ) (below : Kinded ns k ks) where
   one-step {o} {i} {f} a m x y =
       let p = one-parts x (omega arith) in
       let w = at-left a p (x .below) y in
-      rw (p .op, ← w .is) (one-numbers m (getD ks (leftOf ns k) 15) (getD ks (rightOf ns k) 15) (w .small))
+      rw (p .op, ← w .is) (one-numbers m (getD ks (leftOf ns k) noKind) (getD ks (rightOf ns k) noKind) (w .small))
 
   term-step : (t : Term) → Holds ns k t → Numbers (stepNumber ns ks k) (kind t)
   unfolding Holds kind
-  term-step (base b) x = let h : baseOp b < 256 = omega (arith, base-small b) in rw (none-parts x h .op) (base-numbers b (getD ks (leftOf ns k) 15) (getD ks (rightOf ns k) 15))
+  term-step (base b) x = let h : baseOp b < 256 = omega (arith, base-small b) in rw (none-parts x h .op) (base-numbers b (getD ks (leftOf ns k) noKind) (getD ks (rightOf ns k) noKind))
   term-step (call f a) x = one-step a (fn-makes f) (x .1) (x .2)
   term-step (oe a) x = one-step a oe-makes (x .1) (x .2)
   term-step (ao a) x = one-step a ao-makes (x .1) (x .2)
@@ -276,31 +276,31 @@ module _ (ns ks : List ℕ) (k : ℕ) (below : Kinded ns k ks) where
       let p = both-parts (x .2) h in
       let v = at-left a p (x .2 .below) (x .3) in
       let w = at-right b (p .right) (x .2 .below₂) (x .4) in
-      rw (p .op, ← v .is, ← w .is) (two-numbers o (getD ks (leftOf ns k) 15) (getD ks (rightOf ns k) 15) (v .small) (w .small))
+      rw (p .op, ← v .is, ← w .is) (two-numbers o (getD ks (leftOf ns k) noKind) (getD ks (rightOf ns k) noKind) (v .small) (w .small))
 
-  -- The number of a test, a clause or a rule is 16 where it fits.
-  fits-step : {o i j : ℕ} → 21 ≤ o → Parts (getD ns k 0) o i j → eqb (stepNumber ns ks k) 16 ≡ fitsNumber o (getD ks (leftOf ns k) 15) (getD ks (rightOf ns k) 15)
-  fits-step {o} h p = rw (p .op) (fits-law o (getD ks (leftOf ns k) 15) (getD ks (rightOf ns k) 15) h)
+  -- The number of a test, a clause or a rule is kindsFit where it fits.
+  fits-step : {o i j : ℕ} → 21 ≤ o → Parts (getD ns k 0) o i j → eqb (stepNumber ns ks k) kindsFit ≡ fitsNumber o (getD ks (leftOf ns k) noKind) (getD ks (rightOf ns k) noKind)
+  fits-step {o} h p = rw (p .op) (fits-law o (getD ks (leftOf ns k) noKind) (getD ks (rightOf ns k) noKind) h)
 
-  counted-step : {o i j : ℕ} (a : Term) → 24 ≤ o → o < 32 → Parts (getD ns k 0) o i j → i < k → Holds ns i a → eqb (stepNumber ns ks k) 16 ≡ check (kind a) countable
+  counted-step : {o i j : ℕ} (a : Term) → 24 ≤ o → o < 32 → Parts (getD ns k 0) o i j → i < k → Holds ns i a → eqb (stepNumber ns ks k) kindsFit ≡ check (kind a) countable
   counted-step {o} a lo hi p h x =
       let w = at-left a p h x in
       let q : 21 ≤ o = omega arith in
-      fits-step q p ∙ counted-law o (getD ks (leftOf ns k) 15) (getD ks (rightOf ns k) 15) lo hi ∙ countable-law (getD ks (leftOf ns k) 15) (w .small) ∙ rw (w .is)
+      fits-step q p ∙ counted-law o (getD ks (leftOf ns k) noKind) (getD ks (rightOf ns k) noKind) lo hi ∙ countable-law (getD ks (leftOf ns k) noKind) (w .small) ∙ rw (w .is)
 
-  test-step : (p : Test) → HoldsTest ns k p → eqb (stepNumber ns ks k) 16 ≡ testKinds p
+  test-step : (p : Test) → HoldsTest ns k p → eqb (stepNumber ns ks k) kindsFit ≡ testKinds p
   unfolding HoldsTest testKinds countKinds
   test-step (member a b) x =
       let p = both-parts (x .2) (lit< tt) in
       let v = at-left a p (x .2 .below) (x .3) in
       let w = at-right b (p .right) (x .2 .below₂) (x .4) in
-      fits-step (lit≤ tt) p ∙ rw (← v .is, ← w .is) (member-law (getD ks (leftOf ns k) 15) (getD ks (rightOf ns k) 15) (v .small) (w .small))
+      fits-step (lit≤ tt) p ∙ rw (← v .is, ← w .is) (member-law (getD ks (leftOf ns k) noKind) (getD ks (rightOf ns k) noKind) (v .small) (w .small))
   test-step (alike g a b) x =
       let h : alikeOp g < 256 = omega (arith, alike-op g .1) in
       let p = both-parts (x .2) h in
       let v = at-left a p (x .2 .below) (x .3) in
       let w = at-right b (p .right) (x .2 .below₂) (x .4) in
-      fits-step (alike-op g .0) p ∙ rw (← v .is, ← w .is) (alike-law g (getD ks (leftOf ns k) 15) (getD ks (rightOf ns k) 15) (v .small) (w .small))
+      fits-step (alike-op g .0) p ∙ rw (← v .is, ← w .is) (alike-law g (getD ks (leftOf ns k) noKind) (getD ks (rightOf ns k) noKind) (v .small) (w .small))
   test-step (empty g a) x =
       let h : emptyOp g < 256 = omega (arith, empty-op g .1) in
       counted-step a (empty-op g .0) (omega (arith, empty-op g .1)) (one-parts (x .1) h) (x .1 .below) (x .2)
@@ -315,25 +315,25 @@ module _ (ns ks : List ℕ) (k : ℕ) (below : Kinded ns k ks) where
       let v = at-left a p (x .2 .below) (x .3) in
       let w = at-right b (p .right) (x .2 .below₂) (x .4) in
       fits-step (omega arith) p
-      ∙ counts-law (32 + cmpNumber c) (getD ks (leftOf ns k) 15) (getD ks (rightOf ns k) 15) (omega arith) (omega arith)
-      ∙ rw (← v .is, ← w .is) (ap₂ _&&_ (countable-law (getD ks (leftOf ns k) 15) (v .small)) (countable-law (getD ks (rightOf ns k) 15) (w .small)))
+      ∙ counts-law (32 + cmpNumber c) (getD ks (leftOf ns k) noKind) (getD ks (rightOf ns k) noKind) (omega arith) (omega arith)
+      ∙ rw (← v .is, ← w .is) (ap₂ _&&_ (countable-law (getD ks (leftOf ns k) noKind) (v .small)) (countable-law (getD ks (rightOf ns k) noKind) (w .small)))
 
-  clause-step : (c : Clause) → HoldsClause ns k c → eqb (stepNumber ns ks k) 16 ≡ clauseKinds c
+  clause-step : (c : Clause) → HoldsClause ns k c → eqb (stepNumber ns ks k) kindsFit ≡ clauseKinds c
   unfolding HoldsClause clauseKinds
   clause-step (plain p) x = test-step p x
   clause-step (when p q) x =
       let w = both-parts (x .2) (lit< tt) in
       fits-step (lit≤ tt) w
-      ∙ joined-law whenOp (getD ks (leftOf ns k) 15) (getD ks (rightOf ns k) 15) (lit≤ tt)
+      ∙ joined-law whenOp (getD ks (leftOf ns k) noKind) (getD ks (rightOf ns k) noKind) (lit≤ tt)
       ∙ rw (w .left, w .right) (ap₂ _&&_ (below .at (x .0) (x .2 .below) .test p (x .3)) (below .at (x .1) (x .2 .below₂) .test q (x .4)))
 
-  rule-step : (ρ : Rule) → HoldsRule ns k ρ → eqb (stepNumber ns ks k) 16 ≡ ruleKinds ρ
+  rule-step : (ρ : Rule) → HoldsRule ns k ρ → eqb (stepNumber ns ks k) kindsFit ≡ ruleKinds ρ
   unfolding HoldsRule ruleKinds
   rule-step (last c) x = clause-step c x
   rule-step (also c ρ) x =
       let w = both-parts (x .2) (lit< tt) in
       fits-step (lit≤ tt) w
-      ∙ joined-law alsoOp (getD ks (leftOf ns k) 15) (getD ks (rightOf ns k) 15) (lit≤ tt)
+      ∙ joined-law alsoOp (getD ks (leftOf ns k) noKind) (getD ks (rightOf ns k) noKind) (lit≤ tt)
       ∙ rw (w .left, w .right) (ap₂ _&&_ (below .at (x .0) (x .2 .below) .clause c (x .3)) (below .at (x .1) (x .2 .below₂) .rule ρ (x .4)))
 
   -- One node more.
@@ -346,11 +346,11 @@ module _ (ns ks : List ℕ) (k : ℕ) (below : Kinded ns k ks) where
       here : KindAt ns k (stepNumber ns ks k)
       here = record { term = λ t y. let w = term-step t y in (w .small, w .is); test = test-step; clause = clause-step; rule = rule-step }
 
-      at-k : (j : ℕ) → j ≡ k → KindAt ns j (getD (set ks k x) j 15)
-      at-k j q = rw (q, getD-set-same ks k x 15 h, e) here
+      at-k : (j : ℕ) → j ≡ k → KindAt ns j (getD (set ks k x) j noKind)
+      at-k j q = rw (q, getD-set-same ks k x noKind h, e) here
 
-      below-k : (j : ℕ) → j < k → KindAt ns j (getD (set ks k x) j 15)
-      below-k j l = rw (getD-set-other ks k j x 15 (omega arith)) (below .at j l)
+      below-k : (j : ℕ) → j < k → KindAt ns j (getD (set ks k x) j noKind)
+      below-k j l = rw (getD-set-other ks k j x noKind (omega arith)) (below .at j l)
 
 pub kind-none : (ns ks : List ℕ) → Kinded ns 0 ks
 kind-none ns ks = record { at = λ k h. absurd (omega arith) }

@@ -29,7 +29,7 @@ use Rattle.rules.specs.declared.Found.{Found}
 use Rattle.rules.specs.declared.Found.the-variants.{Turned, Rule as Tree}
 use Rattle.rules.specs.Kind.{ruleKinds}
 use Rattle.rules.specs.Accept.{deep, treeRefusal, refusal}
-use Rattle.rules.specs.code.Numbers.{Kinded}
+use Rattle.rules.specs.code.Numbers.{noKind, kindsFit, Kinded}
 use Rattle.rules.specs.code.Variables.{VarsOf}
 use Rattle.rules.specs.code.Lengths.{LengthsOf, FormulaLength}
 use Rattle.rules.specs.code.Parsed.{RuleAt, Fitted, Weighs, unfit, fit, Finds, turned, found, Blank, Parses}
@@ -38,16 +38,16 @@ use Rattle.rules.proofs.NodeLaws.{lt-or-le}
 use Rattle.rules.proofs.VariableLaws.{listed-count}
 
 -- The checks on a tree.
-module _ {ns : List ℕ} {n root : ℕ} {ks : List ℕ} {x : ℕ} (kinds : Kinded ns n ks) (within : root < n) (at : x ≡ getD ks root 15) where
-  rule-kinds : (ρ : Rule) → HoldsRule ns root ρ → eqb x 16 ≡ ruleKinds ρ
+module _ {ns : List ℕ} {n root : ℕ} {ks : List ℕ} {x : ℕ} (kinds : Kinded ns n ks) (within : root < n) (at : x ≡ getD ks root noKind) where
+  rule-kinds : (ρ : Rule) → HoldsRule ns root ρ → eqb x kindsFit ≡ ruleKinds ρ
   rule-kinds ρ h = rw at (kinds .at root within .rule ρ h)
 
-  pub weigh-unkind : {vs : List ℕ} → (x ≡ 16 → ⊥) → Weighs ns n root ks vs (Unfit Unkind)
-  weigh-unkind e = unfit (λ ρ h. tree-unkind ρ (sym (rule-kinds ρ h) ∙ ne-eqb x 16 e))
+  pub weigh-unkind : {vs : List ℕ} → (x ≡ kindsFit → ⊥) → Weighs ns n root ks vs (Unfit Unkind)
+  weigh-unkind e = unfit (λ ρ h. tree-unkind ρ (sym (rule-kinds ρ h) ∙ ne-eqb x kindsFit e))
 
-  module _ {vs : List ℕ} {c : ℕ} (e : x ≡ 16) (vars : VarsOf ns n root vs c) where
+  module _ {vs : List ℕ} {c : ℕ} (e : x ≡ kindsFit) (vars : VarsOf ns n root vs c) where
     pub weigh-choices : 8 < c → Weighs ns n root ks vs (Unfit Choices)
-    weigh-choices many = unfit (λ ρ h. tree-choices ρ (sym (rule-kinds ρ h) ∙ eq-eqb x 16 e) (vars .listed ρ h .more many))
+    weigh-choices many = unfit (λ ρ h. tree-choices ρ (sym (rule-kinds ρ h) ∙ eq-eqb x kindsFit e) (vars .listed ρ h .more many))
 
     pub weigh-fit : c ≤ 8 → Weighs ns n root ks vs (Variables c)
     weigh-fit few = fit go
@@ -58,7 +58,7 @@ module _ {ns : List ℕ} {n root : ℕ} {ks : List ℕ} {x : ℕ} (kinds : Kinde
             let q = listed-count (vars .size) l few in
             let w : length (take c vs) ≡ c = length-take-le c vs (omega (arith, vars .size)) in
             record {
-              refuses = tree-fits ρ (sym (rule-kinds ρ h) ∙ eq-eqb x 16 e) (omega arith);
+              refuses = tree-fits ρ (sym (rule-kinds ρ h) ∙ eq-eqb x kindsFit e) (omega arith);
               kinds = kinds;
               knows = record { holds = l .held few; below = λ i z. let y : i < c = omega arith in rw (getD-take c vs i 0 y) (l .below i y (omega arith)) };
               counted = q;

@@ -12,13 +12,18 @@ pub data Sort : Type 0 where
   sU sR sOP sOBJ sP sS : Sort
   deriving Discrete as Sort≟
 
--- A collection is named by the sort of the sets in it.
+pub data Collection : Type 0 where
+  CR CP CU : Collection
+  deriving Discrete as Collection≟
+
+-- Fifteen and no more.
 pub data Kind : Type 0 where
-  element set collection : Sort → Kind
+  element set : Sort → Kind
+  collection : Collection → Kind
   deriving Discrete as Kind≟′
 
 abbrev pub Kind≟ : Discrete Kind
-Kind≟ = Kind≟′ Sort≟
+Kind≟ = Kind≟′ Sort≟ Collection≟
 
 abbrev pub holds : {A : Type 0} → Dec A → Bool
 holds (yes p) = true
@@ -35,9 +40,9 @@ baseKind bOP = set sOP
 baseKind bOBJ = set sOBJ
 baseKind bP = set sP
 baseKind bS = set sS
-baseKind bCR = collection sR
-baseKind bCP = collection sP
-baseKind bCU = collection sU
+baseKind bCR = collection CR
+baseKind bCP = collection CP
+baseKind bCU = collection CU
 
 -- "Functions take an element or a set of the sorts named": the sorts that a function takes, and the sort of which it gives a set.
 unfoldable pub takes : Fn → List Sort
@@ -71,24 +76,29 @@ ofElement object s = set sOBJ
 unfoldable pub callKind : Fn → Kind → Option Kind
 callKind f (element s) = elim (oneOf s (takes f)) [ true ↦ some (ofElement f s) | false ↦ none ]
 callKind f (set s) = elim (oneOf s (takes f)) [ true ↦ some (set (makes f)) | false ↦ none ]
-callKind f (collection s) = none
+callKind f (collection c) = none
 
 -- "OE of a set gives an element; of CR, CP, CU a set of R, P, U. AO of a set or collection keeps the kind; OE or AO of an element is kind 14."
+unfoldable pub inside : Collection → Sort
+inside CR = sR
+inside CP = sP
+inside CU = sU
+
 unfoldable pub oneKind : Kind → Option Kind
 oneKind (element s) = none
 oneKind (set s) = some (element s)
-oneKind (collection s) = some (set s)
+oneKind (collection c) = some (set (inside c))
 
 unfoldable pub othersKind : Kind → Option Kind
 othersKind (element s) = none
 othersKind (set s) = some (set s)
-othersKind (collection s) = some (collection s)
+othersKind (collection c) = some (collection c)
 
 -- "& and + join one kind; an element there counts as the set of itself, so the result is never an element."
 unfoldable pub asSet : Kind → Kind
 asSet (element s) = set s
 asSet (set s) = set s
-asSet (collection s) = collection s
+asSet (collection c) = collection c
 
 unfoldable pub joined : Kind → Kind → Option Kind
 joined k l = elim (Kind≟ (asSet k) (asSet l)) [ yes p ↦ some (asSet k) | no n ↦ none ]
@@ -119,13 +129,13 @@ check (some k) f = f k
 unfoldable pub countable : Kind → Bool
 countable (element s) = false
 countable (set s) = true
-countable (collection s) = true
+countable (collection c) = true
 
 -- "@ puts an element in a set of its sort"
 unfoldable pub isMember : Kind → Kind → Bool
 isMember (element s) l = holds (Kind≟ l (set s))
 isMember (set s) l = false
-isMember (collection s) l = false
+isMember (collection c) l = false
 
 -- "= and != compare two terms of one kind .. Anything else is kind 14."
 unfoldable pub countKinds : Count → Bool

@@ -56,7 +56,7 @@ fn weigh(nodes: &[u32], n: usize, root: usize, kinds: &mut [u8], vars: &mut [u32
     ensures { λ r. ⌜ Weighs (now (nodes .entry)) n root (now (kinds .exit)) (now (vars .exit)) r ⌝ }
 {
     kinds::kinds(nodes, n, kinds);
-    if kinds::kind_at(kinds, root) != 16 {
+    if kinds::kind_at(kinds, root) != kinds::KINDS_FIT {
         return Weighed::Unfit(Refusal::Unkind);
     }
     let count = variables::variables(nodes, n, root, vars);
@@ -116,7 +116,7 @@ pub fn parse(s: &[u8]) -> Parsed
     ensures { λ p. ⌜ Parses (now (s .entry)) (p .nodes) (p .kinds) (p .vars) (p .outcome) (p .n) (p .root) (p .count) ⌝ }
 {
     let mut nodes = [0u32; 256];
-    let mut kinds = [15u8; 256];
+    let mut kinds = [kinds::NO_KIND; 256];
     let mut vars = [0u32; 8];
     match find(s, &mut nodes, &mut kinds, &mut vars) {
         Found::Turned(r) => turned(r),

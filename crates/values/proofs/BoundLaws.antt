@@ -22,7 +22,7 @@ use Rattle.syntax.specs.Term.{operations, meet, join, Term, base, call, oe, ao,
 use Rattle.syntax.specs.Bytes.{Bytes}
 use Rattle.syntax.specs.Rule.{Rule, ruleVars, ruleOf}
 use Rattle.syntax.proofs.Closed.{Known, Ordered, rule-ordered}
-use Rattle.rules.specs.Kind.{Sort, Sort≟, sU, sR, sOP, sOBJ, sP, sS, Kind, Kind≟, element, set, collection, baseKind, takes, makes, oneOf, holds}
+use Rattle.rules.specs.Kind.{Sort, Sort≟, sU, sR, sOP, sOBJ, sP, sS, CR, CP, CU, Kind, Kind≟, element, set, collection, baseKind, inside, takes, makes, oneOf, holds}
 use Rattle.rules.specs.Kind.{ofElement, callKind, oneKind, othersKind, asSet, joined, twoKind, with, kind}
 use Rattle.rules.specs.Accept.{refusal}
 use Rattle.rules.proofs.ChoiceLaws.{some-with, accepted-choosable}
@@ -33,7 +33,7 @@ use Rattle.values.specs.Values.{twoValue, variableOf, itemIn, oneValue, 
 use Rattle.values.specs.Items.{sortItems, kindItems}
 use Rattle.values.specs.Sets.{setOf, itemsOfKind, itemsOf, inSet}
 use Rattle.values.proofs.VariableLaws.{variable-digit, variable-at, variable-more}
-use Rattle.values.proofs.InsideLaws.{Among, among-all, row-inside, zero-among, permissions-few, call-among, operations-among}
+use Rattle.values.proofs.InsideLaws.{Among, among-all, row-inside, permissions-few, call-among, operations-among}
 
 -- Which items a word has by its making.
 in-word : (f : ℕ → Bool) (x : ℕ) → has (wordOf 64 f) x ≡ true → f x ≡ true
@@ -87,13 +87,13 @@ module _ (T : Tables) where
       go : (b : Bool) → _≡_ {A = Option Kind} (elim b [ true ↦ some (set (makes f)) | false ↦ none ]) (some l) → kindItems T l ≡ sortItems T (makes f)
       go true q = let p : set (makes f) ≡ l = cc in rw (← p)
       go false q = let z : _≡_ {A = ℕ} 0 1 = cc in absurd (omega arith)
-  call-items f (collection s) l e = let z : _≡_ {A = ℕ} 0 1 = cc in absurd (omega arith)
+  call-items f (collection c) l e = let z : _≡_ {A = ℕ} 0 1 = cc in absurd (omega arith)
 
   set-items : (k : Kind) → kindItems T (asSet k) ≡ kindItems T k
   unfolding asSet kindItems
   set-items (element s) = refl
   set-items (set s) = refl
-  set-items (collection s) = refl
+  set-items (collection c) = refl
 
   -- Two terms that are joined, and what is made of them, have the same items.
   abbrev Alike : Kind → Kind → Kind → Type 0
@@ -131,23 +131,20 @@ module _ (T : Tables) (sound : Sound T) (σ : Choices) (c : List ℕ) where
   Ranged (two o a b) = Ranged a × Ranged b
 
   one-among : (k l : Kind) → oneKind k ≡ some l → (x : ℕ) → has (kindItems T k) x ≡ true → Among (kindItems T l) (oneValue T (some k) x)
-  unfolding oneKind oneValue kindItems sortItems
+  unfolding oneKind inside oneValue kindItems sortItems
   one-among (element s) l e x h = let z : _≡_ {A = ℕ} 0 1 = cc in absurd (omega arith)
   one-among (set s) l e x h = let p : element s ≡ l = cc in rw (← p) (item-among (sortItems T s) x h)
-  one-among (collection sU) l e x h = let p : set sU ≡ l = cc in rw (← p) (words-among (T .userRows) (T .cu) (sound .fits .users) (sound .bounded .cus) x)
-  one-among (collection sR) l e x h = let p : set sR ≡ l = cc in rw (← p) (words-among (T .roleRows) (T .cr) (sound .fits .roles) (sound .bounded .crs) x)
-  one-among (collection sP) l e x h =
+  one-among (collection CU) l e x h = let p : set sU ≡ l = cc in rw (← p) (words-among (T .userRows) (T .cu) (sound .fits .users) (sound .bounded .cus) x)
+  one-among (collection CR) l e x h = let p : set sR ≡ l = cc in rw (← p) (words-among (T .roleRows) (T .cr) (sound .fits .roles) (sound .bounded .crs) x)
+  one-among (collection CP) l e x h =
       let p : set sP ≡ l = cc in
       rw (← p) (words-among (T .permissionRows) (T .cp) (permissions-few T (sound .fits) (sound .bounded) 0) (sound .bounded .cps) x)
-  one-among (collection sOP) l e x h = zero-among (kindItems T l)
-  one-among (collection sOBJ) l e x h = zero-among (kindItems T l)
-  one-among (collection sS) l e x h = zero-among (kindItems T l)
 
   others-same : (k l : Kind) → othersKind k ≡ some l → k ≡ l
   unfolding othersKind
   others-same (element s) l e = let z : _≡_ {A = ℕ} 0 1 = cc in absurd (omega arith)
   others-same (set s) l e = cc
-  others-same (collection s) l e = cc
+  others-same (collection c) l e = cc
 
   -- A term has only items of its kind.
   pub value-among : (t : Term) (l : Kind) → kind t ≡ some l → Ranged t → Among (kindItems T l) (value T σ c t)
@@ -251,12 +248,9 @@ kind-lt : (T : Tables) (k : Kind) → kindItems T k < 2 ^ 64
 unfolding kindItems
 kind-lt T (element s) = sort-lt T s
 kind-lt T (set s) = sort-lt T s
-kind-lt T (collection sU) = all-lt (length (T .cu))
-kind-lt T (collection sR) = all-lt (length (T .cr))
-kind-lt T (collection sP) = all-lt (length (T .cp))
-kind-lt T (collection sOP) = lit< tt
-kind-lt T (collection sOBJ) = lit< tt
-kind-lt T (collection sS) = lit< tt
+kind-lt T (collection CU) = all-lt (length (T .cu))
+kind-lt T (collection CR) = all-lt (length (T .cr))
+kind-lt T (collection CP) = all-lt (length (T .cp))
 
 items-lt : (T : Tables) (o : Option Kind) → itemsOfKind T o < 2 ^ 64
 items-lt T none = lit< tt

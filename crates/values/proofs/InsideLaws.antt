@@ -44,9 +44,6 @@ row-inside n rows b i x h = go (decLt x n)
     go (yes l) = l
     go (no l) = absurd (true≢false (sym h ∙ has-out (getD rows i 0) n x (b i) (omega arith)))
 
-pub zero-among : (u : ℕ) → Among u 0
-zero-among u x h = absurd (true≢false (sym h ∙ has-zero x))
-
 row-there : (rows : List ℕ) (i x : ℕ) → has (getD rows i 0) x ≡ true → i < length rows
 row-there rows i x h = go (decLt i (length rows))
   where

@@ -15,7 +15,7 @@ use Rattle.tables.specs.Tables.{Tables}
 use Rattle.tables.specs.Flat.{Fits, counts, sections, flat}
 use Rattle.tables.proofs.FlatLaws.{flat-at}
 use Rattle.rules.specs.Kind.{baseKind}
-use Rattle.rules.specs.code.Numbers.{kindList, kindOf}
+use Rattle.rules.specs.code.Numbers.{firstSet, firstCollection, noKind, kindsFit, kindList, kindOf}
 use Rattle.rules.proofs.TableLaws.{pair}
 use Rattle.values.specs.Items.{sortItems, kindItems}
 use Rattle.values.specs.Values.{ofSort, oneValue}
@@ -60,33 +60,33 @@ pub collection-place : (j : ℕ) → j < 3 → getD collectionPlaces j 0 ≤ 512
 collection-place j h = each (λ j. getD collectionPlaces j 0 ≤ 512) 3 (((tt, omega arith), omega arith), omega arith) j h
 
 -- The item x of a set is itself;
-pub one-item : (T : Tables) (x k : ℕ) → k < 12 → itemOf x ≡ oneValue T (kindOf k) x
+pub one-item : (T : Tables) (x k : ℕ) → k < firstCollection → itemOf x ≡ oneValue T (kindOf k) x
 unfolding oneValue kindOf kindList
 one-item T x k h =
-    each (λ k. itemOf x ≡ oneValue T (kindOf k) x) 12
+    each (λ k. itemOf x ≡ oneValue T (kindOf k) x) firstCollection
     ((((((((((((tt, refl), refl), refl), refl), refl), refl), refl), refl), refl), refl), refl), refl) k h
 
 -- of no kind it is nothing;
-pub one-none : (T : Tables) (x k : ℕ) → k ≡ 15 → 0 ≡ oneValue T (kindOf k) x
+pub one-none : (T : Tables) (x k : ℕ) → k ≡ noKind → 0 ≡ oneValue T (kindOf k) x
 unfolding oneValue kindOf kindList
 one-none T x k e = rw e
 
 -- of a collection it is the word there.
-module _ (T : Tables) (x : ℕ) (k : ℕ) (l : 12 ≤ k) (h : k ≤ 14) where
-  pub one-word : x ≤ 63 → getD (flat T) (getD collectionPlaces (k - 12) 0 + x) 0 ≡ oneValue T (kindOf k) x
+module _ (T : Tables) (x : ℕ) (k : ℕ) (l : firstCollection ≤ k) (h : k < noKind) where
+  pub one-word : x ≤ 63 → getD (flat T) (getD collectionPlaces (k - firstCollection) 0 + x) 0 ≡ oneValue T (kindOf k) x
   unfolding sections oneValue kindOf kindList
   one-word m =
-      let up : 12 + (k - 12) ≡ k = omega arith in
-      each (λ j. getD (flat T) (getD collectionPlaces j 0 + x) 0 ≡ oneValue T (kindOf (12 + j)) x) 3
-      (((tt, flat-at T 6 x (omega arith)), flat-at T 8 x (omega arith)), flat-at T 7 x (omega arith)) (k - 12) (omega arith)
+      let up : firstCollection + (k - firstCollection) ≡ k = omega arith in
+      each (λ j. getD (flat T) (getD collectionPlaces j 0 + x) 0 ≡ oneValue T (kindOf (firstCollection + j)) x) 3
+      (((tt, flat-at T 6 x (omega arith)), flat-at T 8 x (omega arith)), flat-at T 7 x (omega arith)) (k - firstCollection) (omega arith)
       ∙ ap (λ (j : ℕ). oneValue T (kindOf j) x) up
 
   pub one-far : Fits T → 63 < x → 0 ≡ oneValue T (kindOf k) x
   unfolding oneValue kindOf kindList
   one-far f m =
-      let up : 12 + (k - 12) ≡ k = omega arith in
-      each (λ j. 0 ≡ oneValue T (kindOf (12 + j)) x) 3
-      (((tt, past (T .cr) (omega (arith, f .crs))), past (T .cp) (omega (arith, f .cps))), past (T .cu) (omega (arith, f .cus))) (k - 12) (omega arith)
+      let up : firstCollection + (k - firstCollection) ≡ k = omega arith in
+      each (λ j. 0 ≡ oneValue T (kindOf (firstCollection + j)) x) 3
+      (((tt, past (T .cr) (omega (arith, f .crs))), past (T .cp) (omega (arith, f .cps))), past (T .cu) (omega (arith, f .cus))) (k - firstCollection) (omega arith)
       ∙ ap (λ (j : ℕ). oneValue T (kindOf j) x) up
     where
       past : (ws : List ℕ) → length ws ≤ x → 0 ≡ getD ws x 0
@@ -105,14 +105,14 @@ same-eq false true t = absurd t
 same-eq false false t = refl
 
 sortTest : ℕ → ℕ → Bool
-sortTest s k = cond (ltb s 6) (sameB (ltb k 12 && eqb (k % 6) s) (ofSort (sortAt s) (kindOf k))) true
+sortTest s k = cond (ltb s firstSet) (sameB (ltb k firstCollection && eqb (k % firstSet) s) (ofSort (sortAt s) (kindOf k))) true
 
-is-sort : (s k : ℕ) → s < 6 → k < 16 → (ltb k 12 && eqb (k % 6) s) ≡ ofSort (sortAt s) (kindOf k)
+is-sort : (s k : ℕ) → s < firstSet → k < kindsFit → (ltb k firstCollection && eqb (k % firstSet) s) ≡ ofSort (sortAt s) (kindOf k)
 unfolding sortTest sameB ofSort sortAt kindOf kindList
-is-sort s k h l = same-eq (ltb k 12 && eqb (k % 6) s) (ofSort (sortAt s) (kindOf k)) (rw (lt-ltb s 6 h) at (pair sortTest 16 tt s k (omega arith) l))
+is-sort s k h l = same-eq (ltb k firstCollection && eqb (k % firstSet) s) (ofSort (sortAt s) (kindOf k)) (rw (lt-ltb s firstSet h) at (pair sortTest kindsFit tt s k (omega arith) l))
 
-pub sort-yes : (s k : ℕ) → s < 6 → k < 12 → eqb (k % 6) s ≡ ofSort (sortAt s) (kindOf k)
-sort-yes s k h l = ap (λ (b : Bool). b && eqb (k % 6) s) (sym (lt-ltb k 12 l)) ∙ is-sort s k h (omega arith)
+pub sort-yes : (s k : ℕ) → s < firstSet → k < firstCollection → eqb (k % firstSet) s ≡ ofSort (sortAt s) (kindOf k)
+sort-yes s k h l = ap (λ (b : Bool). b && eqb (k % firstSet) s) (sym (lt-ltb k firstCollection l)) ∙ is-sort s k h (omega arith)
 
-pub sort-no : (s k : ℕ) → s < 6 → 12 ≤ k → k < 16 → false ≡ ofSort (sortAt s) (kindOf k)
-sort-no s k h l m = ap (λ (b : Bool). b && eqb (k % 6) s) (sym (le-ltb k 12 l)) ∙ is-sort s k h m
+pub sort-no : (s k : ℕ) → s < firstSet → firstCollection ≤ k → k < kindsFit → false ≡ ofSort (sortAt s) (kindOf k)
+sort-no s k h l m = ap (λ (b : Bool). b && eqb (k % firstSet) s) (sym (le-ltb k firstCollection l)) ∙ is-sort s k h m

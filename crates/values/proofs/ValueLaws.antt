@@ -10,7 +10,7 @@ use Rattle.tables.specs.Tables.{Tables}
 use Rattle.syntax.specs.Term.{Term, Choices}
 use Rattle.syntax.specs.code.Arena.{Holds, Tidy}
 use Rattle.rules.specs.Kind.{baseKind, kind}
-use Rattle.rules.specs.code.Numbers.{kindOf}
+use Rattle.rules.specs.code.Numbers.{noKind, kindsFit, kindOf}
 use Rattle.rules.proofs.NodeLaws.{getD-any}
 use Rattle.values.specs.Items.{kindItems}
 use Rattle.values.specs.Values.{callValue, twoValue, itemIn, oneValue, value}
@@ -19,9 +19,9 @@ use Rattle.values.proofs.NodeLaws.{is-base, is-call, is-one, is-others,
 
 module _ {ts ns : List ℕ} {n : ℕ} {ks vs : List ℕ} {T : Tables} {σ : Choices} (d : Tidy ns n) (long : n ≤ length ks) (w : World ts ns n ks vs T σ) where
   -- The kind's number of a node is that of the kind of its term.
-  kind-at : (i : ℕ) → i < n → (a : Term) → Holds ns i a → (getD ks i 0 < 16) × (kindOf (getD ks i 0) ≡ kind a)
+  kind-at : (i : ℕ) → i < n → (a : Term) → Holds ns i a → (getD ks i 0 < kindsFit) × (kindOf (getD ks i 0) ≡ kind a)
   kind-at i l a y =
-      let same : getD ks i 0 ≡ getD ks i 15 = getD-any ks i 0 15 (omega arith) in
+      let same : getD ks i 0 ≡ getD ks i noKind = getD-any ks i 0 noKind (omega arith) in
       rw same (w .kinds .at i l .term a y)
 
   module _ (c : List ℕ) (k : ℕ) (h : k < n) (t : Term) (x : Holds ns k t) where
@@ -36,7 +36,7 @@ module _ {ts ns : List ℕ} {n : ℕ} {ks vs : List ℕ} {T : Tables} {σ : Choi
         f ∙ ap (λ (u : ℕ). getD c u 0) (e ∙ variable-place d (w .variables) (getD ns k 0 / 256 % 4096) a (omega arith) y)
 
     pub value-one : (p i r : ℕ) → getD ns k 0 % 256 ≡ 16 → p ≡ placeIn (getD ns k 0 / 256 % 4096) vs → i ≡ getD c p 0
-        → (getD ks (getD ns k 0 / 256 % 4096) 0 < 16 → r ≡ oneValue T (kindOf (getD ks (getD ns k 0 / 256 % 4096) 0)) i) → r ≡ value T σ c t
+        → (getD ks (getD ns k 0 / 256 % 4096) 0 < kindsFit → r ≡ oneValue T (kindOf (getD ks (getD ns k 0 / 256 % 4096) 0)) i) → r ≡ value T σ c t
     unfolding value
     value-one p i r m e f g =
         let q = is-one ns k t x m in
@@ -46,7 +46,7 @@ module _ {ts ns : List ℕ} {n : ℕ} {ks vs : List ℕ} {T : Tables} {σ : Choi
 
     pub value-call : (a r : ℕ) → 9 ≤ getD ns k 0 % 256 → getD ns k 0 % 256 < 16
         → ((s : Term) → Holds ns (getD ns k 0 / 256 % 4096) s → a ≡ value T σ c s)
-        → (getD ks (getD ns k 0 / 256 % 4096) 0 < 16 → r ≡ callValue T (fnAt (getD ns k 0 % 256)) (kindOf (getD ks (getD ns k 0 / 256 % 4096) 0)) a)
+        → (getD ks (getD ns k 0 / 256 % 4096) 0 < kindsFit → r ≡ callValue T (fnAt (getD ns k 0 % 256)) (kindOf (getD ks (getD ns k 0 / 256 % 4096) 0)) a)
         → r ≡ value T σ c t
     unfolding value
     value-call a r m m′ ih g =

@@ -4,7 +4,7 @@ use Prim.Native.Nat.{ℕ}
 use lib.ListN.{length}
 use Rattle.words.specs.Words.{allOf}
 use Rattle.tables.specs.Tables.{Tables}
-use Rattle.rules.specs.Kind.{Sort, sU, sR, sOP, sOBJ, sP, sS, Kind, element, set, collection}
+use Rattle.rules.specs.Kind.{Sort, sU, sR, sOP, sOBJ, sP, sS, CR, CP, CU, Kind, element, set, collection}
 
 -- All items of a sort: all users, roles, operations, objects, permissions, sessions of the tables.
 unfoldable pub sortItems : Tables → Sort → ℕ
@@ -19,9 +19,6 @@ sortItems T sS = allOf (length (T .sessionUsers))
 unfoldable pub kindItems : Tables → Kind → ℕ
 kindItems T (element s) = sortItems T s
 kindItems T (set s) = sortItems T s
-kindItems T (collection sU) = allOf (length (T .cu))
-kindItems T (collection sR) = allOf (length (T .cr))
-kindItems T (collection sP) = allOf (length (T .cp))
-kindItems T (collection sOP) = 0
-kindItems T (collection sOBJ) = 0
-kindItems T (collection sS) = 0
+kindItems T (collection CU) = allOf (length (T .cu))
+kindItems T (collection CR) = allOf (length (T .cr))
+kindItems T (collection CP) = allOf (length (T .cp))

@@ -11,7 +11,7 @@ use Rattle.functions.specs.Functions.{userOfSessions, userOfRoles, rolesOfUsers
 use Rattle.functions.specs.Functions.{juniorsOfSessions, seniorsOfPermissions, sessionsOfUsers, permissionsOfRoles, permissionsOfJuniors}
 use Rattle.functions.specs.Functions.{objectsOfPermissions, operationsOn}
 use Rattle.syntax.specs.Term.{Fn, user, roles, roles*, sessions, permissions, permissions*, object, Op, operations, meet, join, Term, base, call, oe, ao, two, Term≟, Choices}
-use Rattle.rules.specs.Kind.{Sort, Sort≟, sU, sR, sOP, sOBJ, sP, sS, Kind, element, set, collection, holds, baseKind, kind}
+use Rattle.rules.specs.Kind.{Sort, Sort≟, sU, sR, sOP, sOBJ, sP, sS, CR, CP, CU, Kind, element, set, collection, holds, baseKind, kind}
 use Rattle.values.specs.Items.{kindItems}
 
 -- An element or a set of the sort.
@@ -19,7 +19,7 @@ unfoldable pub ofSort : Sort → Option Kind → Bool
 ofSort s none = false
 ofSort s (some (element r)) = holds (Sort≟ r s)
 ofSort s (some (set r)) = holds (Sort≟ r s)
-ofSort s (some (collection r)) = false
+ofSort s (some (collection c)) = false
 
 -- The first where the test holds, else the second.
 abbrev pub if : Bool → ℕ → ℕ → ℕ
@@ -54,12 +54,9 @@ unfoldable pub oneValue : Tables → Option Kind → ℕ → ℕ
 oneValue T none x = 0
 oneValue T (some (element s)) x = itemOf x
 oneValue T (some (set s)) x = itemOf x
-oneValue T (some (collection sU)) x = getD (T .cu) x 0
-oneValue T (some (collection sR)) x = getD (T .cr) x 0
-oneValue T (some (collection sP)) x = getD (T .cp) x 0
-oneValue T (some (collection sOP)) x = 0
-oneValue T (some (collection sOBJ)) x = 0
-oneValue T (some (collection sS)) x = 0
+oneValue T (some (collection CU)) x = getD (T .cu) x 0
+oneValue T (some (collection CR)) x = getD (T .cr) x 0
+oneValue T (some (collection CP)) x = getD (T .cp) x 0
 
 -- "`U R OP OBJ P S CR CP CU`" are all items of their kind; "`AO(X)` means X without `OE(X)`."
 unfoldable pub value : Tables → Choices → List ℕ → Term → ℕ

@@ -1,27 +1,23 @@
 // The functions of Figure 2 by the number of their operation and the kind of their argument.
 use crate::items;
+use rules::kinds::PERMISSION;
+use rules::kinds::ROLE;
+use rules::kinds::USER;
 ghost use mathlib.Core.Path.{_≡_};
 ghost use Prim.Native.Nat.{_<_, _≤_};
 ghost use lib.ListN.{length};
 ghost use Rattle.tables.specs.Tables.{Tables};
 ghost use Rattle.tables.specs.Flat.{Fits, flat};
 ghost use Rattle.syntax.specs.Term.{user, roles, roles*};
-ghost use Rattle.rules.specs.code.Numbers.{kindOf};
+ghost use Rattle.rules.specs.code.Numbers.{kindsFit, kindOf};
 ghost use Rattle.values.specs.Values.{callValue, twoValue};
 ghost use Rattle.values.specs.code.Nodes.{fnAt, opAt};
 
-// The numbers of the sorts.
-const USERS: u8 = 0;
-
-const ROLES: u8 = 1;
-
-const PERMISSIONS: u8 = 4;
-
 fn user(t: &[u64], kind: u8, w: u64) -> u64
     requires { ⌜ length (now t) ≡ 704 ⌝ }
-    ensures { λ r. ⌜ ((T : Tables) → Fits T → now (t .entry) ≡ flat T → kind < 16 → r ≡ callValue T user (kindOf kind) w) ⌝ }
+    ensures { λ r. ⌜ ((T : Tables) → Fits T → now (t .entry) ≡ flat T → kind < kindsFit → r ≡ callValue T user (kindOf kind) w) ⌝ }
 {
-    if items::is_sort(kind, ROLES) {
+    if items::is_sort(kind, ROLE) {
         functions::user_of_roles(t, w)
     } else {
         functions::user_of_sessions(t, w)
@@ -30,11 +26,11 @@ fn user(t: &[u64], kind: u8, w: u64) -> u64
 
 fn roles(t: &[u64], kind: u8, w: u64) -> u64
     requires { ⌜ length (now t) ≡ 704 ⌝ }
-    ensures { λ r. ⌜ ((T : Tables) → Fits T → now (t .entry) ≡ flat T → kind < 16 → r ≡ callValue T roles (kindOf kind) w) ⌝ }
+    ensures { λ r. ⌜ ((T : Tables) → Fits T → now (t .entry) ≡ flat T → kind < kindsFit → r ≡ callValue T roles (kindOf kind) w) ⌝ }
 {
-    if items::is_sort(kind, USERS) {
+    if items::is_sort(kind, USER) {
         functions::roles_of_users(t, w)
-    } else if items::is_sort(kind, PERMISSIONS) {
+    } else if items::is_sort(kind, PERMISSION) {
         functions::roles_of_permissions(t, w)
     } else {
         functions::roles_of_sessions(t, w)
@@ -44,11 +40,11 @@ fn roles(t: &[u64], kind: u8, w: u64) -> u64
 // `roles*`
 fn ranked(t: &[u64], kind: u8, w: u64) -> u64
     requires { ⌜ length (now t) ≡ 704 ⌝ }
-    ensures { λ r. ⌜ ((T : Tables) → Fits T → now (t .entry) ≡ flat T → kind < 16 → r ≡ callValue T roles* (kindOf kind) w) ⌝ }
+    ensures { λ r. ⌜ ((T : Tables) → Fits T → now (t .entry) ≡ flat T → kind < kindsFit → r ≡ callValue T roles* (kindOf kind) w) ⌝ }
 {
-    if items::is_sort(kind, USERS) {
+    if items::is_sort(kind, USER) {
         functions::juniors_of_users(t, w)
-    } else if items::is_sort(kind, PERMISSIONS) {
+    } else if items::is_sort(kind, PERMISSION) {
         functions::seniors_of_permissions(t, w)
     } else {
         functions::juniors_of_sessions(t, w)
@@ -58,7 +54,7 @@ fn ranked(t: &[u64], kind: u8, w: u64) -> u64
 // The function with the number op, from 9 to 15, of a value of that kind.
 pub fn call(t: &[u64], op: u32, kind: u8, w: u64) -> u64
     requires { ⌜ (length (now t) ≡ 704) × (9 ≤ op) × (op < 16) ⌝ }
-    ensures { λ r. ⌜ ((T : Tables) → Fits T → now (t .entry) ≡ flat T → kind < 16 → r ≡ callValue T (fnAt op) (kindOf kind) w) ⌝ }
+    ensures { λ r. ⌜ ((T : Tables) → Fits T → now (t .entry) ≡ flat T → kind < kindsFit → r ≡ callValue T (fnAt op) (kindOf kind) w) ⌝ }
 {
     if op == 9 {
         return user(t, kind, w);

@@ -5,11 +5,15 @@ ghost use lib.ListN.{length, getD};
 ghost use Rattle.tables.specs.Tables.{Tables};
 ghost use Rattle.tables.specs.Flat.{Fits, flat};
 ghost use Rattle.rules.specs.Kind.{Sort, baseKind};
-ghost use Rattle.rules.specs.code.Numbers.{kindOf};
+ghost use Rattle.rules.specs.code.Numbers.{firstSet, kindsFit, kindOf};
 ghost use Rattle.values.specs.Items.{kindItems};
 ghost use Rattle.values.specs.Values.{ofSort, oneValue};
 ghost use Rattle.values.specs.Truth.{compared};
 ghost use Rattle.values.specs.code.Nodes.{baseAt, cmpAt, sortAt};
+
+use rules::kinds::FIRST_COLLECTION;
+use rules::kinds::FIRST_SET;
+use rules::kinds::NO_KIND;
 
 // Where the tables count users, roles, operations, objects, permissions, sessions, and the words of CR, CP, CU.
 const COUNTS: [usize; 9] = [1, 0, 3, 4, 5, 2, 6, 8, 7];
@@ -29,18 +33,18 @@ pub fn base(t: &[u64], op: usize) -> u64
 // The item x of a set or a collection of that kind.
 pub fn one(t: &[u64], kind: u8, x: usize) -> u64
     requires { ⌜ length (now t) ≡ 704 ⌝ }
-    ensures { λ r. ⌜ ((T : Tables) → Fits T → now (t .entry) ≡ flat T → kind < 16 → r ≡ oneValue T (kindOf kind) x) ⌝ }
+    ensures { λ r. ⌜ ((T : Tables) → Fits T → now (t .entry) ≡ flat T → kind < kindsFit → r ≡ oneValue T (kindOf kind) x) ⌝ }
 {
-    if kind < 12 {
+    if kind < FIRST_COLLECTION {
         return words::item(x);
     }
-    if 14 < kind {
+    if NO_KIND <= kind {
         return 0;
     }
     if 63 < x {
         return 0;
     }
-    let k = (kind - 12) as usize;
+    let k = (kind - FIRST_COLLECTION) as usize;
     let at = COLLECTIONS[k] + x;
     t[at]
 }
@@ -58,10 +62,10 @@ pub fn chosen(choice: &[u8], u: usize) -> usize
 
 // Whether the kind is an element or a set of the sort, 0 to 5 for U, R, OP, OBJ, P, S.
 pub fn is_sort(kind: u8, sort: u8) -> bool
-    requires { ⌜ sort < 6 ⌝ }
-    ensures { λ r. ⌜ (kind < 16 → r ≡ ofSort (sortAt sort) (kindOf kind)) ⌝ }
+    requires { ⌜ sort < firstSet ⌝ }
+    ensures { λ r. ⌜ (kind < kindsFit → r ≡ ofSort (sortAt sort) (kindOf kind)) ⌝ }
 {
-    if kind < 12 { kind % 6 == sort } else { false }
+    if kind < FIRST_COLLECTION { kind % FIRST_SET == sort } else { false }
 }
 
 // `<` `<=` `>` `>=` `=` `!=` by number.

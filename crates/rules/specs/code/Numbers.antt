@@ -10,15 +10,38 @@ use lib.ListN.{getD}
 use Rattle.syntax.specs.Term.{Term, user, roles, roles*, sessions, permissions, permissions*, object}
 use Rattle.syntax.specs.Rule.{Test, Clause, Rule}
 use Rattle.syntax.specs.code.Arena.{Holds, HoldsTest, HoldsClause, HoldsRule}
-use Rattle.rules.specs.Kind.{Kind, element, set, collection, sU, sR, sOP, sOBJ, sP, sS, callKind, oneKind, othersKind}
+use Rattle.rules.specs.Kind.{sU, sR, sOP, sOBJ, sP, sS, CR, CP, CU, Kind, element, set, collection, callKind, oneKind, othersKind}
 use Rattle.rules.specs.Kind.{kind, testKinds, clauseKinds, ruleKinds}
 
 -- 0 to 5 are elements of U, R, OP, OBJ, P, S; 6 to 11 sets of them; 12 to 14 are CR, CP, CU. Any other number is no kind.
+abbrev pub firstSet : ℕ
+firstSet = 6
+
+abbrev pub firstCollection : ℕ
+firstCollection = 12
+
+abbrev pub noKind : ℕ
+noKind = 15
+
+-- The number of a test, a clause or a rule whose kinds fit.
+abbrev pub kindsFit : ℕ
+kindsFit = 16
+
+-- Those of kinds that an operation names.
+abbrev pub objectKind : ℕ
+objectKind = 3
+
+abbrev pub rolesKind : ℕ
+rolesKind = 7
+
+abbrev pub operationsKind : ℕ
+operationsKind = 8
+
 unfoldable pub kindList : List (Option Kind)
 kindList =
     some (element sU) ∷ some (element sR) ∷ some (element sOP) ∷ some (element sOBJ) ∷ some (element sP) ∷ some (element sS)
     ∷ some (set sU) ∷ some (set sR) ∷ some (set sOP) ∷ some (set sOBJ) ∷ some (set sP) ∷ some (set sS)
-    ∷ some (collection sR) ∷ some (collection sP) ∷ some (collection sU) ∷ []
+    ∷ some (collection CR) ∷ some (collection CP) ∷ some (collection CU) ∷ []
 
 unfoldable pub kindOf : ℕ → Option Kind
 kindOf x = getD kindList x none
@@ -41,46 +64,46 @@ oneTable =
     ∷ 15 ∷ 15 ∷ 15 ∷ 15 ∷ 15 ∷ 15 ∷ 0 ∷ 1 ∷ 2 ∷ 3 ∷ 4 ∷ 5 ∷ 7 ∷ 10 ∷ 6
     ∷ 15 ∷ 15 ∷ 15 ∷ 15 ∷ 15 ∷ 15 ∷ 6 ∷ 7 ∷ 8 ∷ 9 ∷ 10 ∷ 11 ∷ 12 ∷ 13 ∷ 14 ∷ []
 
--- The kind's number of an operation's term, by those of its arguments; of a test, a clause, a rule 16 where the kinds fit.
+-- The kind's number of an operation's term, by those of its arguments; of a test, a clause, a rule `kindsFit` where they fit.
 unfoldable pub oneNumber : ℕ → ℕ → ℕ
-oneNumber o a = cond (ltb a 15) (getD oneTable (15 * (o - 9) + a) 0) 15
+oneNumber o a = cond (ltb a noKind) (getD oneTable (15 * (o - 9) + a) 0) noKind
 
 -- An element counts as the set of itself.
 unfoldable pub setNumber : ℕ → ℕ
-setNumber a = cond (ltb a 6) (a + 6) a
+setNumber a = cond (ltb a firstSet) (a + firstSet) a
 
 unfoldable pub twoNumber : ℕ → ℕ → ℕ → ℕ
 twoNumber o a b =
     cond (eqb o 18)
-    (cond (eqb (setNumber a) 7) (cond (eqb b 3) 8 15) 15)
-    (cond (eqb (setNumber a) (setNumber b)) (setNumber a) 15)
+    (cond (eqb (setNumber a) rolesKind) (cond (eqb b objectKind) operationsKind noKind) noKind)
+    (cond (eqb (setNumber a) (setNumber b)) (setNumber a) noKind)
 
 unfoldable pub countableNumber : ℕ → Bool
-countableNumber a = cond (ltb a 6) false (ltb a 15)
+countableNumber a = cond (ltb a firstSet) false (ltb a noKind)
 
 unfoldable pub fitsNumber : ℕ → ℕ → ℕ → Bool
 fitsNumber o a b =
     cond (ltb o 22)
-    (cond (ltb a 6) (eqb b (a + 6)) false)
+    (cond (ltb a firstSet) (eqb b (a + firstSet)) false)
     (cond (ltb o 24)
-    (cond (ltb a 15) (eqb a b) false)
+    (cond (ltb a noKind) (eqb a b) false)
     (cond (ltb o 32)
     (countableNumber a)
     (cond (ltb o 38)
     (cond (countableNumber a) (countableNumber b) false)
-    (cond (eqb a 16) (eqb b 16) false))))
+    (cond (eqb a kindsFit) (eqb b kindsFit) false))))
 
 unfoldable pub nodeNumber : ℕ → ℕ → ℕ → ℕ
 nodeNumber o a b =
-    cond (ltb o 9) (o + 6) (cond (ltb o 18) (oneNumber o a) (cond (ltb o 21) (twoNumber o a b) (cond (fitsNumber o a b) 16 15)))
+    cond (ltb o 9) (o + firstSet) (cond (ltb o 18) (oneNumber o a) (cond (ltb o 21) (twoNumber o a b) (cond (fitsNumber o a b) kindsFit noKind)))
 
 -- x is the number of what node k holds.
 pub record KindAt (ns : List ℕ) (k x : ℕ) : Type 0 where
-  pub term : (t : Term) → Holds ns k t → (x < 16) × (kindOf x ≡ kind t)
-  pub test : (p : Test) → HoldsTest ns k p → eqb x 16 ≡ testKinds p
-  pub clause : (c : Clause) → HoldsClause ns k c → eqb x 16 ≡ clauseKinds c
-  pub rule : (ρ : Rule) → HoldsRule ns k ρ → eqb x 16 ≡ ruleKinds ρ
+  pub term : (t : Term) → Holds ns k t → (x < kindsFit) × (kindOf x ≡ kind t)
+  pub test : (p : Test) → HoldsTest ns k p → eqb x kindsFit ≡ testKinds p
+  pub clause : (c : Clause) → HoldsClause ns k c → eqb x kindsFit ≡ clauseKinds c
+  pub rule : (ρ : Rule) → HoldsRule ns k ρ → eqb x kindsFit ≡ ruleKinds ρ
 
 -- The list ks has the number of each node below n.
 pub record Kinded (ns : List ℕ) (n : ℕ) (ks : List ℕ) : Type 0 where
-  pub at : (k : ℕ) → k < n → KindAt ns k (getD ks k 15)
+  pub at : (k : ℕ) → k < n → KindAt ns k (getD ks k noKind)

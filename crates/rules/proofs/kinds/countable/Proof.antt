@@ -1,17 +1,17 @@
--- `rules::kinds::countable`: sets and collections have the numbers 6 to 14.
+-- `rules::kinds::countable`: sets and collections have the numbers between.
 -- Assumes nothing.
 use borrow.Author.Tests.{lt-ltb, le-ltb}
-use Rattle.rules.specs.code.Numbers.{countableNumber}
+use Rattle.rules.specs.code.Numbers.{firstSet, countableNumber}
 use Rattle.rules.proofs.kinds.countable.Statement.{statement}
 use Rattle.rules.proofs.kinds.countable.Tie as tie
 
 returns : tie.Need-returns
 unfolding countableNumber
-returns c = rw (lt-ltb (c .before .args .a) 6 (c .if1 .taken))
+returns c = rw (lt-ltb (c .before .args .a) firstSet (c .if1 .taken))
 
 returns-2 : tie.Need-returns-2
 unfolding countableNumber
-returns-2 c = rw (le-ltb (c .before .args .a) 6 (c .if1 .left))
+returns-2 c = rw (le-ltb (c .before .args .a) firstSet (c .if1 .left))
 
 pub countable-spec : {M : Type 1} → statement M
 countable-spec = tie.close (tie.spec returns returns-2)

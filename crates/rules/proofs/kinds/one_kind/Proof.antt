@@ -1,7 +1,7 @@
 -- `rules::kinds::one_kind` reads the table of the calls of one argument.
 -- Assumes nothing.
 use borrow.Author.Tests.{lt-ltb, le-ltb}
-use Rattle.rules.specs.code.Numbers.{oneNumber, oneTable}
+use Rattle.rules.specs.code.Numbers.{noKind, oneNumber, oneTable}
 use borrow.Author.Needs.{needs}
 use Rattle.rules.proofs.kinds.one_kind.Statement.{statement}
 use Rattle.rules.proofs.kinds.one_kind.Tie as tie
@@ -20,11 +20,11 @@ array-read-result c = search needs
 
 returns : tie.Need-returns
 unfolding oneNumber oneTable
-returns c = rw (lt-ltb (c .before .args .a) 15 (c .if1 .taken))
+returns c = rw (lt-ltb (c .before .args .a) noKind (c .if1 .taken))
 
 returns-2 : tie.Need-returns-2
 unfolding oneNumber
-returns-2 c = rw (le-ltb (c .before .args .a) 15 (c .if1 .left))
+returns-2 c = rw (le-ltb (c .before .args .a) noKind (c .if1 .left))
 
 pub one-kind-spec : {M : Type 1} → statement M
 one-kind-spec =

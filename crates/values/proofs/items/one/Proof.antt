@@ -1,4 +1,4 @@
--- `values::items::one` meets its contract: below 12 are elements and sets, 12 to 14 the collections.
+-- `values::items::one` meets its contract: elements and sets first, then the collections.
 -- Assumes nothing.
 use mathlib.Core.Path.{ap, _∙_}
 use mathlib.Core.List.{List}
@@ -9,6 +9,7 @@ use Prim.Native.Nat.{_+_}
 use Rattle.values.proofs.ItemLaws.{collectionPlaces, collection-place, one-item, one-none, one-word, one-far}
 use borrow.Author.Needs.{needs}
 use Rattle.values.proofs.items.one.Statement.{statement}
+use Rattle.rules.specs.code.Numbers.{firstCollection}
 use Rattle.values.proofs.items.one.Tie as tie
 
 item-requires : tie.Need-item-requires
@@ -33,17 +34,17 @@ array-read-at : tie.Need-array-read-at
 array-read-at c = search needs
 
 add-at : tie.Need-add-at
-add-at c = let low = collection-place (c .before .before .before .before .args .kind - 12) (omega arith) in search needs
+add-at c = let low = collection-place (c .before .before .before .before .args .kind - firstCollection) (omega arith) in search needs
 
 mul-result : tie.Need-mul-result
-mul-result c = let low = collection-place (c .before .before .before .before .args .kind - 12) (omega arith) in search needs
+mul-result c = let low = collection-place (c .before .before .before .before .args .kind - firstCollection) (omega arith) in search needs
 
 shared-slice-read-result : tie.Need-shared-slice-read-result
-shared-slice-read-result c = let low = collection-place (c .before .before .before .before .before .args .kind - 12) (omega arith) in omega (arith, c .before .before .before .before .before .pre)
+shared-slice-read-result c = let low = collection-place (c .before .before .before .before .before .args .kind - firstCollection) (omega arith) in omega (arith, c .before .before .before .before .before .pre)
 
 returns-4 : tie.Need-returns-4
 returns-4 c = λ T f e l.
-    ap (λ (ts : List ℕ). getD ts (getD collectionPlaces (c .before .before .before .before .before .args .kind - 12) 0 + c .before .before .before .before .before .args .x) 0) e
+    ap (λ (ts : List ℕ). getD ts (getD collectionPlaces (c .before .before .before .before .before .args .kind - firstCollection) 0 + c .before .before .before .before .before .args .x) 0) e
     ∙ one-word T (c .before .before .before .before .before .args .x) (c .before .before .before .before .before .args .kind) (c .before .before .before .if1 .left) (c .before .before .if2 .left) (c .before .if3 .left)
 
 pub one-spec : {M : Type 1} → statement M
