@@ -1,18 +1,17 @@
 -- Answers of calls that write: how they are made, and what they say of the answer and of the bytes.
 -- Assumes nothing.
-use mathlib.Core.Path.{_≡_, refl, ap, _∙_}
+use mathlib.Core.Path.{_≡_, refl, ap}
 use mathlib.Core.Bool.{Bool, true, false}
 use Prim.Native.Nat.{ℕ, _≤_}
 use native.Mathlib.Omega.{arith}
 use lib.Dec.{leb}
 use lib.ListN.{length, take, length-append}
-use lib.Seq.{take-all, take-append-seam}
+use lib.Seq.{take-append-seam}
 use borrow.Author.Tests.{le-leb}
 use Rattle.answers.specs.Answer.{Answer, refused, wrote, ifRoom, lent, outputAfter}
 use Rattle.answers.specs.declared.Refusal.{Refusal}
 use Rattle.syntax.specs.Bytes.{Bytes, same}
 use Rattle.syntax.proofs.BytesLaws.{same-own}
-use Rattle.printer.specs.code.Printed.{Puts}
 use Rattle.answers.specs.declared.Written.{Written}
 use Rattle.answers.specs.declared.Written.the-variants.{Refused, Wrote}
 use Rattle.answers.specs.Written.{Answers}
@@ -21,14 +20,6 @@ use Rattle.answers.proofs.AnswerLaws.{writtenOf, answered-case, kept-refused}
 -- A refusal leaves the output as it is.
 pub answers-refusal : {r : Refusal} (a : Answer) (n : ℕ) (old : Bytes) → a ≡ refused r → Answers (lent n a) old old (Refused r)
 answers-refusal {r} a n old e = rw e (kept-refused n old r)
-
--- The text is written where it fits.
-
-pub hands-wrote : {w old new : Bytes} {r : ℕ} → length w ≤ length old → Puts w old new r → Answers (lent (length old) (wrote w)) old new (Wrote r)
-unfolding lent outputAfter
-hands-wrote {w} {old} {new} {r} h p =
-    rw (le-leb (length w) (length old) h)
-    (record { number = refl; size = omega (arith, p .count); output = p .bytes ∙ rw (take-all (length old) w h) })
 
 -- What was returned says what the answer is.
 

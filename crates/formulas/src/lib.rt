@@ -2,7 +2,7 @@
 // Nothing is written to the output before all of the answer is known.
 ghost use mathlib.Core.Path.{_≡_};
 ghost use lib.ListN.{length};
-ghost use Rattle.answers.specs.Answer.{wrote, lent};
+ghost use Rattle.answers.specs.Answer.{lent};
 ghost use Rattle.syntax.specs.Bytes.{same};
 ghost use Rattle.formulas.specs.Formulas.{reduced, RebuildAnswers};
 ghost use Rattle.answers.specs.Written.{Answers};
@@ -10,19 +10,8 @@ use answers::Refusal;
 use answers::Written;
 use printer::rules::write_formula;
 use printer::rules::write_rule;
-use printer::sheet::put;
 use rules::Checked;
 use syntax::Whole;
-
-// The text to the front of the output, or 17.
-fn hand(text: &[u8], out: &mut [u8]) -> Written
-    ensures { λ r. ⌜ Answers (lent (length (now (out .entry))) (wrote (now (text .entry)))) (now (out .entry)) (now (out .exit)) r ⌝ }
-{
-    if out.len() < text.len() {
-        return Written::Refused(Refusal::ShortSheet);
-    }
-    Written::Wrote(put(out, text))
-}
 
 // Whether two texts are equal byte for byte.
 fn alike(a: &[u8], b: &[u8]) -> bool
@@ -56,7 +45,7 @@ pub fn reduce(rule: &[u8], out: &mut [u8]) -> Written
     let mut sheet = [0u8; 4096];
     let l = write_formula(&nodes, parsed.root, &vars[..count], &mut sheet);
     let text = &sheet[..l];
-    hand(text, out)
+    answers::lend(text, out)
 }
 
 // Formula to rule: 16, then 17. The candidate is the tree's own text, kept where its formula is the input byte for byte.
@@ -80,5 +69,5 @@ pub fn rebuild(formula: &[u8], out: &mut [u8]) -> Written
     if !alike(&sheet[..m], formula) {
         return Written::Refused(Refusal::NoRulesFormula);
     }
-    hand(&text[..l], out)
+    answers::lend(&text[..l], out)
 }

@@ -1,18 +1,13 @@
 -- From parsed rules and loaded tables to what judging answers.
 -- Assumes nothing.
 use mathlib.Core.Path.{_≡_, refl, sym, ap, _∙_}
-use mathlib.Core.Bool.{true}
-use mathlib.Core.List.{List, [], _∷_, _++_}
+use mathlib.Core.List.{List, [], _∷_}
 use mathlib.Core.Option.{Option, none, some}
-use Prim.Native.Nat.{ℕ, _<_, _≤_}
+use Prim.Native.Nat.{ℕ}
 use native.Mathlib.Omega.{arith}
-use lib.Dec.{leb}
-use lib.ListN.{length, take, drop, length-append}
+use lib.ListN.{length, take, length-append}
 use lib.Seq.{length-take-le}
-use borrow.Author.Tests.{le-leb}
-use Rattle.answers.specs.Answer.{lent, outputAfter}
 use Rattle.answers.specs.declared.Refusal.{Refusal}
-use Rattle.answers.specs.declared.Refusal.the-variants.{ShortSheet}
 use Rattle.tables.specs.Tables.{Tables}
 use Rattle.tables.specs.Bytes.{lowestFirst}
 use Rattle.tables.specs.Flat.{flat}
@@ -31,12 +26,9 @@ use Rattle.rules.specs.code.Parsed.{checkedOf, RuleAt}
 use Rattle.values.proofs.BoundLaws.{accepted-within}
 use Rattle.verdicts.specs.declared.Outcome.{Outcome}
 use Rattle.verdicts.specs.declared.Verdict.{Verdict}
-use Rattle.answers.specs.declared.Written.the-variants.{Refused as WasRefused, Wrote}
 use Rattle.verdicts.specs.Verdict.{refusedBy, orderVerdict, treeVerdict, acceptedVerdict, tablesVerdict, verdictOf, written}
 use Rattle.verdicts.specs.Verdict.{Gives, answerBy, judged}
 use Rattle.verdicts.specs.code.Judging.{Case, Lent, Loaded}
-use Rattle.answers.proofs.AnswerLaws.{kept-short}
-use Rattle.verdicts.specs.code.Writing.{Puts}
 use Rattle.verdicts.proofs.OutcomeLaws.{gives-same}
 
 -- What the check of a rule said.
@@ -110,21 +102,10 @@ pub took-verdict : (b s order : Bytes) (q : Took b) (r : Verdict) → r ≡ acce
 unfolding verdictOf tablesVerdict
 took-verdict b s order q r e = rw (q .is) e
 
--- Lent bytes that are too few are kept; enough of them have the verdict in front.
+-- A verdict has 26 bytes.
 pub length-written : (word : ℕ) (v : Verdict) → length (v .first) ≡ 8 → length (written word v) ≡ 26
 unfolding written lowestFirst
 length-written word v e = rw (length-append (v .first) (v .share ∷ []), e)
-
-pub put-short : (old : List ℕ) (word : ℕ) (v : Verdict) → length (v .first) ≡ 8 → length old < 26 → Puts old old word v (WasRefused ShortSheet)
-put-short old word v e l = kept-short (written word v) old (omega (arith, length-written word v e))
-
-pub put-whole : (old new : List ℕ) (word : ℕ) (v : Verdict) → length (v .first) ≡ 8 → 26 ≤ length old → new ≡ written word v ++ drop 26 old
-    → Puts old new word v (Wrote 26)
-unfolding lent outputAfter
-put-whole old new word v e l h =
-    let long : length (written word v) ≡ 26 = length-written word v e in
-    let yes′ : leb (length (written word v)) (length old) ≡ true = le-leb (length (written word v)) (length old) (omega arith) in
-    rw yes′ (record { number = refl; size = sym long; output = h ∙ ap (λ (k : ℕ). written word v ++ drop k old) (sym long) })
 
 -- What judging answers, by the verdict's word.
 pub judged-by : (b s order : Bytes) (v : Verdict) (o : Outcome) → Gives (verdictOf b s order) v → v .outcome ≡ o → answerBy o v ≡ judged b s order

@@ -1,7 +1,7 @@
 -- What verdicts report, for accepted tables, every accepted rule and every admissible order: of the fields, and of the 26 bytes.
 -- Assumes nothing.
 use mathlib.Core.Path.{_≡_, refl, sym, ap, ap₂, _∙_}
-use mathlib.Core.Bool.{Bool, true, false, true≢false}
+use mathlib.Core.Bool.{true≢false}
 use mathlib.Core.List.{List, [], _∷_, _++_, append-assoc}
 use mathlib.Core.Option.{Option, none, some}
 use Prim.Native.Nat.{ℕ, zero, suc, _<_}
@@ -9,7 +9,7 @@ use native.Mathlib.Omega.{arith}
 use lib.Dec.{ltb}
 use lib.ListN.{length, getD, take, drop, length-append}
 use lib.Seq.{take-at, drop-at, getD-append-seam}
-use borrow.Author.Tests.{lt-ltb, le-ltb}
+use borrow.Author.Tests.{lt-ltb}
 use Rattle.answers.specs.Answer.{wrote, numberOrZero}
 use Rattle.tables.specs.Tables.{Tables}
 use Rattle.tables.specs.Bytes.{lowestFirst}
@@ -26,7 +26,6 @@ use Rattle.walks.specs.Meaning.{there}
 use Rattle.walks.specs.Share.{shareOf}
 use Rattle.walks.proofs.ShareLaws.{is-share, one-share}
 use Rattle.walks.proofs.FirstLaws.{first-one}
-use Rattle.verdicts.specs.declared.Verdict.{Verdict}
 use Rattle.verdicts.specs.Verdict.{wordNumber, outcomeOf, fullCount, breakingCount, firstBreaking, verdictAlong, verdictOf, written}
 use Rattle.verdicts.specs.Verdict.{verdictBytes, judged}
 use Rattle.verdicts.specs.Report.{OrderOf, FirstOf, Reports, ReportsBy, ReportsIn, Told, Admitted}

@@ -1,6 +1,6 @@
 -- What a verdict's numbers mean: the walk's counts are the order-free counts along every order; the first breaking choice is the
 -- least one; breaking is at most full, and both fit their words. Assumes nothing.
-use mathlib.Core.Path.{_≡_, refl, ap, subst, _∙_}
+use mathlib.Core.Path.{_≡_, ap, subst, _∙_}
 use mathlib.Core.Bool.{true}
 use mathlib.Core.List.{List, []}
 use mathlib.Core.Option.{some}

@@ -77,11 +77,9 @@ pub fn decide(tables: &[u8], rule: &[u8], order: &[u8]) -> Verdict
 fn put(out: &mut [u8], word: u8, verdict: Verdict) -> Written
     ensures { λ r. ⌜ Puts (now (out .entry)) (now (out .exit)) word verdict r ⌝ }
 {
-    if out.len() < 26 {
-        return Written::Refused(Refusal::ShortSheet);
-    }
-    sheet::write(out, word, verdict);
-    Written::Wrote(26)
+    let mut sheet = [0u8; 26];
+    sheet::write(&mut sheet, word, verdict);
+    answers::lend(&sheet, out)
 }
 
 // Judges the rule and writes the verdict to the lent output. 17 follows 18, and a refusal writes nothing.

@@ -84,17 +84,17 @@ returns-4 c =
 array-share-prefix-text-2 : tie.Need-array-share-prefix-text-2
 array-share-prefix-text-2 c = search needs
 
-slice-aggregate-hand : tie.Need-slice-aggregate-hand
-slice-aggregate-hand c = sym (length-take-le _ _ (search needs))
+slice-aggregate-lend : tie.Need-slice-aggregate-lend
+slice-aggregate-lend c = sym (length-take-le _ _ (search needs))
 
-hand-requires : tie.Need-hand-requires
-hand-requires c κs = search needs
+lend-requires : tie.Need-lend-requires
+lend-requires c κs = search needs
 
 same-length : tie.Need-same-length
 same-length c = search needs
 
 returns-5 : tie.Need-returns-5
-returns-5 c = rebuild-gives (rebuild-same _ (c .before .before .before .before .before .before .before .before .before .before .before .before .reduce .ensures) (c .before .before .before .before .before .before .before .before .before .m .given .1) (sym (c .before .before .before .before .before .before .alike .ensures) ∙ not-false _ (c .before .before .before .before .before .if2 .left))) (c .before .before .hand .ensures)
+returns-5 c = rebuild-gives (rebuild-same _ (c .before .before .before .before .before .before .before .before .before .before .before .before .reduce .ensures) (c .before .before .before .before .before .before .before .before .before .m .given .1) (sym (c .before .before .before .before .before .before .alike .ensures) ∙ not-false _ (c .before .before .before .before .before .if2 .left))) (c .before .before .lend .ensures)
 
 pub rebuild-spec : {M : Type 1} → statement M
 rebuild-spec =
@@ -123,7 +123,7 @@ rebuild-spec =
     alike-requires
     returns-4
     array-share-prefix-text-2
-    slice-aggregate-hand
-    hand-requires
+    slice-aggregate-lend
+    lend-requires
     same-length
     returns-5)

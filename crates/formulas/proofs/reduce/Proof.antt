@@ -40,14 +40,14 @@ array-share-prefix-sheet c = search needs
 slice-aggregate-text : tie.Need-slice-aggregate-text
 slice-aggregate-text c = sym (length-take-le _ _ (search needs))
 
-hand-requires : tie.Need-hand-requires
-hand-requires c κs = search needs
+lend-requires : tie.Need-lend-requires
+lend-requires c κs = search needs
 
 same-length : tie.Need-same-length
 same-length c = search needs
 
 returns-2 : tie.Need-returns-2
-returns-2 c = answers-as _ (reduce-made (c .before .before .before .before .before .before .before .before .before .before .before .before .before .before .parse .ensures) (c .before .before .before .before .before .before .before .before .before .before .before .before .enum-told .given .1) (search needs) (c .before .before .before .before .before .before .write-formula .ensures)) (c .before .before .hand .ensures)
+returns-2 c = answers-as _ (reduce-made (c .before .before .before .before .before .before .before .before .before .before .before .before .before .before .parse .ensures) (c .before .before .before .before .before .before .before .before .before .before .before .before .enum-told .given .1) (search needs) (c .before .before .before .before .before .before .write-formula .ensures)) (c .before .before .lend .ensures)
 
 pub reduce-spec : {M : Type 1} → statement M
 reduce-spec =
@@ -64,6 +64,6 @@ reduce-spec =
     write-formula-requires
     array-share-prefix-sheet
     slice-aggregate-text
-    hand-requires
+    lend-requires
     same-length
     returns-2)
