@@ -3,13 +3,13 @@
 use mathlib.Core.Path.{_≡_, refl, ap, sym, _∙_}
 use mathlib.Core.List.{List, [], _∷_, _++_}
 use mathlib.Core.Bool.{Bool, true, false}
-use Prim.Native.Nat.{ℕ, _*_, _≤_, _<_}
+use Prim.Native.Nat.{ℕ, _≤_, _<_}
 use native.Mathlib.Omega.{arith}
 use lib.Dec.{leb}
 use lib.ListN.{length, getD, drop, length-append}
 use borrow.Author.Tests.{le-leb, lt-leb}
 use Rattle.answers.specs.Refusal.{numberOf}
-use Rattle.answers.specs.Answer.{Answer, refused, wrote, numberOrZero, answerNumber, answerLength, ifRoom, lent, outputAfter}
+use Rattle.answers.specs.Answer.{Answer, refused, wrote, answerNumber, answerLength, ifRoom, lent, outputAfter}
 use Rattle.answers.specs.Written.{numberIn, lengthIn, Answers}
 use Rattle.answers.specs.declared.Refusal.{Refusal}
 use Rattle.answers.specs.declared.Refusal.the-variants.{CutShort, Overfull, NotEntered, BadMark, NoSuchItem, Miscounted}

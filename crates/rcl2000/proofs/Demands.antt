@@ -1,8 +1,7 @@
 -- The three demands, sentence by sentence, of what the tracker sees of `reduce`, `rebuild` and `judge`: the number r that a call returns and the
 -- lent bytes, old before it and new after it. The calls' contracts say `Reduces`, `GivesBack` and `Judges` of them. Assumes nothing.
-use mathlib.Core.Path.{_≡_, refl, ap, sym, _∙_}
+use mathlib.Core.Path.{_≡_, ap, _∙_}
 use mathlib.Core.List.{[]}
-use mathlib.Core.Option.{none, some}
 use mathlib.Core.Bool.{true}
 use mathlib.Core.Logic.{_↔_}
 use Prim.Native.Nat.{ℕ, _*_, _≤_, _<_}
@@ -14,8 +13,8 @@ use Rattle.answers.specs.declared.Refusal.the-variants.{NoRulesFormula}
 use Rattle.tables.specs.Tables.{Tables}
 use Rattle.tables.specs.Reading.{taken, tablesOf}
 use Rattle.syntax.specs.Bytes.{Bytes}
-use Rattle.syntax.specs.Rule.{Rule, ruleText, formula, ruleOf}
-use Rattle.verdicts.specs.Report.{OrderOf, ReportsIn, Admitted}
+use Rattle.syntax.specs.Rule.{Rule, ruleText, formula}
+use Rattle.verdicts.specs.Report.{OrderOf, Admitted}
 use Rattle.rcl2000.specs.Calls.{Reduces, GivesBack, Judges, Refuses, Writes, Ends, ReduceRefuses, RebuildRefuses, JudgeRefuses, noRule, LongEnough, Reported}
 use Rattle.answers.specs.Answer.{wrote, lent}
 use Rattle.answers.proofs.AnswerLaws.{lent-fits, lent-wrote}

@@ -1,11 +1,10 @@
 -- Document 01, "Proved examples": "These stand as one table, proved with one lemma." The table is in specs/Examples.
 -- Assumes nothing.
-use mathlib.Core.Path.{_≡_, refl, ap, sym, _∙_}
+use mathlib.Core.Path.{_≡_, refl, ap, _∙_}
 use mathlib.Core.Bool.{Bool, true, false, _&&_}
 use mathlib.Core.List.{List, [], _∷_}
 use mathlib.Core.Option.{Option, none, some}
-use Prim.Native.Nat.{ℕ, _≤_}
-use native.Mathlib.Omega.{arith}
+use Prim.Native.Nat.{_≤_}
 use lib.Dec.{eqb}
 use lib.ListN.{length}
 use borrow.Author.Tests.{eqb-true}
@@ -33,7 +32,7 @@ use Rattle.rules.specs.Kind.{oneOf, baseKind, takes, makes, ofElement, callKind
 use Rattle.rules.specs.Kind.{countable, isMember, countKinds, testKinds, clauseKinds, ruleKinds}
 use Rattle.rules.specs.Accept.{deep, treeRefusal, refusal, accepted}
 use Rattle.rules.proofs.AcceptLaws.{tree-few, accepted-rule}
-use Rattle.formulas.specs.Formulas.{formulaOf, reduced, Rebuilds}
+use Rattle.formulas.specs.Formulas.{formulaOf, reduced}
 use Rattle.formulas.specs.code.Rebuilding.{kept, rebuilt, rebuiltAnswer}
 use Rattle.formulas.proofs.RebuildLaws.{none-true, rebuilt-answer}
 use Rattle.walks.specs.Choices.{nothingChosen, each, ifBreaks, sumTo}

@@ -1,12 +1,12 @@
 -- What `judge` answers where n bytes are lent: exactly where it refuses, and what it writes.
 -- Assumes nothing.
-use mathlib.Core.Path.{_≡_, refl, ap, sym, _∙_}
+use mathlib.Core.Path.{_≡_, ap, sym, _∙_}
 use mathlib.Core.List.{_++_}
 use mathlib.Core.Option.{some}
 use mathlib.Core.Logic.{_↔_}
-use Prim.Native.Nat.{ℕ, _≤_, _<_}
+use Prim.Native.Nat.{ℕ, _≤_}
 use native.Mathlib.Omega.{arith}
-use lib.ListN.{length, take, drop, take-append-drop}
+use lib.ListN.{length, drop, take-append-drop}
 use Rattle.answers.specs.Answer.{refused, wrote, lent}
 use Rattle.answers.specs.declared.Refusal.{Refusal}
 use Rattle.answers.specs.declared.Refusal.the-variants.{Disordered}
@@ -16,10 +16,10 @@ use Rattle.tables.specs.Reading.{turned}
 use Rattle.syntax.specs.Bytes.{Bytes}
 use Rattle.syntax.specs.Rule.{Rule}
 use Rattle.verdicts.specs.Verdict.{judged}
-use Rattle.verdicts.specs.Report.{ReportsIn, Admitted, Met, badTables, badRule, badOrder, good}
+use Rattle.verdicts.specs.Report.{Admitted, Met, badTables, badRule, badOrder, good}
 use Rattle.verdicts.proofs.JudgedLaws.{tables-turned, rule-turned, order-turned, judged-turned, met, written-length}
 use Rattle.verdicts.proofs.ReportLaws.{judged-reports}
-use Rattle.rcl2000.specs.Calls.{Judges, Writes, Reported, JudgeRefuses, tablesRefused, judgedRefused, orderRefused, verdictLonger}
+use Rattle.rcl2000.specs.Calls.{Judges, Reported, JudgeRefuses, tablesRefused, judgedRefused, orderRefused, verdictLonger}
 use Rattle.rcl2000.proofs.CallLaws.{Short, lent-room, sees-wrote}
 use Rattle.rcl2000.proofs.FormulaLaws.{short-lent, same-lent}
 

@@ -232,7 +232,11 @@ fn fits(op: usize, a: u8, b: u8) -> bool
     ensures { λ r. ⌜ r ≡ fitsNumber op a b ⌝ }
 {
     if op < 22 {
-        return if a < FIRST_SET { b == a + FIRST_SET } else { false };
+        return if a < FIRST_SET {
+            b == a + FIRST_SET
+        } else {
+            false
+        };
     }
     if op < 24 {
         return if a < NO_KIND { a == b } else { false };
@@ -243,7 +247,11 @@ fn fits(op: usize, a: u8, b: u8) -> bool
     if op < 38 {
         return if countable(a) { countable(b) } else { false };
     }
-    if a == KINDS_FIT { b == KINDS_FIT } else { false }
+    if a == KINDS_FIT {
+        b == KINDS_FIT
+    } else {
+        false
+    }
 }
 
 // The kind of a node by its operation and the kinds at its left and right.

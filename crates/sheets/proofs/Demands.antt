@@ -1,23 +1,23 @@
 -- The demands, of what the caller of `sheets::line` sees.
 -- Assumes nothing.
-use mathlib.Core.Path.{_≡_, refl, ap, sym, _∙_}
+use mathlib.Core.Path.{_≡_, refl, ap, _∙_}
 use mathlib.Core.List.{List, [], _++_}
 use mathlib.Core.Option.{Option, none, some}
 use mathlib.Core.Bool.{Bool, true, false}
 use mathlib.Core.Logic.{_⊎_, inl, inr}
-use Prim.Native.Nat.{ℕ, suc, _-_, _≤_, _<_}
+use Prim.Native.Nat.{ℕ, suc, _-_, _≤_}
 use native.Mathlib.Omega.{arith}
 use lib.Dec.{leb}
 use lib.ListN.{length, take, drop, getElem?}
 use lib.Seq.{take-at, drop-at}
 use borrow.Author.Tests.{le-leb, leb-false}
 use Rattle.answers.specs.Refusal.{numberOf}
-use Rattle.answers.specs.Answer.{Answer, wrote, refused, ifRoom, lent, outputAfter, answerNumber, answerLength}
-use Rattle.answers.specs.Written.{numberIn, lengthIn, Answers}
+use Rattle.answers.specs.Answer.{refused, ifRoom, lent, outputAfter, answerNumber, answerLength}
+use Rattle.answers.specs.Written.{numberIn, lengthIn}
 use Rattle.answers.specs.declared.Written.{Written}
 use Rattle.answers.specs.declared.Refusal.{Refusal}
 use Rattle.syntax.specs.Bytes.{Bytes, ascii}
-use Rattle.syntax.specs.Rule.{Rule, ruleText, ruleVars, ruleOf}
+use Rattle.syntax.specs.Rule.{Rule, ruleText, ruleVars}
 use Rattle.syntax.proofs.RuleLaws.{rule-text}
 use Rattle.rules.specs.Accept.{refusal, isNone, accepted}
 use Rattle.rules.proofs.AcceptLaws.{accepted-rule}
@@ -29,7 +29,7 @@ use Rattle.walks.specs.Order.{upFrom, variablesOf}
 use Rattle.walks.proofs.OrderLaws.{order-admissible}
 use Rattle.values.specs.Sets.{names}
 use Rattle.verdicts.specs.Verdict.{acceptedVerdict, tablesVerdict, verdictOf}
-use Rattle.verdicts.specs.Report.{OrderOf, Admitted}
+use Rattle.verdicts.specs.Report.{OrderOf}
 use Rattle.verdicts.proofs.VerdictLaws.{turn-order}
 use Rattle.verdicts.proofs.ReportLaws.{verdict-reports}
 use Rattle.sheets.specs.Line.{numbered, saysOf, lineText}

@@ -10,7 +10,6 @@ ghost use Rattle.values.specs.Items.{kindItems};
 ghost use Rattle.values.specs.Values.{ofSort, oneValue};
 ghost use Rattle.values.specs.Truth.{compared};
 ghost use Rattle.values.specs.code.Nodes.{baseAt, cmpAt, sortAt};
-
 use rules::kinds::FIRST_COLLECTION;
 use rules::kinds::FIRST_SET;
 use rules::kinds::NO_KIND;
@@ -65,7 +64,11 @@ pub fn is_sort(kind: u8, sort: u8) -> bool
     requires { ⌜ sort < firstSet ⌝ }
     ensures { λ r. ⌜ (kind < kindsFit → r ≡ ofSort (sortAt sort) (kindOf kind)) ⌝ }
 {
-    if kind < FIRST_COLLECTION { kind % FIRST_SET == sort } else { false }
+    if kind < FIRST_COLLECTION {
+        kind % FIRST_SET == sort
+    } else {
+        false
+    }
 }
 
 // `<` `<=` `>` `>=` `=` `!=` by number.
