@@ -1,4 +1,4 @@
--- Laws of walks: sums, orders, the pruned walk, the first breaking choice.
+-- Laws of walks: sums, orders, the pruned walk, the first breaking choice; and those of counts that are kept.
 pub mod SumLaws
 pub mod PermLaws
 pub mod OnceLaws
@@ -10,3 +10,12 @@ pub mod TurnLaws
 pub mod LoopLaws
 pub mod StepLaws
 pub mod ShareLaws
+pub mod ClauseLaws
+pub mod SummedLaws
+pub mod ContextLaws
+pub mod ReorderLaws
+pub mod DescentLaws
+pub mod BytesLaws
+pub mod KeptLaws
+pub mod TurningLaws
+pub mod JudgedLaws

@@ -1,0 +1,68 @@
+-- What judging gives along the caller's order, from what was counted along orders of its own.
+-- Assumes nothing.
+use mathlib.Core.Path.{_≡_, refl, sym, ap, _∙_}
+use mathlib.Core.Bool.{Bool}
+use mathlib.Core.List.{List}
+use mathlib.Core.Option.{some}
+use Prim.Native.Nat.{ℕ, _+_, _<_, _≤_}
+use native.Mathlib.Omega.{arith}
+use lib.ListN.{length, getD, set, take, drop}
+use lib.Seq.{take-take}
+use Rattle.words.specs.Words.{has}
+use Rattle.walks.specs.Choices.{Sets, each, ifBreaks, nothingChosen}
+use Rattle.walks.specs.Walk.{walk, bytesOf}
+use Rattle.walks.specs.Meaning.{Once, After, Reads}
+use Rattle.walks.specs.code.Tally.{Walked}
+use Rattle.walks.specs.code.Clauses.{Clauses, breaksAny, Levelled, ModeIs, weightOf}
+use Rattle.walks.specs.code.Summed.{Sought}
+use Rattle.walks.specs.code.Kept.{Counted}
+use Rattle.walks.specs.code.Turning.{belowAt, Turning, Descending}
+use Rattle.walks.proofs.DescentLaws.{none-breaks, descending-step, descending-end, own-counts}
+use Rattle.walks.proofs.TurningLaws.{turning-end, counted-breaks, least-breaks}
+
+module _ (s : Sets) (names : ℕ → ℕ → Bool) (law : Reads s names) (K : Clauses) (n : ℕ) (order : List ℕ) (once : Once n order) (after : After names order)
+    (own : List ℕ) (once′ : Once n own) (after′ : After names own) (levels : List ℕ) (L : Levelled K own levels) where
+  -- the counts along our own order, from a choice of the variables in which both begin, are those along the caller's
+  module _ {mode d full breaking : ℕ} {c : List ℕ} (same : take d own ≡ take d order) (p : Counted s K levels own mode d c full breaking) where
+    pub own-full : full ≡ walk 64 s each (drop d order) c
+    own-full = p .fulls ∙ own-counts s names law (breaksAny K) n order once after each own once′ after′ d same c
+
+    pub own-breaking : ModeIs K levels mode (d + 1) c → breaking ≡ walk 64 s (ifBreaks (breaksAny K)) (drop d order) c
+    own-breaking h =
+        counted-breaks s K levels own L h p ∙ own-counts s names law (breaksAny K) n order once after (ifBreaks (breaksAny K)) own once′ after′ d same c
+
+  -- ---- one turn of the descent, where both orders begin alike up to its variable
+
+  module _ (base : List ℕ) (mode d : ℕ) (c : List ℕ) (lo : d < length order) (lo′ : d < length own) (same : take (d + 1) own ≡ take (d + 1) order)
+      (right : ModeIs K levels mode (d + 1) c) (w : ℕ) (set-is : (x : ℕ) → s (getD order d 0) c x ≡ has w x) (h : Descending s (breaksAny K) order base d c) where
+    -- what was found is the next item
+    pub turn-next : {rest breaking x : ℕ} → Sought w (belowAt s (weightOf K levels mode (d + 1)) own d c) rest breaking x → 0 < breaking
+        → Descending s (breaksAny K) order base (d + 1) (set c (getD order d 0) x)
+    turn-next {rest} {breaking} {x} p l =
+        descending-step s names law (breaksAny K) n order once after base own once′ after′ d lo same w c set-is x
+        (least-breaks s K levels own L mode d c lo′ right w x (p .least l)) h
+
+    -- something is found
+    pub turn-found : {full breaking : ℕ} → ((x : ℕ) → s (getD own d 0) c x ≡ has w x) → Turning s K levels own mode d c w 0 full breaking → 0 < breaking
+    turn-found {full} {breaking} e p =
+        let begun : take d own ≡ take d order =
+        sym (take-take d (d + 1) own (omega arith)) ∙ ap (take d) same ∙ take-take d (d + 1) order (omega arith) in
+        omega (arith, h .some, own-breaking begun (turning-end s K levels own mode d c w lo′ e p refl) right)
+
+  -- ---- the tally
+
+  module _ (base : List ℕ) {mode full breaking : ℕ} (p : Counted s K levels own mode 0 base full breaking) (right : ModeIs K levels mode 1 base) where
+    pub judged-none : breaking ≡ 0 → Walked s (breaksAny K) order base (record { full = full; breaking = breaking; first = nothingChosen })
+    judged-none z = record {
+      fulls = own-full refl p;
+      breakings = own-breaking refl p right;
+      firsts = ap bytesOf (sym (none-breaks 64 s (breaksAny K) order base (sym (own-breaking refl p right) ∙ z)));
+    }
+
+    pub judged-some : (d : ℕ) (first : List ℕ) → length order ≤ d → Descending s (breaksAny K) order base d first
+        → Walked s (breaksAny K) order base (record { full = full; breaking = breaking; first = first })
+    judged-some d first l h = record {
+      fulls = own-full refl p;
+      breakings = own-breaking refl p right;
+      firsts = ap bytesOf (sym (descending-end s names law (breaksAny K) n order once after base d first l h));
+    }
