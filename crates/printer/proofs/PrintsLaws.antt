@@ -4,7 +4,7 @@ use mathlib.Core.Path.{_≡_, refl, ap, _∙_}
 use mathlib.Core.Bool.{Bool, true, false, _&&_, _||_}
 use mathlib.Core.List.{List, [], _∷_, _++_, append-assoc}
 use mathlib.Core.Option.{some}
-use Prim.Native.Nat.{ℕ, _+_, _-_, _/_, _%_, _≤_, _<_}
+use Prim.Native.Nat.{ℕ, _+_, _-_, _≤_, _<_}
 use native.Mathlib.Omega.{arith}
 use lib.Dec.{leb, ltb}
 use lib.ListN.{length, getD}
@@ -14,6 +14,7 @@ use Rattle.syntax.specs.Bytes.{Bytes, ascii}
 use Rattle.syntax.specs.Term.{Term, base, call, oe, ao, two, Choices, text, aoText, spell, isChoice, spellMiddle}
 use Rattle.syntax.specs.code.Arena.{Holds, HoldsAll, Down, hasTwo}
 use Rattle.syntax.specs.code.Reading.{Sought}
+use Rattle.syntax.specs.code.Nodes.{firstCall, oeOp, aoOp, firstPair, memberOp, firstEmpty, firstCounted, opAt, leftAt, rightAt}
 use Rattle.printer.specs.code.Signs.{signOf, openOf}
 use Rattle.printer.specs.code.Printed.{Puts, Prints, Ready}
 use Rattle.syntax.proofs.ArenaLaws.{base-small, fn-range, two-range, opOf, holds-op}
@@ -60,28 +61,28 @@ module _ {ns vs : List ℕ} {k : ℕ} (r : Ready ns k vs) where
   pub ready-size : k < length ns
   ready-size = omega (arith, r .node, r .tidy .fits)
 
-  pub ready-left : {l : ℕ} → l ≡ getD ns k 0 / 256 % 4096 → 9 ≤ getD ns k 0 % 256 → Ready ns l vs × (l < k)
+  pub ready-left : {l : ℕ} → l ≡ leftAt ns k → firstCall ≤ opAt ns k → Ready ns l vs × (l < k)
   unfolding Down
   ready-left {l} e h =
       let w : l < k = rw e (r .tidy .down k (r .node) .left h) in
       (record { n = r .n; tidy = r .tidy; node = omega (arith, r .node); below = r .below; few = r .few }, w)
 
-  pub ready-right : {l : ℕ} → l ≡ getD ns k 0 / 1048576 → hasTwo (getD ns k 0 % 256) ≡ true → Ready ns l vs × (l < k)
+  pub ready-right : {l : ℕ} → l ≡ rightAt ns k → hasTwo (opAt ns k) ≡ true → Ready ns l vs × (l < k)
   unfolding Down
   ready-right {l} e h =
       let w : l < k = rw e (r .tidy .down k (r .node) .right h) in
       (record { n = r .n; tidy = r .tidy; node = omega (arith, r .node); below = r .below; few = r .few }, w)
 
 -- The writer of terms, by the operation of its node.
-module _ {ns vs : List ℕ} {k : ℕ} (w : Ready ns k vs) {op : ℕ} (e : op ≡ getD ns k 0 % 256) {old new : Bytes} {r : ℕ} where
-  pub term-leaf : op < 9 → Puts (signOf op) old new r → Prints ns vs (Holds ns k) text old new r
+module _ {ns vs : List ℕ} {k : ℕ} (w : Ready ns k vs) {op : ℕ} (e : op ≡ opAt ns k) {old new : Bytes} {r : ℕ} where
+  pub term-leaf : op < firstCall → Puts (signOf op) old new r → Prints ns vs (Holds ns k) text old new r
   term-leaf h p =
       record {
         room = puts-room p;
         shows = λ σ t y x. puts-as (ap signOf e ∙ text-leaf ns k σ t (omega arith) x) p;
       }
 
-  pub term-two : {l m : ℕ} → l ≡ getD ns k 0 / 256 % 4096 → m ≡ getD ns k 0 / 1048576 → 18 ≤ op → op < 21
+  pub term-two : {l m : ℕ} → l ≡ leftAt ns k → m ≡ rightAt ns k → firstPair ≤ op → op < memberOp
       → Prints ns vs (λ (p : Term × Term). Holds ns l (p .0) × Holds ns m (p .1)) (λ σ p. (((openOf op ++ text σ (p .0)) ++ signOf op) ++ text σ (p .1)) ++ ascii ")") old new r
       → Prints ns vs (Holds ns k) text old new r
   term-two q u h g p =
@@ -92,19 +93,19 @@ module _ {ns vs : List ℕ} {k : ℕ} (w : Ready ns k vs) {op : ℕ} (e : op ≡
       (rw e at (rw q at (rw u at p)))
 
   -- Below a call, an OE or an AO.
-  module _ {l : ℕ} (q : l ≡ getD ns k 0 / 256 % 4096) where
-    pub term-call : 9 ≤ op → op < 16 → Prints ns vs (Holds ns l) (λ σ a. signOf op ++ (text σ a ++ ascii ")")) old new r → Prints ns vs (Holds ns k) text old new r
+  module _ {l : ℕ} (q : l ≡ leftAt ns k) where
+    pub term-call : firstCall ≤ op → op < oeOp → Prints ns vs (Holds ns l) (λ σ a. signOf op ++ (text σ a ++ ascii ")")) old new r → Prints ns vs (Holds ns k) text old new r
     term-call h g p = prints-as (λ σ t y x. text-call ns k σ t (omega arith) (omega arith) x) (rw e at (rw q at p))
 
-    module _ {d : ℕ} (b : 16 ≤ op) (s : Sought vs (length vs) l d) where
-      pub term-new : op < 18 → length vs ≤ d → Prints ns vs (Holds ns l) (λ σ a. signOf op ++ (text σ a ++ ascii ")")) old new r → Prints ns vs (Holds ns k) text old new r
+    module _ {d : ℕ} (b : oeOp ≤ op) (s : Sought vs (length vs) l d) where
+      pub term-new : op < firstPair → length vs ≤ d → Prints ns vs (Holds ns l) (λ σ a. signOf op ++ (text σ a ++ ascii ")")) old new r → Prints ns vs (Holds ns k) text old new r
       term-new g h p =
           let v = ready-left w q (omega arith) .0 in
           prints-as
           (λ σ t y x. text-new ns k σ t (omega arith) (omega arith) (λ a z. choice-none v s σ y a (rw q z) h) x)
           (rw e at (rw q at p))
 
-      pub term-choice : op ≡ 16 → d < length vs → Puts (spell isChoice ++ ((49 + d) ∷ [])) old new r → Prints ns vs (Holds ns k) text old new r
+      pub term-choice : op ≡ oeOp → d < length vs → Puts (spell isChoice ++ ((49 + d) ∷ [])) old new r → Prints ns vs (Holds ns k) text old new r
       term-choice g h p =
           let v = ready-left w q (omega arith) .0 in
           record {
@@ -112,26 +113,26 @@ module _ {ns vs : List ℕ} {k : ℕ} (w : Ready ns k vs) {op : ℕ} (e : op ≡
             shows = λ σ t y x. puts-as (text-choice ns k σ (49 + d) (λ a z. choice-some v s σ y a (rw q z) h) t (omega arith) x) p;
           }
 
-      pub term-others : 17 ≤ op → op < 18 → d < length vs → Prints ns vs (Holds ns l) (λ σ a. aoText (some (49 + d)) (text σ a)) old new r → Prints ns vs (Holds ns k) text old new r
+      pub term-others : aoOp ≤ op → op < firstPair → d < length vs → Prints ns vs (Holds ns l) (λ σ a. aoText (some (49 + d)) (text σ a)) old new r → Prints ns vs (Holds ns k) text old new r
       term-others f g h p =
           let v = ready-left w q (omega arith) .0 in
           prints-as
           (λ σ t y x. text-others ns k σ (49 + d) (λ a z. choice-some v s σ y a (rw q z) h) t (omega arith) (omega arith) x)
           (rw q at p)
 
-pub has-two : (o : ℕ) → 18 ≤ o → o < 24 → hasTwo o ≡ true
+pub has-two : (o : ℕ) → firstPair ≤ o → o < firstEmpty → hasTwo o ≡ true
 unfolding hasTwo
-has-two o h g = rw (le-leb 18 o h, lt-ltb o 24 g)
+has-two o h g = rw (le-leb firstPair o h, lt-ltb o firstEmpty g)
 
 or-true : (b : Bool) → (b || true) ≡ true
 or-true true = refl
 or-true false = refl
 
-pub has-two-last : (o : ℕ) → 32 ≤ o → hasTwo o ≡ true
+pub has-two-last : (o : ℕ) → firstCounted ≤ o → hasTwo o ≡ true
 unfolding hasTwo
-has-two-last o h = rw (le-leb 32 o h) (or-true (leb 18 o && ltb o 24))
+has-two-last o h = rw (le-leb firstCounted o h) (or-true (leb firstPair o && ltb o firstEmpty))
 
-pub no-term : (ns : List ℕ) (k : ℕ) (t : Term) → 21 ≤ getD ns k 0 % 256 → Holds ns k t → ⊥
+pub no-term : (ns : List ℕ) (k : ℕ) (t : Term) → memberOp ≤ opAt ns k → Holds ns k t → ⊥
 unfolding opOf
 no-term ns k (base b) h x = omega (arith, holds-op ns k (base b) x, base-small b)
 no-term ns k (call f a) h x = omega (arith, holds-op ns k (call f a) x, fn-range f .high)

@@ -2,7 +2,7 @@
 -- Assumes nothing.
 use mathlib.Core.Path.{_≡_, ap, sym, _∙_}
 use mathlib.Core.List.{List, [], _∷_, _++_, append-assoc}
-use Prim.Native.Nat.{ℕ, _+_, _-_, _/_, _%_, _≤_, _<_}
+use Prim.Native.Nat.{ℕ, _+_, _-_, _%_, _≤_, _<_}
 use native.Mathlib.Omega.{arith}
 use native.Mathlib.Numerals.{add-one}
 use lib.ListN.{length, getD, take, drop-of-length-le}
@@ -13,6 +13,7 @@ use Rattle.syntax.specs.Term.{Term, Choices, text}
 use Rattle.syntax.specs.Rule.{digits, testText, clauseText, ruleText}
 use Rattle.syntax.specs.code.Printing.{quantifiersAfter}
 use Rattle.syntax.specs.code.Arena.{Holds, HoldsTest, HoldsClause, HoldsRule}
+use Rattle.syntax.specs.code.Nodes.{memberOp, firstEmpty, firstNumbered, firstCounted, whenOp, alsoOp, opAt, leftAt, rightAt}
 use Rattle.printer.specs.code.Signs.{signOf, cmpSignOf}
 use Rattle.printer.specs.code.Printed.{Prints, Ready, quantifier, quantifiersFrom, Any}
 use Rattle.printer.proofs.PrintedLaws.{puts-as, puts-then, room-then, room-none, puts-empty}
@@ -27,36 +28,36 @@ Both H K p = H (p .0) × K (p .1)
 abbrev counted : Choices → Term → Bytes
 counted σ a = ascii "|" ++ (text σ a ++ ascii "|")
 
-module _ {ns vs : List ℕ} {k : ℕ} (w : Ready ns k vs) {op : ℕ} (e : op ≡ getD ns k 0 % 256) {old new : Bytes} {r : ℕ} where
-  module _ {l : ℕ} (q : l ≡ getD ns k 0 / 256 % 4096) where
-    pub prints-empty : 24 ≤ op → op < 26 → Prints ns vs (Holds ns l) (λ σ a. (text σ a ++ signOf op) ++ ascii "{}") old new r → Prints ns vs (HoldsTest ns k) testText old new r
+module _ {ns vs : List ℕ} {k : ℕ} (w : Ready ns k vs) {op : ℕ} (e : op ≡ opAt ns k) {old new : Bytes} {r : ℕ} where
+  module _ {l : ℕ} (q : l ≡ leftAt ns k) where
+    pub prints-empty : firstEmpty ≤ op → op < firstNumbered → Prints ns vs (Holds ns l) (λ σ a. (text σ a ++ signOf op) ++ ascii "{}") old new r → Prints ns vs (HoldsTest ns k) testText old new r
     prints-empty h g p = prints-as (λ σ t y x. test-empty ns k σ t (omega arith) (omega arith) x) (rw e at (rw q at p))
 
-    module _ {m : ℕ} (u : m ≡ getD ns k 0 / 1048576) where
-      pub prints-compared : 21 ≤ op → op < 24 → Prints ns vs (Both (Holds ns l) (Holds ns m)) (λ σ p. (text σ (p .0) ++ signOf op) ++ text σ (p .1)) old new r
+    module _ {m : ℕ} (u : m ≡ rightAt ns k) where
+      pub prints-compared : memberOp ≤ op → op < firstEmpty → Prints ns vs (Both (Holds ns l) (Holds ns m)) (λ σ p. (text σ (p .0) ++ signOf op) ++ text σ (p .1)) old new r
           → Prints ns vs (HoldsTest ns k) testText old new r
       prints-compared h g p = prints-as (λ σ t y x. test-compared ns k σ t (omega arith) (omega arith) x) (rw e at (rw q at (rw u at p)))
 
-      pub prints-number : 26 ≤ op → op < 32 → Prints ns vs (Holds ns l) (λ σ a. (counted σ a ++ cmpSignOf ((op - 26) % 6)) ++ digits (m % 100)) old new r
+      pub prints-number : firstNumbered ≤ op → op < firstCounted → Prints ns vs (Holds ns l) (λ σ a. (counted σ a ++ cmpSignOf ((op - firstNumbered) % 6)) ++ digits (m % 100)) old new r
           → Prints ns vs (HoldsTest ns k) testText old new r
       prints-number h g p = prints-as (λ σ t y x. test-number ns k σ t (omega arith) (omega arith) x) (rw e at (rw q at (rw u at p)))
 
-      pub prints-count : 32 ≤ op → op < 38 → Prints ns vs (Both (Holds ns l) (Holds ns m)) (λ σ p. (counted σ (p .0) ++ cmpSignOf ((op - 26) % 6)) ++ counted σ (p .1)) old new r
+      pub prints-count : firstCounted ≤ op → op < whenOp → Prints ns vs (Both (Holds ns l) (Holds ns m)) (λ σ p. (counted σ (p .0) ++ cmpSignOf ((op - firstNumbered) % 6)) ++ counted σ (p .1)) old new r
           → Prints ns vs (HoldsTest ns k) testText old new r
       prints-count h g p = prints-as (λ σ t y x. test-count ns k σ t (omega arith) (omega arith) x) (rw e at (rw q at (rw u at p)))
 
-      pub prints-when : op ≡ 38 → Prints ns vs (Both (HoldsTest ns l) (HoldsTest ns m)) (λ σ p. (testText σ (p .0) ++ ascii "=>") ++ testText σ (p .1)) old new r
+      pub prints-when : op ≡ whenOp → Prints ns vs (Both (HoldsTest ns l) (HoldsTest ns m)) (λ σ p. (testText σ (p .0) ++ ascii "=>") ++ testText σ (p .1)) old new r
           → Prints ns vs (HoldsClause ns k) clauseText old new r
       prints-when h p = prints-as (λ σ t y x. clause-when ns k σ t (sym e ∙ h) x) (rw q at (rw u at p))
 
-      pub prints-also : op ≡ 39 → Prints ns vs (Both (HoldsClause ns l) (HoldsRule ns m)) (λ σ p. (clauseText σ (p .0) ++ ascii "^") ++ ruleText σ (p .1)) old new r
+      pub prints-also : op ≡ alsoOp → Prints ns vs (Both (HoldsClause ns l) (HoldsRule ns m)) (λ σ p. (clauseText σ (p .0) ++ ascii "^") ++ ruleText σ (p .1)) old new r
           → Prints ns vs (HoldsRule ns k) ruleText old new r
       prints-also h p = prints-as (λ σ t y x. rule-also ns k σ t (sym e ∙ h) x) (rw q at (rw u at p))
 
-  pub prints-plain : (op ≡ 38 → ⊥) → Prints ns vs (HoldsTest ns k) testText old new r → Prints ns vs (HoldsClause ns k) clauseText old new r
+  pub prints-plain : (op ≡ whenOp → ⊥) → Prints ns vs (HoldsTest ns k) testText old new r → Prints ns vs (HoldsClause ns k) clauseText old new r
   prints-plain h p = prints-as (λ σ t y x. clause-plain ns k σ t (λ z. h (e ∙ z)) x) p
 
-  pub prints-last : (op ≡ 39 → ⊥) → Prints ns vs (HoldsClause ns k) clauseText old new r → Prints ns vs (HoldsRule ns k) ruleText old new r
+  pub prints-last : (op ≡ alsoOp → ⊥) → Prints ns vs (HoldsClause ns k) clauseText old new r → Prints ns vs (HoldsRule ns k) ruleText old new r
   prints-last h p = prints-as (λ σ t y x. rule-last ns k σ t (λ z. h (e ∙ z)) x) p
 
 -- Quantifiers.

@@ -2,7 +2,7 @@
 -- Assumes nothing.
 use mathlib.Core.Path.{_≡_, refl, ap, _∙_}
 use mathlib.Core.List.{List, [], _∷_, _++_, append-assoc}
-use Prim.Native.Nat.{ℕ, suc, zero, _+_, _-_, _/_, _%_, _≤_, _<_}
+use Prim.Native.Nat.{ℕ, suc, zero, _+_, _-_, _%_, _≤_, _<_}
 use native.Mathlib.Omega.{arith}
 use lib.ListN.{length, getD, take, drop}
 use Rattle.syntax.specs.Bytes.{Bytes, ascii}
@@ -10,8 +10,9 @@ use Rattle.syntax.specs.Term.{Term, Choices, text}
 use Rattle.syntax.specs.Rule.{Cmp, lt, le, gt, ge, eq, ne, Sign, is, isnt, number, count, Test, member, alike, empty, sized}
 use Rattle.syntax.specs.Rule.{Clause, plain, when, Rule, last, also, spellCmp, spellBetween, isSign, digits, countText, testText, clauseText, ruleText}
 use Rattle.syntax.specs.code.Printing.{quantifiersAfter}
-use Rattle.syntax.specs.code.Arena.{memberOp, alikeOp, emptyOp, cmpNumber, Numbered, Holds, HoldsTest, HoldsClause}
+use Rattle.syntax.specs.code.Arena.{alikeOp, emptyOp, cmpNumber, Numbered, Holds, HoldsTest, HoldsClause}
 use Rattle.syntax.specs.code.Arena.{HoldsRule, HoldsAll}
+use Rattle.syntax.specs.code.Nodes.{memberOp, firstAlike, firstEmpty, firstNumbered, firstCounted, whenOp, alsoOp, opAt, leftAt, rightAt, opRoom}
 use Rattle.printer.specs.code.Signs.{signs, signOf, cmpSigns, cmpSignOf}
 use Rattle.printer.specs.code.Printed.{quantifier, quantifiersFrom}
 use Rattle.syntax.proofs.ArenaLaws.{Parts, parts, one-parts, both-parts}
@@ -23,8 +24,8 @@ unfoldable testOp : Test → ℕ
 testOp (member a b) = memberOp
 testOp (alike g a b) = alikeOp g
 testOp (empty g a) = emptyOp g
-testOp (sized c a (number m)) = 26 + cmpNumber c
-testOp (sized c a (count b)) = 32 + cmpNumber c
+testOp (sized c a (number m)) = firstNumbered + cmpNumber c
+testOp (sized c a (count b)) = firstCounted + cmpNumber c
 
 cmp-small : (c : Cmp) → cmpNumber c < 6
 unfolding cmpNumber
@@ -35,20 +36,20 @@ cmp-small ge = omega arith
 cmp-small eq = omega arith
 cmp-small ne = omega arith
 
-alike-range : (g : Sign) → (22 ≤ alikeOp g) × (alikeOp g < 24)
+alike-range : (g : Sign) → (firstAlike ≤ alikeOp g) × (alikeOp g < firstEmpty)
 unfolding alikeOp
 alike-range is = (omega arith, omega arith)
 alike-range isnt = (omega arith, omega arith)
 
-empty-range : (g : Sign) → (24 ≤ emptyOp g) × (emptyOp g < 26)
+empty-range : (g : Sign) → (firstEmpty ≤ emptyOp g) × (emptyOp g < firstNumbered)
 unfolding emptyOp
 empty-range is = (omega arith, omega arith)
 empty-range isnt = (omega arith, omega arith)
 
-numbered-parts : {ns : List ℕ} {k o i m : ℕ} → Numbered ns k o i m → o < 256 → Parts (getD ns k 0) o i m
+numbered-parts : {ns : List ℕ} {k o i m : ℕ} → Numbered ns k o i m → o < opRoom → Parts (getD ns k 0) o i m
 numbered-parts {ns} {k} {o} {i} {m} x h = parts (getD ns k 0) o i m (x .node) h (x .small)
 
-test-op : (ns : List ℕ) (k : ℕ) (p : Test) → HoldsTest ns k p → getD ns k 0 % 256 ≡ testOp p
+test-op : (ns : List ℕ) (k : ℕ) (p : Test) → HoldsTest ns k p → opAt ns k ≡ testOp p
 unfolding HoldsTest testOp
 test-op ns k (member a b) x = both-parts (x .2) (omega arith) .op
 test-op ns k (alike g a b) x = both-parts (x .2) (omega (arith, alike-range g .1)) .op
@@ -56,7 +57,7 @@ test-op ns k (empty g a) x = one-parts (x .1) (omega (arith, empty-range g .1)) 
 test-op ns k (sized c a (number m)) x = numbered-parts (x .1) (omega (arith, cmp-small c)) .op
 test-op ns k (sized c a (count b)) x = both-parts (x .2) (omega (arith, cmp-small c)) .op
 
-pub test-range : (ns : List ℕ) (k : ℕ) (p : Test) → HoldsTest ns k p → (21 ≤ getD ns k 0 % 256) × (getD ns k 0 % 256 < 38)
+pub test-range : (ns : List ℕ) (k : ℕ) (p : Test) → HoldsTest ns k p → (memberOp ≤ opAt ns k) × (opAt ns k < whenOp)
 unfolding testOp
 test-range ns k (member a b) x = let e = test-op ns k (member a b) x in (omega arith, omega arith)
 test-range ns k (alike g a b) x = let e = test-op ns k (alike g a b) x in let r = alike-range g in (omega arith, omega arith)
@@ -86,13 +87,13 @@ empty-sign isnt = refl
 -- Node k, its operation and its indexes: how the test that it holds is written.
 module _ (ns : List ℕ) (k : ℕ) (σ : Choices) where
   abbrev o : ℕ
-  o = getD ns k 0 % 256
+  o = opAt ns k
 
   abbrev i : ℕ
-  i = getD ns k 0 / 256 % 4096
+  i = leftAt ns k
 
   abbrev j : ℕ
-  j = getD ns k 0 / 1048576
+  j = rightAt ns k
 
   abbrev counted : Term → Bytes
   counted a = ascii "|" ++ (text σ a ++ ascii "|")
@@ -107,7 +108,7 @@ module _ (ns : List ℕ) (k : ℕ) (σ : Choices) where
     both-at : (a b : Term) → Holds ns l a → Holds ns m b → AtBoth ns k σ (Holds ns) (Holds ns) (a, b)
     both-at a b y z = (rw (x .left) y, rw (x .right) z)
 
-  pub test-compared : (p : Test) → 21 ≤ o → o < 24 → HoldsTest ns k p
+  pub test-compared : (p : Test) → memberOp ≤ o → o < firstEmpty → HoldsTest ns k p
       → Shown (AtBoth ns k σ (Holds ns) (Holds ns)) (λ (t : Term × Term). (text σ (t .0) ++ signOf o) ++ text σ (t .1)) (testText σ p)
   unfolding testText testOp HoldsTest signs
   test-compared (member a b) h l x =
@@ -120,7 +121,7 @@ module _ (ns : List ℕ) (k : ℕ) (σ : Choices) where
   test-compared (sized c a (number m)) h l x = absurd (omega (arith, test-op ns k (sized c a (number m)) x))
   test-compared (sized c a (count b)) h l x = absurd (omega (arith, test-op ns k (sized c a (count b)) x))
 
-  pub test-empty : (p : Test) → 24 ≤ o → o < 26 → HoldsTest ns k p → Shown (Holds ns i) (λ (a : Term). (text σ a ++ signOf o) ++ ascii "{}") (testText σ p)
+  pub test-empty : (p : Test) → firstEmpty ≤ o → o < firstNumbered → HoldsTest ns k p → Shown (Holds ns i) (λ (a : Term). (text σ a ++ signOf o) ++ ascii "{}") (testText σ p)
   unfolding testText testOp HoldsTest
   test-empty (member a b) h l x = absurd (omega (arith, test-op ns k (member a b) x))
   test-empty (alike g a b) h l x = absurd (omega (arith, test-op ns k (alike g a b) x, alike-range g .1))
@@ -130,21 +131,21 @@ module _ (ns : List ℕ) (k : ℕ) (σ : Choices) where
   test-empty (sized c a (number m)) h l x = absurd (omega (arith, test-op ns k (sized c a (number m)) x))
   test-empty (sized c a (count b)) h l x = absurd (omega (arith, test-op ns k (sized c a (count b)) x))
 
-  pub test-number : (p : Test) → 26 ≤ o → o < 32 → HoldsTest ns k p
-      → Shown (Holds ns i) (λ (a : Term). (counted a ++ cmpSignOf ((o - 26) % 6)) ++ digits (j % 100)) (testText σ p)
+  pub test-number : (p : Test) → firstNumbered ≤ o → o < firstCounted → HoldsTest ns k p
+      → Shown (Holds ns i) (λ (a : Term). (counted a ++ cmpSignOf ((o - firstNumbered) % 6)) ++ digits (j % 100)) (testText σ p)
   unfolding testText countText testOp HoldsTest
   test-number (member a b) h l x = absurd (omega (arith, test-op ns k (member a b) x))
   test-number (alike g a b) h l x = absurd (omega (arith, test-op ns k (alike g a b) x, alike-range g .1))
   test-number (empty g a) h l x = absurd (omega (arith, test-op ns k (empty g a) x, empty-range g .1))
   test-number (sized c a (number m)) h l x =
       let y = numbered-parts (x .1) (omega (arith, cmp-small c)) in
-      let q : (o - 26) % 6 ≡ cmpNumber c = rw (y .op) (omega (arith, cmp-small c)) in
+      let q : (o - firstNumbered) % 6 ≡ cmpNumber c = rw (y .op) (omega (arith, cmp-small c)) in
       let u : j % 100 ≡ m = rw (y .right) (omega (arith, x .1 .few)) in
       record { thing = a; held = left-at y a (x .2); written = rw (q, u, cmp-sign c) (sized-text a (spellCmp c) (digits m)) }
   test-number (sized c a (count b)) h l x = absurd (omega (arith, test-op ns k (sized c a (count b)) x))
 
-  pub test-count : (p : Test) → 32 ≤ o → o < 38 → HoldsTest ns k p
-      → Shown (AtBoth ns k σ (Holds ns) (Holds ns)) (λ (t : Term × Term). (counted (t .0) ++ cmpSignOf ((o - 26) % 6)) ++ counted (t .1)) (testText σ p)
+  pub test-count : (p : Test) → firstCounted ≤ o → o < whenOp → HoldsTest ns k p
+      → Shown (AtBoth ns k σ (Holds ns) (Holds ns)) (λ (t : Term × Term). (counted (t .0) ++ cmpSignOf ((o - firstNumbered) % 6)) ++ counted (t .1)) (testText σ p)
   unfolding testText countText testOp HoldsTest
   test-count (member a b) h l x = absurd (omega (arith, test-op ns k (member a b) x))
   test-count (alike g a b) h l x = absurd (omega (arith, test-op ns k (alike g a b) x, alike-range g .1))
@@ -152,17 +153,17 @@ module _ (ns : List ℕ) (k : ℕ) (σ : Choices) where
   test-count (sized c a (number m)) h l x = absurd (omega (arith, test-op ns k (sized c a (number m)) x, cmp-small c))
   test-count (sized c a (count b)) h l x =
       let y = both-parts (x .2) (omega (arith, cmp-small c)) in
-      let q : (o - 26) % 6 ≡ cmpNumber c = rw (y .op) (omega (arith, cmp-small c)) in
+      let q : (o - firstNumbered) % 6 ≡ cmpNumber c = rw (y .op) (omega (arith, cmp-small c)) in
       record { thing = (a, b); held = both-at y a b (x .3) (x .4); written = rw (q, cmp-sign c) (sized-text a (spellCmp c) (counted b)) }
 
   -- Clauses and rules.
 
-  pub clause-plain : (c : Clause) → (o ≡ 38 → ⊥) → HoldsClause ns k c → Shown (HoldsTest ns k) (testText σ) (clauseText σ c)
+  pub clause-plain : (c : Clause) → (o ≡ whenOp → ⊥) → HoldsClause ns k c → Shown (HoldsTest ns k) (testText σ) (clauseText σ c)
   unfolding HoldsClause clauseText
   clause-plain (plain p) h x = record { thing = p; held = x; written = refl }
   clause-plain (when p q) h x = absurd (h (both-parts (x .2) (omega arith) .op))
 
-  pub clause-when : (c : Clause) → o ≡ 38 → HoldsClause ns k c
+  pub clause-when : (c : Clause) → o ≡ whenOp → HoldsClause ns k c
       → Shown (AtBoth ns k σ (HoldsTest ns) (HoldsTest ns)) (λ (t : Test × Test). (testText σ (t .0) ++ ascii "=>") ++ testText σ (t .1)) (clauseText σ c)
   unfolding HoldsClause clauseText
   clause-when (plain p) h x = absurd (omega (arith, test-range ns k p x .1))
@@ -170,17 +171,17 @@ module _ (ns : List ℕ) (k : ℕ) (σ : Choices) where
       let y = both-parts (x .2) (omega arith) in
       record { thing = (p, q); held = (rw (y .left) (x .3), rw (y .right) (x .4)); written = append-assoc (testText σ p) _ _ }
 
-  clause-range : (c : Clause) → HoldsClause ns k c → o < 39
+  clause-range : (c : Clause) → HoldsClause ns k c → o < alsoOp
   unfolding HoldsClause
   clause-range (plain p) x = omega (arith, test-range ns k p x .1)
   clause-range (when p q) x = omega (arith, both-parts (x .2) (omega arith) .op)
 
-  pub rule-last : (ρ : Rule) → (o ≡ 39 → ⊥) → HoldsRule ns k ρ → Shown (HoldsClause ns k) (clauseText σ) (ruleText σ ρ)
+  pub rule-last : (ρ : Rule) → (o ≡ alsoOp → ⊥) → HoldsRule ns k ρ → Shown (HoldsClause ns k) (clauseText σ) (ruleText σ ρ)
   unfolding HoldsRule ruleText
   rule-last (last c) h x = record { thing = c; held = x; written = refl }
   rule-last (also c ρ) h x = absurd (h (both-parts (x .2) (omega arith) .op))
 
-  pub rule-also : (ρ : Rule) → o ≡ 39 → HoldsRule ns k ρ
+  pub rule-also : (ρ : Rule) → o ≡ alsoOp → HoldsRule ns k ρ
       → Shown (AtBoth ns k σ (HoldsClause ns) (HoldsRule ns)) (λ (t : Clause × Rule). (clauseText σ (t .0) ++ ascii "^") ++ ruleText σ (t .1)) (ruleText σ ρ)
   unfolding HoldsRule ruleText
   rule-also (last c) h x = absurd (omega (arith, clause-range c x))

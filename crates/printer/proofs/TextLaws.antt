@@ -3,15 +3,16 @@
 use mathlib.Core.Path.{_≡_, refl, ap, _∙_}
 use mathlib.Core.List.{List, [], _∷_, _++_}
 use mathlib.Core.Option.{Option, none, some}
-use Prim.Native.Nat.{ℕ, suc, zero, _+_, _/_, _%_, _≤_, _<_}
+use Prim.Native.Nat.{ℕ, suc, zero, _+_, _≤_, _<_}
 use native.Mathlib.Omega.{arith}
 use lib.ListN.{length, getD}
 use Rattle.syntax.specs.Bytes.{Bytes, ascii}
 use Rattle.syntax.specs.Term.{Base, bU, bR, bOP, bOBJ, bP, bS, bCR, bCP, bCU, Fn, user, roles, roles*, sessions, permissions}
 use Rattle.syntax.specs.Term.{permissions*, object, operations, meet, join, Term, base, call, oe, ao, two, Term≟, Choices, digitFrom, digit}
-use Rattle.syntax.specs.Term.{isBase, isCall, isChoice, spell, oeText, aoText, text}
+use Rattle.syntax.specs.Term.{isBase, isCall, isChoice, spell, oeText, aoText, text, calls, joins, opening, parting}
 use Rattle.syntax.specs.code.Arena.{baseOp, fnOp, twoOp, One, Holds, HoldsAll, Apart}
 use Rattle.syntax.specs.code.Reading.{Sought}
+use Rattle.syntax.specs.code.Nodes.{firstCall, oeOp, aoOp, firstPair, memberOp, opAt, leftAt, rightAt, opRoom}
 use Rattle.printer.specs.code.Signs.{signs, signOf, openOf}
 use Rattle.printer.specs.code.Printed.{Ready}
 use Rattle.syntax.proofs.ArenaLaws.{base-small, fn-range, two-range, one-parts, both-parts, opOf, holds-op, holds-once, holds-one}
@@ -47,15 +48,15 @@ pub record Shown {A : Type 0} (holds : A → Type 0) (make : A → Bytes) (w : B
 -- Node k, its operation and its indexes: how the term that it holds is written.
 module _ (ns : List ℕ) (k : ℕ) (σ : Choices) where
   abbrev o : ℕ
-  o = getD ns k 0 % 256
+  o = opAt ns k
 
   abbrev i : ℕ
-  i = getD ns k 0 / 256 % 4096
+  i = leftAt ns k
 
   abbrev j : ℕ
-  j = getD ns k 0 / 1048576
+  j = rightAt ns k
 
-  pub text-leaf : (t : Term) → o < 9 → Holds ns k t → signOf o ≡ text σ t
+  pub text-leaf : (t : Term) → o < firstCall → Holds ns k t → signOf o ≡ text σ t
   unfolding text opOf
   text-leaf (base b) h x = ap signOf (holds-op ns k (base b) x) ∙ base-sign b
   text-leaf (call f a) h x = absurd (omega (arith, holds-op ns k (call f a) x, fn-range f .low))
@@ -66,10 +67,10 @@ module _ (ns : List ℕ) (k : ℕ) (σ : Choices) where
   abbrev named : Term → Bytes
   named a = signOf o ++ (text σ a ++ ascii ")")
 
-  one-holds : {p l : ℕ} (a : Term) → One ns k p l → p < 256 → Holds ns l a → Holds ns i a
+  one-holds : {p l : ℕ} (a : Term) → One ns k p l → p < opRoom → Holds ns l a → Holds ns i a
   one-holds a x h y = rw (one-parts x h .left) y
 
-  pub text-call : (t : Term) → 9 ≤ o → o < 16 → Holds ns k t → Shown (Holds ns i) named (text σ t)
+  pub text-call : (t : Term) → firstCall ≤ o → o < oeOp → Holds ns k t → Shown (Holds ns i) named (text σ t)
   unfolding text opOf Holds
   text-call (base b) h l x = absurd (omega (arith, holds-op ns k (base b) x, base-small b))
   text-call (call f a) h l x =
@@ -80,7 +81,7 @@ module _ (ns : List ℕ) (k : ℕ) (σ : Choices) where
   text-call (two p a b) h l x = absurd (omega (arith, holds-op ns k (two p a b) x, two-range p .low))
 
   -- An OE or AO whose choice is not known.
-  pub text-new : (t : Term) → 16 ≤ o → o < 18 → ((a : Term) → Holds ns i a → digit σ a ≡ none) → Holds ns k t → Shown (Holds ns i) named (text σ t)
+  pub text-new : (t : Term) → oeOp ≤ o → o < firstPair → ((a : Term) → Holds ns i a → digit σ a ≡ none) → Holds ns k t → Shown (Holds ns i) named (text σ t)
   unfolding text opOf Holds oeText aoText signs
   text-new (base b) h l d x = absurd (omega (arith, holds-op ns k (base b) x, base-small b))
   text-new (call f a) h l d x = absurd (omega (arith, holds-op ns k (call f a) x, fn-range f .high))
@@ -93,7 +94,7 @@ module _ (ns : List ℕ) (k : ℕ) (σ : Choices) where
   text-new (two p a b) h l d x = absurd (omega (arith, holds-op ns k (two p a b) x, two-range p .low))
 
   module _ (c : ℕ) (d : (a : Term) → Holds ns i a → digit σ a ≡ some c) where
-    pub text-choice : (t : Term) → o ≡ 16 → Holds ns k t → spell isChoice ++ (c ∷ []) ≡ text σ t
+    pub text-choice : (t : Term) → o ≡ oeOp → Holds ns k t → spell isChoice ++ (c ∷ []) ≡ text σ t
     unfolding text opOf Holds oeText
     text-choice (base b) h x = absurd (omega (arith, holds-op ns k (base b) x, base-small b))
     text-choice (call f a) h x = absurd (omega (arith, holds-op ns k (call f a) x, fn-range f .high))
@@ -101,7 +102,7 @@ module _ (ns : List ℕ) (k : ℕ) (σ : Choices) where
     text-choice (ao a) h x = absurd (omega (arith, holds-op ns k (ao a) x))
     text-choice (two p a b) h x = absurd (omega (arith, holds-op ns k (two p a b) x, two-range p .low))
 
-    pub text-others : (t : Term) → 17 ≤ o → o < 18 → Holds ns k t → Shown (Holds ns i) (λ a. aoText (some c) (text σ a)) (text σ t)
+    pub text-others : (t : Term) → aoOp ≤ o → o < firstPair → Holds ns k t → Shown (Holds ns i) (λ a. aoText (some c) (text σ a)) (text σ t)
     unfolding text opOf Holds
     text-others (base b) h l x = absurd (omega (arith, holds-op ns k (base b) x, base-small b))
     text-others (call f a) h l x = absurd (omega (arith, holds-op ns k (call f a) x, fn-range f .high))
@@ -118,19 +119,19 @@ module _ (ns : List ℕ) (k : ℕ) (σ : Choices) where
   abbrev paired : Term × Term → Bytes
   paired p = openOf o ++ (text σ (p .0) ++ (signOf o ++ (text σ (p .1) ++ ascii ")")))
 
-  pub text-two : (t : Term) → 18 ≤ o → o < 21 → Holds ns k t → Shown (AtBoth (Holds ns) (Holds ns)) paired (text σ t)
-  unfolding text opOf Holds signs twoOp
+  pub text-two : (t : Term) → firstPair ≤ o → o < memberOp → Holds ns k t → Shown (AtBoth (Holds ns) (Holds ns)) paired (text σ t)
+  unfolding text opening parting opOf Holds signs twoOp
   text-two (base b) h l x = absurd (omega (arith, holds-op ns k (base b) x, base-small b))
   text-two (call f a) h l x = absurd (omega (arith, holds-op ns k (call f a) x, fn-range f .high))
   text-two (oe a) h l x = absurd (omega (arith, holds-op ns k (oe a) x))
   text-two (ao a) h l x = absurd (omega (arith, holds-op ns k (ao a) x))
-  text-two (two operations a b) h l x =
+  text-two (two (calls operations) a b) h l x =
       let y = both-parts (x .2) (omega arith) in
       record { thing = (a, b); held = (rw (y .left) (x .3), rw (y .right) (x .4)); written = rw (y .op) }
-  text-two (two meet a b) h l x =
+  text-two (two (joins meet) a b) h l x =
       let y = both-parts (x .2) (omega arith) in
       record { thing = (a, b); held = (rw (y .left) (x .3), rw (y .right) (x .4)); written = rw (y .op) }
-  text-two (two join a b) h l x =
+  text-two (two (joins join) a b) h l x =
       let y = both-parts (x .2) (omega arith) in
       record { thing = (a, b); held = (rw (y .left) (x .3), rw (y .right) (x .4)); written = rw (y .op) }
 

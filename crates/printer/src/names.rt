@@ -9,96 +9,122 @@ ghost use Rattle.syntax.specs.Term.{spell, isChoice};
 ghost use Rattle.syntax.specs.Rule.{digits};
 ghost use Rattle.printer.specs.code.Printed.{Puts};
 ghost use Rattle.printer.specs.code.Signs.{signOf, cmpSignOf, openOf};
+ghost use Rattle.syntax.specs.code.Nodes.{firstCall, firstPair, firstNumbered};
 use crate::sheet::put;
+use syntax::nodes::CP;
+use syntax::nodes::CR;
+use syntax::nodes::FIRST_CALL;
+use syntax::nodes::FIRST_PAIR;
+use syntax::nodes::IS;
+use syntax::nodes::IS_EMPTY;
+use syntax::nodes::ISNT;
+use syntax::nodes::JOIN;
+use syntax::nodes::MEET;
+use syntax::nodes::MEMBER;
+use syntax::nodes::OBJ;
+use syntax::nodes::OBJECT;
+use syntax::nodes::OE;
+use syntax::nodes::OP;
+use syntax::nodes::OPERATIONS;
+use syntax::nodes::P;
+use syntax::nodes::PERMISSIONS;
+use syntax::nodes::PERMISSIONS_STAR;
+use syntax::nodes::R;
+use syntax::nodes::ROLES;
+use syntax::nodes::ROLES_STAR;
+use syntax::nodes::S;
+use syntax::nodes::SESSIONS;
+use syntax::nodes::U;
+use syntax::nodes::USER;
 
-// U to CU: the operations 0 to 8.
+// The bases, U to CU.
 fn put_base(out: &mut [u8], op: u32) -> usize
-    requires { ⌜ op < 9 ⌝ }
+    requires { ⌜ op < firstCall ⌝ }
     ensures { λ r. ⌜ Puts (signOf op) (now (out .entry)) (now (out .exit)) r ⌝ }
 {
-    if op == 0 {
+    if op == U {
         return put(out, b"U");
     }
-    if op == 1 {
+    if op == R {
         return put(out, b"R");
     }
-    if op == 2 {
+    if op == OP {
         return put(out, b"OP");
     }
-    if op == 3 {
+    if op == OBJ {
         return put(out, b"OBJ");
     }
-    if op == 4 {
+    if op == P {
         return put(out, b"P");
     }
-    if op == 5 {
+    if op == S {
         return put(out, b"S");
     }
-    if op == 6 {
+    if op == CR {
         return put(out, b"CR");
     }
-    if op == 7 {
+    if op == CP {
         return put(out, b"CP");
     }
     put(out, b"CU")
 }
 
-// `user(` to `AO(`: the operations 9 to 17.
+// `user(` to `AO(`.
 fn put_call(out: &mut [u8], op: u32) -> usize
-    requires { ⌜ (9 ≤ op) × (op < 18) ⌝ }
+    requires { ⌜ (firstCall ≤ op) × (op < firstPair) ⌝ }
     ensures { λ r. ⌜ Puts (signOf op) (now (out .entry)) (now (out .exit)) r ⌝ }
 {
-    if op == 9 {
+    if op == USER {
         return put(out, b"user(");
     }
-    if op == 10 {
+    if op == ROLES {
         return put(out, b"roles(");
     }
-    if op == 11 {
+    if op == ROLES_STAR {
         return put(out, b"roles*(");
     }
-    if op == 12 {
+    if op == SESSIONS {
         return put(out, b"sessions(");
     }
-    if op == 13 {
+    if op == PERMISSIONS {
         return put(out, b"permissions(");
     }
-    if op == 14 {
+    if op == PERMISSIONS_STAR {
         return put(out, b"permissions*(");
     }
-    if op == 15 {
+    if op == OBJECT {
         return put(out, b"object(");
     }
-    if op == 16 {
+    if op == OE {
         return put(out, b"OE(");
     }
     put(out, b"AO(")
 }
 
-// What stands between two things: the operations 18 to 25.
+// What stands between two things.
 fn put_between(out: &mut [u8], op: u32) -> usize
-    requires { ⌜ (18 ≤ op) × (op < 26) ⌝ }
+    requires { ⌜ (firstPair ≤ op) × (op < firstNumbered) ⌝ }
     ensures { λ r. ⌜ Puts (signOf op) (now (out .entry)) (now (out .exit)) r ⌝ }
 {
-    if op == 18 {
+    if op == OPERATIONS {
         return put(out, b",");
     }
-    if op == 19 {
+    if op == MEET {
         return put(out, b"&");
     }
-    if op == 20 {
+    if op == JOIN {
         return put(out, b"+");
     }
-    if op == 21 {
+    if op == MEMBER {
         return put(out, b"@");
     }
-    if op == 22 {
+    if op == IS {
         return put(out, b"=");
     }
-    if op == 23 {
+    if op == ISNT {
         return put(out, b"!=");
     }
-    if op == 24 {
+    if op == IS_EMPTY {
         return put(out, b"=");
     }
     put(out, b"!=")
@@ -106,13 +132,13 @@ fn put_between(out: &mut [u8], op: u32) -> usize
 
 // The name or sign of an operation on terms.
 pub fn put_sign(out: &mut [u8], op: u32) -> usize
-    requires { ⌜ op < 26 ⌝ }
+    requires { ⌜ op < firstNumbered ⌝ }
     ensures { λ r. ⌜ Puts (signOf op) (now (out .entry)) (now (out .exit)) r ⌝ }
 {
-    if op < 9 {
+    if op < FIRST_CALL {
         return put_base(out, op);
     }
-    if op < 18 {
+    if op < FIRST_PAIR {
         return put_call(out, op);
     }
     put_between(out, op)
@@ -167,7 +193,7 @@ pub fn put_number(out: &mut [u8], m: usize) -> usize
 pub fn put_open(out: &mut [u8], op: u32) -> usize
     ensures { λ r. ⌜ Puts (openOf op) (now (out .entry)) (now (out .exit)) r ⌝ }
 {
-    if op == 18 {
+    if op == OPERATIONS {
         return put(out, b"operations(");
     }
     put(out, b"(")

@@ -1,28 +1,30 @@
 // The parts of a node.
 // Nothing here knows what the operations mean.
 ghost use mathlib.Core.Path.{_≡_};
-ghost use Prim.Native.Nat.{_/_, _%_, _<_};
+ghost use Prim.Native.Nat.{_<_};
 ghost use lib.ListN.{length, getD};
+ghost use Rattle.syntax.specs.code.Nodes.{opAt, leftAt, rightAt};
+use syntax::nodes::left;
+use syntax::nodes::operation;
+use syntax::nodes::right;
 
 pub fn op_at(nodes: &[u32], k: usize) -> u32
     requires { ⌜ k < length (now nodes) ⌝ }
-    ensures { λ r. ⌜ r ≡ getD (now (nodes .entry)) k 0 % 256 ⌝ }
+    ensures { λ r. ⌜ r ≡ opAt (now (nodes .entry)) k ⌝ }
 {
-    nodes[k] % 256
+    operation(nodes[k])
 }
 
 pub fn left_at(nodes: &[u32], k: usize) -> usize
     requires { ⌜ k < length (now nodes) ⌝ }
-    ensures { λ r. ⌜ r ≡ getD (now (nodes .entry)) k 0 / 256 % 4096 ⌝ }
+    ensures { λ r. ⌜ r ≡ leftAt (now (nodes .entry)) k ⌝ }
 {
-    let v = nodes[k];
-    (v / 256 % 4096) as usize
+    left(nodes[k]) as usize
 }
 
 pub fn right_at(nodes: &[u32], k: usize) -> usize
     requires { ⌜ k < length (now nodes) ⌝ }
-    ensures { λ r. ⌜ r ≡ getD (now (nodes .entry)) k 0 / 1048576 ⌝ }
+    ensures { λ r. ⌜ r ≡ rightAt (now (nodes .entry)) k ⌝ }
 {
-    let v = nodes[k];
-    (v / 1048576) as usize
+    right(nodes[k]) as usize
 }

@@ -2,13 +2,14 @@
 // A rule's text is written with no choices, a formula with those of its rule.
 ghost use mathlib.Core.Path.{_≡_};
 ghost use mathlib.Core.List.{_++_};
-ghost use Prim.Native.Nat.{_%_, _<_, _≤_};
+ghost use Prim.Native.Nat.{_<_, _≤_};
 ghost use lib.ListN.{length, getD, take};
 ghost use Rattle.syntax.specs.Bytes.{ascii};
 ghost use Rattle.syntax.specs.Term.{text};
 ghost use Rattle.syntax.specs.Rule.{testText, clauseText, ruleText};
 ghost use Rattle.syntax.specs.code.Arena.{Holds, HoldsTest, HoldsClause, HoldsRule};
 ghost use Rattle.printer.specs.code.Printed.{Prints, Ready, quantifier, quantifiersFrom, formulaIn, Any};
+ghost use Rattle.syntax.specs.code.Nodes.{memberOp, firstEmpty, firstNumbered, whenOp, opAt};
 use crate::names::put_bound;
 use crate::names::put_cmp;
 use crate::names::put_number;
@@ -18,11 +19,17 @@ use crate::nodes::op_at;
 use crate::nodes::right_at;
 use crate::sheet::put;
 use crate::terms::write_term;
+use syntax::nodes::ALSO;
+use syntax::nodes::FIRST_COUNTED;
+use syntax::nodes::FIRST_NUMBERED;
+use syntax::nodes::IS_EMPTY;
+use syntax::nodes::MEMBER;
+use syntax::nodes::WHEN;
 
 // Two terms with a sign between them.
 fn write_compared(nodes: &[u32], k: usize, vars: &[u32], out: &mut [u8]) -> usize
     requires { ⌜ Ready (now nodes) k (now vars) ⌝ }
-    requires { ⌜ (21 ≤ getD (now nodes) k 0 % 256) × (getD (now nodes) k 0 % 256 < 24) ⌝ }
+    requires { ⌜ (memberOp ≤ opAt (now nodes) k) × (opAt (now nodes) k < firstEmpty) ⌝ }
     ensures { λ r. ⌜ Prints (now (nodes .entry)) (now (vars .entry)) (HoldsTest (now (nodes .entry)) k) testText (now (out .entry)) (now (out .exit)) r ⌝ }
 {
     let op = op_at(nodes, k);
@@ -34,7 +41,7 @@ fn write_compared(nodes: &[u32], k: usize, vars: &[u32], out: &mut [u8]) -> usiz
 // A term compared with the empty set.
 fn write_empty(nodes: &[u32], k: usize, vars: &[u32], out: &mut [u8]) -> usize
     requires { ⌜ Ready (now nodes) k (now vars) ⌝ }
-    requires { ⌜ (24 ≤ getD (now nodes) k 0 % 256) × (getD (now nodes) k 0 % 256 < 26) ⌝ }
+    requires { ⌜ (firstEmpty ≤ opAt (now nodes) k) × (opAt (now nodes) k < firstNumbered) ⌝ }
     ensures { λ r. ⌜ Prints (now (nodes .entry)) (now (vars .entry)) (HoldsTest (now (nodes .entry)) k) testText (now (out .entry)) (now (out .exit)) r ⌝ }
 {
     let op = op_at(nodes, k);
@@ -56,14 +63,14 @@ fn write_count(nodes: &[u32], i: usize, vars: &[u32], out: &mut [u8]) -> usize
 // A count compared with a number or a count.
 fn write_sized(nodes: &[u32], k: usize, vars: &[u32], out: &mut [u8]) -> usize
     requires { ⌜ Ready (now nodes) k (now vars) ⌝ }
-    requires { ⌜ (26 ≤ getD (now nodes) k 0 % 256) × (getD (now nodes) k 0 % 256 < 38) ⌝ }
+    requires { ⌜ (firstNumbered ≤ opAt (now nodes) k) × (opAt (now nodes) k < whenOp) ⌝ }
     ensures { λ r. ⌜ Prints (now (nodes .entry)) (now (vars .entry)) (HoldsTest (now (nodes .entry)) k) testText (now (out .entry)) (now (out .exit)) r ⌝ }
 {
     let op = op_at(nodes, k);
     let mut at = write_count(nodes, left_at(nodes, k), vars, out);
-    at += put_cmp(&mut out[at..], (op - 26) % 6);
+    at += put_cmp(&mut out[at..], (op - FIRST_NUMBERED) % 6);
     let m = right_at(nodes, k);
-    if op < 32 {
+    if op < FIRST_COUNTED {
         return at + put_number(&mut out[at..], m);
     }
     at + write_count(nodes, m, vars, &mut out[at..])
@@ -75,16 +82,16 @@ fn write_test(nodes: &[u32], k: usize, vars: &[u32], out: &mut [u8]) -> usize
     ensures { λ r. ⌜ Prints (now (nodes .entry)) (now (vars .entry)) (HoldsTest (now (nodes .entry)) k) testText (now (out .entry)) (now (out .exit)) r ⌝ }
 {
     let op = op_at(nodes, k);
-    if op < 21 {
+    if op < MEMBER {
         return 0;
     }
-    if op < 24 {
+    if op < IS_EMPTY {
         return write_compared(nodes, k, vars, out);
     }
-    if op < 26 {
+    if op < FIRST_NUMBERED {
         return write_empty(nodes, k, vars, out);
     }
-    if op < 38 {
+    if op < WHEN {
         return write_sized(nodes, k, vars, out);
     }
     0
@@ -95,7 +102,7 @@ fn write_clause(nodes: &[u32], k: usize, vars: &[u32], out: &mut [u8]) -> usize
     requires { ⌜ Ready (now nodes) k (now vars) ⌝ }
     ensures { λ r. ⌜ Prints (now (nodes .entry)) (now (vars .entry)) (HoldsClause (now (nodes .entry)) k) clauseText (now (out .entry)) (now (out .exit)) r ⌝ }
 {
-    if op_at(nodes, k) != 38 {
+    if op_at(nodes, k) != WHEN {
         return write_test(nodes, k, vars, out);
     }
     let mut at = write_test(nodes, left_at(nodes, k), vars, out);
@@ -108,7 +115,7 @@ pub fn write_rule(nodes: &[u32], k: usize, vars: &[u32], out: &mut [u8]) -> usiz
     requires { ⌜ Ready (now nodes) k (now vars) ⌝ }
     ensures { λ r. ⌜ Prints (now (nodes .entry)) (now (vars .entry)) (HoldsRule (now (nodes .entry)) k) ruleText (now (out .entry)) (now (out .exit)) r ⌝ }
 {
-    if op_at(nodes, k) != 39 {
+    if op_at(nodes, k) != ALSO {
         return write_clause(nodes, k, vars, out);
     }
     let mut at = write_clause(nodes, left_at(nodes, k), vars, out);

@@ -3,13 +3,14 @@
 ghost use mathlib.Core.Path.{_≡_};
 ghost use mathlib.Core.List.{_++_};
 ghost use mathlib.Core.Option.{some};
-ghost use Prim.Native.Nat.{_+_, _%_, _<_, _≤_};
+ghost use Prim.Native.Nat.{_+_, _<_, _≤_};
 ghost use lib.ListN.{length, getD};
 ghost use Rattle.syntax.specs.Bytes.{ascii};
 ghost use Rattle.syntax.specs.Term.{text, aoText};
 ghost use Rattle.syntax.specs.code.Arena.{Holds};
 ghost use Rattle.printer.specs.code.Printed.{Prints, Ready};
 ghost use Rattle.printer.specs.code.Signs.{signOf};
+ghost use Rattle.syntax.specs.code.Nodes.{firstCall, firstPair, memberOp, opAt};
 use crate::names::put_choice;
 use crate::names::put_digit;
 use crate::names::put_open;
@@ -18,6 +19,10 @@ use crate::nodes::left_at;
 use crate::nodes::op_at;
 use crate::nodes::right_at;
 use crate::sheet::put;
+use syntax::nodes::FIRST_CALL;
+use syntax::nodes::FIRST_PAIR;
+use syntax::nodes::MEMBER;
+use syntax::nodes::OE;
 use syntax::places::seek;
 
 // The term at node `k`. A full sheet ends it at once: terms that stand in many places would take long.
@@ -29,13 +34,13 @@ pub fn write_term(nodes: &[u32], k: usize, vars: &[u32], out: &mut [u8]) -> usiz
         return 0;
     }
     let op = op_at(nodes, k);
-    if op < 9 {
+    if op < FIRST_CALL {
         return put_sign(out, op);
     }
-    if op < 18 {
+    if op < FIRST_PAIR {
         return write_one(nodes, k, vars, out);
     }
-    if op < 21 {
+    if op < MEMBER {
         return write_two(nodes, k, vars, out);
     }
     0
@@ -44,19 +49,19 @@ pub fn write_term(nodes: &[u32], k: usize, vars: &[u32], out: &mut [u8]) -> usiz
 // A call, an OE or an AO: by the choice's variable where it is known.
 fn write_one(nodes: &[u32], k: usize, vars: &[u32], out: &mut [u8]) -> usize
     requires { ⌜ Ready (now nodes) k (now vars) ⌝ }
-    requires { ⌜ (9 ≤ getD (now nodes) k 0 % 256) × (getD (now nodes) k 0 % 256 < 18) ⌝ }
+    requires { ⌜ (firstCall ≤ opAt (now nodes) k) × (opAt (now nodes) k < firstPair) ⌝ }
     ensures { λ r. ⌜ Prints (now (nodes .entry)) (now (vars .entry)) (Holds (now (nodes .entry)) k) text (now (out .entry)) (now (out .exit)) r ⌝ }
 {
     let op = op_at(nodes, k);
     let i = left_at(nodes, k);
-    if op < 16 {
+    if op < OE {
         return write_call(nodes, op, i, vars, out);
     }
     let d = seek(vars, vars.len(), i as u32);
     if d == vars.len() {
         return write_call(nodes, op, i, vars, out);
     }
-    if op == 16 {
+    if op == OE {
         return put_choice(out, d);
     }
     write_others(nodes, i, vars, d, out)
@@ -65,7 +70,7 @@ fn write_one(nodes: &[u32], k: usize, vars: &[u32], out: &mut [u8]) -> usize
 // A name, the term at node `i` and the closing bracket.
 fn write_call(nodes: &[u32], op: u32, i: usize, vars: &[u32], out: &mut [u8]) -> usize
     requires { ⌜ Ready (now nodes) i (now vars) ⌝ }
-    requires { ⌜ (9 ≤ op) × (op < 18) ⌝ }
+    requires { ⌜ (firstCall ≤ op) × (op < firstPair) ⌝ }
     ensures { λ r. ⌜ Prints (now (nodes .entry)) (now (vars .entry)) (Holds (now (nodes .entry)) i) (λ σ a. signOf op ++ (text σ a ++ ascii ")")) (now (out .entry)) (now (out .exit)) r ⌝ }
 {
     let mut at = put_sign(out, op);
@@ -89,7 +94,7 @@ fn write_others(nodes: &[u32], i: usize, vars: &[u32], d: usize, out: &mut [u8])
 // Two terms in brackets.
 fn write_two(nodes: &[u32], k: usize, vars: &[u32], out: &mut [u8]) -> usize
     requires { ⌜ Ready (now nodes) k (now vars) ⌝ }
-    requires { ⌜ (18 ≤ getD (now nodes) k 0 % 256) × (getD (now nodes) k 0 % 256 < 21) ⌝ }
+    requires { ⌜ (firstPair ≤ opAt (now nodes) k) × (opAt (now nodes) k < memberOp) ⌝ }
     ensures { λ r. ⌜ Prints (now (nodes .entry)) (now (vars .entry)) (Holds (now (nodes .entry)) k) text (now (out .entry)) (now (out .exit)) r ⌝ }
 {
     let op = op_at(nodes, k);

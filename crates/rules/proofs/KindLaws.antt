@@ -13,18 +13,19 @@ use lib.ListN.{length, getD, set}
 use lib.Seq.{getD-set-same, getD-set-other}
 use borrow.Author.Tests.{lt-ltb, le-ltb}
 use Rattle.syntax.specs.Term.{Base, bU, bR, bOP, bOBJ, bP, bS, bCR, bCP, bCU, Fn, user, roles, roles*, sessions, permissions, permissions*, object}
-use Rattle.syntax.specs.Term.{Op, operations, meet, join, Term, base, call, oe, ao, two}
+use Rattle.syntax.specs.Term.{operations, meet, join, Term, base, call, oe, ao, two, Pair, calls, joins}
 use Rattle.syntax.specs.Rule.{Cmp, lt, le, gt, ge, eq, ne, Sign, is, isnt, number, count, Test, member, alike, empty, sized}
 use Rattle.syntax.specs.Rule.{Clause, plain, when, Rule, last, also}
-use Rattle.syntax.specs.code.Arena.{baseOp, fnOp, oeOp, aoOp, memberOp, whenOp, alsoOp, twoOp, alikeOp, emptyOp, cmpNumber, One}
+use Rattle.syntax.specs.code.Arena.{baseOp, fnOp, twoOp, alikeOp, emptyOp, cmpNumber, One}
 use Rattle.syntax.specs.code.Arena.{Holds, HoldsTest, HoldsClause, HoldsRule}
+use Rattle.syntax.specs.code.Nodes.{firstCall, oeOp, aoOp, firstPair, memberOp, firstAlike, firstEmpty, firstNumbered, firstCounted, whenOp, alsoOp, opAt, leftAt, rightAt, opRoom}
 use Rattle.syntax.proofs.ArenaLaws.{base-small, two-range, Parts, none-parts, one-parts, both-parts}
 use Rattle.rules.specs.Kind.{Kind, Kind≟, holds, oneOf, baseKind, takes, makes, ofElement}
-use Rattle.rules.specs.Kind.{callKind, inside, oneKind, othersKind, asSet, joined, twoKind, with, kind, check, countable, isMember, countKinds}
+use Rattle.rules.specs.Kind.{callKind, inside, oneKind, othersKind, asSet, joined, row, call2Kind, twoKind, with, kind, check, countable, isMember, countKinds}
 use Rattle.rules.specs.Kind.{testKinds, clauseKinds, ruleKinds}
-use Rattle.rules.specs.code.Numbers.{noKind, kindsFit, kindList, kindOf, oneArgument, oneTable, oneNumber, setNumber, twoNumber, countableNumber, fitsNumber, nodeNumber, KindAt, Kinded}
+use Rattle.rules.specs.code.Numbers.{noKind, kindsFit, kindList, kindOf, oneArgument, oneTable, oneNumber, setNumber, pairTable, call2Number, twoNumber, countableNumber, fitsNumber, nodeNumber, KindAt, Kinded}
 use Rattle.rules.proofs.TableLaws.{left-of-and, right-of-and, entry, upto, below, pair}
-use Rattle.rules.proofs.NodeLaws.{opOf, leftOf, rightOf, numbered-parts}
+use Rattle.rules.proofs.NodeLaws.{numbered-parts}
 
 -- Tests of equality that are computed.
 
@@ -82,35 +83,35 @@ table-law : (k : ℕ) → k < 135 → Numbers (getD oneTable k 0) (with (kindOf 
 unfolding tableRight numbersB sameKind kindOf kindList oneArgument callKind oneOf takes makes ofElement oneKind inside othersKind oneTable
 table-law k h = numbers (getD oneTable k 0) (with (kindOf (k % 15)) (getD oneArgument (k / 15) (λ _. none))) (entry tableRight oneTable tt k h)
 
-one-law : (o x : ℕ) → 9 ≤ o → o < 18 → x < kindsFit → Numbers (oneNumber o x) (with (kindOf x) (getD oneArgument (o - 9) (λ _. none)))
+one-law : (o x : ℕ) → firstCall ≤ o → o < firstPair → x < kindsFit → Numbers (oneNumber o x) (with (kindOf x) (getD oneArgument (o - firstCall) (λ _. none)))
 unfolding oneNumber kindOf kindList
 one-law o x lo hi h = ⊎-elim at-none at-some (eq-or-lt-of-le le)
   where
     le : x ≤ noKind
     le = omega arith
 
-    at-none : x ≡ noKind → Numbers (oneNumber o x) (with (kindOf x) (getD oneArgument (o - 9) (λ _. none)))
+    at-none : x ≡ noKind → Numbers (oneNumber o x) (with (kindOf x) (getD oneArgument (o - firstCall) (λ _. none)))
     at-none e = rw e (record { small = lit< tt; is = refl })
 
-    at-some : x < noKind → Numbers (oneNumber o x) (with (kindOf x) (getD oneArgument (o - 9) (λ _. none)))
+    at-some : x < noKind → Numbers (oneNumber o x) (with (kindOf x) (getD oneArgument (o - firstCall) (λ _. none)))
     at-some l =
-        let k : ℕ = 15 * (o - 9) + x in
+        let k : ℕ = 15 * (o - firstCall) + x in
         let p : k % 15 ≡ x = omega arith in
-        let q : k / 15 ≡ o - 9 = omega arith in
+        let q : k / 15 ≡ o - firstCall = omega arith in
         rw (lt-ltb x noKind l) (rw p at (rw q at (table-law k (omega arith))))
 
 -- Two arguments, at all pairs of numbers.
 
-twoRight : Op → ℕ → ℕ → Bool
+twoRight : Pair → ℕ → ℕ → Bool
 twoRight o a b = numbersB (twoNumber (twoOp o) a b) (with (kindOf a) (λ k. with (kindOf b) (λ l. twoKind o k l)))
 
-two-right : (o : Op) → T (upto (λ a. upto (twoRight o a) kindsFit) kindsFit)
-unfolding twoRight numbersB sameKind kindOf kindList twoOp twoNumber setNumber twoKind joined asSet
-two-right operations = tt
-two-right meet = tt
-two-right join = tt
+two-right : (o : Pair) → T (upto (λ a. upto (twoRight o a) kindsFit) kindsFit)
+unfolding twoRight numbersB sameKind kindOf kindList twoOp twoNumber call2Number pairTable setNumber twoKind call2Kind row joined asSet
+two-right (calls operations) = tt
+two-right (joins meet) = tt
+two-right (joins join) = tt
 
-two-law : (o : Op) (a b : ℕ) → a < kindsFit → b < kindsFit → Numbers (twoNumber (twoOp o) a b) (with (kindOf a) (λ k. with (kindOf b) (λ l. twoKind o k l)))
+two-law : (o : Pair) (a b : ℕ) → a < kindsFit → b < kindsFit → Numbers (twoNumber (twoOp o) a b) (with (kindOf a) (λ k. with (kindOf b) (λ l. twoKind o k l)))
 unfolding twoRight
 two-law o a b h l = numbers (twoNumber (twoOp o) a b) (with (kindOf a) (λ k. with (kindOf b) (λ l. twoKind o k l))) (pair (twoRight o) kindsFit (two-right o) a b h l)
 
@@ -132,44 +133,44 @@ alike-law : (g : Sign) (a b : ℕ) → a < kindsFit → b < kindsFit → fitsNum
 unfolding sameBool fitsNumber alikeOp kindOf kindList
 alike-law g a b h l =
     same-sign g
-    ∙ same-bool (fitsNumber 22 a b) (check (kindOf a) (λ k. check (kindOf b) (λ l. holds (Kind≟ k l))))
-    (pair (λ a b. sameBool (fitsNumber 22 a b) (check (kindOf a) (λ k. check (kindOf b) (λ l. holds (Kind≟ k l))))) kindsFit tt a b h l)
+    ∙ same-bool (fitsNumber firstAlike a b) (check (kindOf a) (λ k. check (kindOf b) (λ l. holds (Kind≟ k l))))
+    (pair (λ a b. sameBool (fitsNumber firstAlike a b) (check (kindOf a) (λ k. check (kindOf b) (λ l. holds (Kind≟ k l))))) kindsFit tt a b h l)
   where
-    same-sign : (g : Sign) → fitsNumber (alikeOp g) a b ≡ fitsNumber 22 a b
+    same-sign : (g : Sign) → fitsNumber (alikeOp g) a b ≡ fitsNumber firstAlike a b
     same-sign is = refl
     same-sign isnt = refl
 
-counted-law : (o a b : ℕ) → 24 ≤ o → o < 32 → fitsNumber o a b ≡ countableNumber a
+counted-law : (o a b : ℕ) → firstEmpty ≤ o → o < firstCounted → fitsNumber o a b ≡ countableNumber a
 unfolding fitsNumber
 counted-law o a b lo hi =
-    let p : 22 ≤ o = omega arith in
-    rw (le-ltb o 22 p, le-ltb o 24 lo, lt-ltb o 32 hi)
+    let p : firstAlike ≤ o = omega arith in
+    rw (le-ltb o firstAlike p, le-ltb o firstEmpty lo, lt-ltb o firstCounted hi)
 
 cond-and : (x y : Bool) → cond x y false ≡ (x && y)
 cond-and true y = refl
 cond-and false y = refl
 
-counts-law : (o a b : ℕ) → 32 ≤ o → o < 38 → fitsNumber o a b ≡ (countableNumber a && countableNumber b)
+counts-law : (o a b : ℕ) → firstCounted ≤ o → o < whenOp → fitsNumber o a b ≡ (countableNumber a && countableNumber b)
 unfolding fitsNumber
 counts-law o a b lo hi =
-    let p : 22 ≤ o = omega arith in
-    let q : 24 ≤ o = omega arith in
-    rw (le-ltb o 22 p, le-ltb o 24 q, le-ltb o 32 lo, lt-ltb o 38 hi) (cond-and (countableNumber a) (countableNumber b))
+    let p : firstAlike ≤ o = omega arith in
+    let q : firstEmpty ≤ o = omega arith in
+    rw (le-ltb o firstAlike p, le-ltb o firstEmpty q, le-ltb o firstCounted lo, lt-ltb o whenOp hi) (cond-and (countableNumber a) (countableNumber b))
 
-joined-law : (o a b : ℕ) → 38 ≤ o → fitsNumber o a b ≡ (eqb a kindsFit && eqb b kindsFit)
+joined-law : (o a b : ℕ) → whenOp ≤ o → fitsNumber o a b ≡ (eqb a kindsFit && eqb b kindsFit)
 unfolding fitsNumber
 joined-law o a b lo =
-    let p : 22 ≤ o = omega arith in
-    let q : 24 ≤ o = omega arith in
-    let r : 32 ≤ o = omega arith in
-    rw (le-ltb o 22 p, le-ltb o 24 q, le-ltb o 32 r, le-ltb o 38 lo) (cond-and (eqb a kindsFit) (eqb b kindsFit))
+    let p : firstAlike ≤ o = omega arith in
+    let q : firstEmpty ≤ o = omega arith in
+    let r : firstCounted ≤ o = omega arith in
+    rw (le-ltb o firstAlike p, le-ltb o firstEmpty q, le-ltb o firstCounted r, le-ltb o whenOp lo) (cond-and (eqb a kindsFit) (eqb b kindsFit))
 
-fits-law : (o a b : ℕ) → 21 ≤ o → eqb (nodeNumber o a b) kindsFit ≡ fitsNumber o a b
+fits-law : (o a b : ℕ) → memberOp ≤ o → eqb (nodeNumber o a b) kindsFit ≡ fitsNumber o a b
 unfolding nodeNumber
 fits-law o a b h =
-    let p : 9 ≤ o = omega arith in
-    let q : 18 ≤ o = omega arith in
-    rw (le-ltb o 9 p, le-ltb o 18 q, le-ltb o 21 h) (go (fitsNumber o a b))
+    let p : firstCall ≤ o = omega arith in
+    let q : firstPair ≤ o = omega arith in
+    rw (le-ltb o firstCall p, le-ltb o firstPair q, le-ltb o memberOp h) (go (fitsNumber o a b))
   where
     go : (x : Bool) → eqb (cond x kindsFit noKind) kindsFit ≡ x
     go true = refl
@@ -178,13 +179,13 @@ fits-law o a b h =
 -- A node's number, by the numbers of the nodes below it.
 
 abbrev pub stepNumber : List ℕ → List ℕ → ℕ → ℕ
-stepNumber ns ks k = nodeNumber (opOf ns k) (getD ks (leftOf ns k) noKind) (getD ks (rightOf ns k) noKind)
+stepNumber ns ks k = nodeNumber (opAt ns k) (getD ks (leftAt ns k) noKind) (getD ks (rightAt ns k) noKind)
 
 -- The operation o makes a term of one argument, whose kind f gives.
 record Makes (o : ℕ) (f : Kind → Option Kind) : Type 0 where
-  low : 9 ≤ o
-  high : o < 18
-  is : getD oneArgument (o - 9) (λ _. none) ≡ f
+  low : firstCall ≤ o
+  high : o < firstPair
+  is : getD oneArgument (o - firstCall) (λ _. none) ≡ f
 
 fn-makes : (f : Fn) → Makes (fnOp f) (callKind f)
 unfolding fnOp oneArgument
@@ -219,21 +220,21 @@ base-numbers bCU x y = record { small = lit< tt; is = refl }
 one-numbers : {o : ℕ} {f : Kind → Option Kind} → Makes o f → (x y : ℕ) → x < kindsFit → Numbers (nodeNumber o x y) (with (kindOf x) f)
 unfolding nodeNumber
 one-numbers {o} {f} m x y h =
-    rw (le-ltb o 9 (m .low), lt-ltb o 18 (m .high)) (subst (λ (g : Kind → Option Kind). Numbers (oneNumber o x) (with (kindOf x) g)) (m .is) (one-law o x (m .low) (m .high) h))
+    rw (le-ltb o firstCall (m .low), lt-ltb o firstPair (m .high)) (subst (λ (g : Kind → Option Kind). Numbers (oneNumber o x) (with (kindOf x) g)) (m .is) (one-law o x (m .low) (m .high) h))
 
-two-numbers : (o : Op) (x y : ℕ) → x < kindsFit → y < kindsFit → Numbers (nodeNumber (twoOp o) x y) (with (kindOf x) (λ k. with (kindOf y) (λ l. twoKind o k l)))
+two-numbers : (o : Pair) (x y : ℕ) → x < kindsFit → y < kindsFit → Numbers (nodeNumber (twoOp o) x y) (with (kindOf x) (λ k. with (kindOf y) (λ l. twoKind o k l)))
 unfolding nodeNumber
 two-numbers o x y h l =
     let lo = two-range o .low in
-    let p : 9 ≤ twoOp o = omega arith in
-    rw (le-ltb (twoOp o) 9 p, le-ltb (twoOp o) 18 lo, lt-ltb (twoOp o) 21 (two-range o .high)) (two-law o x y h l)
+    let p : firstCall ≤ twoOp o = omega arith in
+    rw (le-ltb (twoOp o) firstCall p, le-ltb (twoOp o) firstPair lo, lt-ltb (twoOp o) memberOp (two-range o .high)) (two-law o x y h l)
 
-pub alike-op : (g : Sign) → (21 ≤ alikeOp g) × (alikeOp g < 24)
+pub alike-op : (g : Sign) → (memberOp ≤ alikeOp g) × (alikeOp g < firstEmpty)
 unfolding alikeOp
 alike-op is = (lit≤ tt, lit< tt)
 alike-op isnt = (lit≤ tt, lit< tt)
 
-pub empty-op : (g : Sign) → (24 ≤ emptyOp g) × (emptyOp g < 26)
+pub empty-op : (g : Sign) → (firstEmpty ≤ emptyOp g) × (emptyOp g < firstNumbered)
 unfolding emptyOp
 empty-op is = (lit≤ tt, lit< tt)
 empty-op isnt = (lit≤ tt, lit< tt)
@@ -249,12 +250,12 @@ cmp-number ne = lit< tt
 
 module _ (ns ks : List ℕ) (k : ℕ) (below : Kinded ns k ks) where
   -- What is known of the terms at the node's left and right.
-  at-left : {o i j : ℕ} (a : Term) → Parts (getD ns k 0) o i j → i < k → Holds ns i a → Numbers (getD ks (leftOf ns k) noKind) (kind a)
+  at-left : {o i j : ℕ} (a : Term) → Parts (getD ns k 0) o i j → i < k → Holds ns i a → Numbers (getD ks (leftAt ns k) noKind) (kind a)
   at-left {o} {i} a p h x =
       let w = below .at i h .term a x in
       rw (p .left) (record { small = w .0; is = w .1 })
 
-  at-right : {j : ℕ} (b : Term) → rightOf ns k ≡ j → j < k → Holds ns j b → Numbers (getD ks (rightOf ns k) noKind) (kind b)
+  at-right : {j : ℕ} (b : Term) → rightAt ns k ≡ j → j < k → Holds ns j b → Numbers (getD ks (rightAt ns k) noKind) (kind b)
   at-right {j} b p h x =
       let w = below .at j h .term b x in
       rw p (record { small = w .0; is = w .1 })
@@ -263,30 +264,30 @@ module _ (ns ks : List ℕ) (k : ℕ) (below : Kinded ns k ks) where
   one-step {o} {i} {f} a m x y =
       let p = one-parts x (omega arith) in
       let w = at-left a p (x .below) y in
-      rw (p .op, ← w .is) (one-numbers m (getD ks (leftOf ns k) noKind) (getD ks (rightOf ns k) noKind) (w .small))
+      rw (p .op, ← w .is) (one-numbers m (getD ks (leftAt ns k) noKind) (getD ks (rightAt ns k) noKind) (w .small))
 
   term-step : (t : Term) → Holds ns k t → Numbers (stepNumber ns ks k) (kind t)
   unfolding Holds kind
-  term-step (base b) x = let h : baseOp b < 256 = omega (arith, base-small b) in rw (none-parts x h .op) (base-numbers b (getD ks (leftOf ns k) noKind) (getD ks (rightOf ns k) noKind))
+  term-step (base b) x = let h : baseOp b < opRoom = omega (arith, base-small b) in rw (none-parts x h .op) (base-numbers b (getD ks (leftAt ns k) noKind) (getD ks (rightAt ns k) noKind))
   term-step (call f a) x = one-step a (fn-makes f) (x .1) (x .2)
   term-step (oe a) x = one-step a oe-makes (x .1) (x .2)
   term-step (ao a) x = one-step a ao-makes (x .1) (x .2)
   term-step (two o a b) x =
-      let h : twoOp o < 256 = omega (arith, two-range o .high) in
+      let h : twoOp o < opRoom = omega (arith, two-range o .high) in
       let p = both-parts (x .2) h in
       let v = at-left a p (x .2 .below) (x .3) in
       let w = at-right b (p .right) (x .2 .below₂) (x .4) in
-      rw (p .op, ← v .is, ← w .is) (two-numbers o (getD ks (leftOf ns k) noKind) (getD ks (rightOf ns k) noKind) (v .small) (w .small))
+      rw (p .op, ← v .is, ← w .is) (two-numbers o (getD ks (leftAt ns k) noKind) (getD ks (rightAt ns k) noKind) (v .small) (w .small))
 
   -- The number of a test, a clause or a rule is kindsFit where it fits.
-  fits-step : {o i j : ℕ} → 21 ≤ o → Parts (getD ns k 0) o i j → eqb (stepNumber ns ks k) kindsFit ≡ fitsNumber o (getD ks (leftOf ns k) noKind) (getD ks (rightOf ns k) noKind)
-  fits-step {o} h p = rw (p .op) (fits-law o (getD ks (leftOf ns k) noKind) (getD ks (rightOf ns k) noKind) h)
+  fits-step : {o i j : ℕ} → memberOp ≤ o → Parts (getD ns k 0) o i j → eqb (stepNumber ns ks k) kindsFit ≡ fitsNumber o (getD ks (leftAt ns k) noKind) (getD ks (rightAt ns k) noKind)
+  fits-step {o} h p = rw (p .op) (fits-law o (getD ks (leftAt ns k) noKind) (getD ks (rightAt ns k) noKind) h)
 
-  counted-step : {o i j : ℕ} (a : Term) → 24 ≤ o → o < 32 → Parts (getD ns k 0) o i j → i < k → Holds ns i a → eqb (stepNumber ns ks k) kindsFit ≡ check (kind a) countable
+  counted-step : {o i j : ℕ} (a : Term) → firstEmpty ≤ o → o < firstCounted → Parts (getD ns k 0) o i j → i < k → Holds ns i a → eqb (stepNumber ns ks k) kindsFit ≡ check (kind a) countable
   counted-step {o} a lo hi p h x =
       let w = at-left a p h x in
-      let q : 21 ≤ o = omega arith in
-      fits-step q p ∙ counted-law o (getD ks (leftOf ns k) noKind) (getD ks (rightOf ns k) noKind) lo hi ∙ countable-law (getD ks (leftOf ns k) noKind) (w .small) ∙ rw (w .is)
+      let q : memberOp ≤ o = omega arith in
+      fits-step q p ∙ counted-law o (getD ks (leftAt ns k) noKind) (getD ks (rightAt ns k) noKind) lo hi ∙ countable-law (getD ks (leftAt ns k) noKind) (w .small) ∙ rw (w .is)
 
   test-step : (p : Test) → HoldsTest ns k p → eqb (stepNumber ns ks k) kindsFit ≡ testKinds p
   unfolding HoldsTest testKinds countKinds
@@ -294,29 +295,29 @@ module _ (ns ks : List ℕ) (k : ℕ) (below : Kinded ns k ks) where
       let p = both-parts (x .2) (lit< tt) in
       let v = at-left a p (x .2 .below) (x .3) in
       let w = at-right b (p .right) (x .2 .below₂) (x .4) in
-      fits-step (lit≤ tt) p ∙ rw (← v .is, ← w .is) (member-law (getD ks (leftOf ns k) noKind) (getD ks (rightOf ns k) noKind) (v .small) (w .small))
+      fits-step (lit≤ tt) p ∙ rw (← v .is, ← w .is) (member-law (getD ks (leftAt ns k) noKind) (getD ks (rightAt ns k) noKind) (v .small) (w .small))
   test-step (alike g a b) x =
-      let h : alikeOp g < 256 = omega (arith, alike-op g .1) in
+      let h : alikeOp g < opRoom = omega (arith, alike-op g .1) in
       let p = both-parts (x .2) h in
       let v = at-left a p (x .2 .below) (x .3) in
       let w = at-right b (p .right) (x .2 .below₂) (x .4) in
-      fits-step (alike-op g .0) p ∙ rw (← v .is, ← w .is) (alike-law g (getD ks (leftOf ns k) noKind) (getD ks (rightOf ns k) noKind) (v .small) (w .small))
+      fits-step (alike-op g .0) p ∙ rw (← v .is, ← w .is) (alike-law g (getD ks (leftAt ns k) noKind) (getD ks (rightAt ns k) noKind) (v .small) (w .small))
   test-step (empty g a) x =
-      let h : emptyOp g < 256 = omega (arith, empty-op g .1) in
+      let h : emptyOp g < opRoom = omega (arith, empty-op g .1) in
       counted-step a (empty-op g .0) (omega (arith, empty-op g .1)) (one-parts (x .1) h) (x .1 .below) (x .2)
   test-step (sized c a (number m)) x =
       let l = cmp-number c in
-      let h : 26 + cmpNumber c < 256 = omega arith in
+      let h : firstNumbered + cmpNumber c < opRoom = omega arith in
       counted-step a (omega arith) (omega arith) (numbered-parts (x .1) h) (x .1 .below) (x .2) ∙ sym (and-true (check (kind a) countable))
   test-step (sized c a (count b)) x =
       let l = cmp-number c in
-      let h : 32 + cmpNumber c < 256 = omega arith in
+      let h : firstCounted + cmpNumber c < opRoom = omega arith in
       let p = both-parts (x .2) h in
       let v = at-left a p (x .2 .below) (x .3) in
       let w = at-right b (p .right) (x .2 .below₂) (x .4) in
       fits-step (omega arith) p
-      ∙ counts-law (32 + cmpNumber c) (getD ks (leftOf ns k) noKind) (getD ks (rightOf ns k) noKind) (omega arith) (omega arith)
-      ∙ rw (← v .is, ← w .is) (ap₂ _&&_ (countable-law (getD ks (leftOf ns k) noKind) (v .small)) (countable-law (getD ks (rightOf ns k) noKind) (w .small)))
+      ∙ counts-law (firstCounted + cmpNumber c) (getD ks (leftAt ns k) noKind) (getD ks (rightAt ns k) noKind) (omega arith) (omega arith)
+      ∙ rw (← v .is, ← w .is) (ap₂ _&&_ (countable-law (getD ks (leftAt ns k) noKind) (v .small)) (countable-law (getD ks (rightAt ns k) noKind) (w .small)))
 
   clause-step : (c : Clause) → HoldsClause ns k c → eqb (stepNumber ns ks k) kindsFit ≡ clauseKinds c
   unfolding HoldsClause clauseKinds
@@ -324,7 +325,7 @@ module _ (ns ks : List ℕ) (k : ℕ) (below : Kinded ns k ks) where
   clause-step (when p q) x =
       let w = both-parts (x .2) (lit< tt) in
       fits-step (lit≤ tt) w
-      ∙ joined-law whenOp (getD ks (leftOf ns k) noKind) (getD ks (rightOf ns k) noKind) (lit≤ tt)
+      ∙ joined-law whenOp (getD ks (leftAt ns k) noKind) (getD ks (rightAt ns k) noKind) (lit≤ tt)
       ∙ rw (w .left, w .right) (ap₂ _&&_ (below .at (x .0) (x .2 .below) .test p (x .3)) (below .at (x .1) (x .2 .below₂) .test q (x .4)))
 
   rule-step : (ρ : Rule) → HoldsRule ns k ρ → eqb (stepNumber ns ks k) kindsFit ≡ ruleKinds ρ
@@ -333,7 +334,7 @@ module _ (ns ks : List ℕ) (k : ℕ) (below : Kinded ns k ks) where
   rule-step (also c ρ) x =
       let w = both-parts (x .2) (lit< tt) in
       fits-step (lit≤ tt) w
-      ∙ joined-law alsoOp (getD ks (leftOf ns k) noKind) (getD ks (rightOf ns k) noKind) (lit≤ tt)
+      ∙ joined-law alsoOp (getD ks (leftAt ns k) noKind) (getD ks (rightAt ns k) noKind) (lit≤ tt)
       ∙ rw (w .left, w .right) (ap₂ _&&_ (below .at (x .0) (x .2 .below) .clause c (x .3)) (below .at (x .1) (x .2 .below₂) .rule ρ (x .4)))
 
   -- One node more.

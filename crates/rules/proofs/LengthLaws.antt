@@ -13,24 +13,25 @@ use lib.Seq.{take-length, getD-set-same, getD-set-other}
 use mathlib.Core.Logic.{⊎-elim}
 use borrow.Author.Tests.{lt-ltb, le-ltb, ne-eqb}
 use Rattle.syntax.specs.Term.{Base, bU, bR, bOP, bOBJ, bP, bS, bCR, bCP, bCU, Fn, user, roles, roles*, sessions, permissions, permissions*, object}
-use Rattle.syntax.specs.Term.{Op, operations, meet, join, Term, base, call, oe, ao, two, Choices, digit, isBase, isCall}
-use Rattle.syntax.specs.Term.{spell, spellMiddle, oeText, aoText, text}
+use Rattle.syntax.specs.Term.{operations, meet, join, Term, base, call, oe, ao, two, Choices, digit, isBase, isCall}
+use Rattle.syntax.specs.Term.{spell, spellMiddle, oeText, aoText, text, Pair, calls, joins, opening, parting}
 use Rattle.syntax.specs.Rule.{Cmp, lt, le, gt, ge, eq, ne, Sign, is, isnt, number, count, Test, member, alike, empty, sized}
 use Rattle.syntax.specs.Rule.{Clause, plain, when, last, also, spellCmp, isSign, spellBetween, digits, countText, testText, clauseText, ruleText}
 use Rattle.syntax.specs.code.Arena.{baseOp, fnOp, twoOp, alikeOp, emptyOp, cmpNumber, hasTwo, One, Both, Holds, HoldsTest, HoldsClause, HoldsRule, Apart}
 use Rattle.syntax.specs.code.Reading.{mk, Knows, Sought}
+use Rattle.syntax.specs.code.Nodes.{firstCall, oeOp, aoOp, firstPair, firstJoin, memberOp, firstEmpty, firstNumbered, firstCounted, whenOp, alsoOp, opsEnd, opAt, leftAt, rightAt, opRoom}
 use Rattle.rules.specs.code.Thing.{Thing, term, test, clause, rule, HoldsThing, thingText}
 use Rattle.rules.specs.code.Lengths.{extraTable, extra, plainLength, knownLength, nodeLength, capped, Measured}
 use Rattle.rules.proofs.TableLaws.{entry}
 use Rattle.syntax.proofs.ArenaLaws.{base-small, fn-range, two-range, Parts, none-parts, one-parts, both-parts}
 use Rattle.rules.proofs.KindLaws.{alike-op, empty-op, cmp-number}
-use Rattle.rules.proofs.NodeLaws.{opOf, leftOf, rightOf, numbered-parts, lt-or-le}
+use Rattle.rules.proofs.NodeLaws.{numbered-parts, lt-or-le}
 use Rattle.rules.proofs.VariableLaws.{digit-found, found-digit}
 use Rattle.rules.proofs.WalkLaws.{two-less, two-none, two-low, two-high}
 
 -- The table: no entry is above 14, and each is the length of what is spelled.
 
-pub extra-small : (o : ℕ) → o < 40 → extra o ≤ 14
+pub extra-small : (o : ℕ) → o < opsEnd → extra o ≤ 14
 unfolding extra extraTable
 extra-small o h = leb→le (getD extraTable o 0) 14 (entry (λ _ x. leb x 14) extraTable tt o h)
 
@@ -61,7 +62,7 @@ unfolding spellBetween alikeOp emptyOp extra extraTable
 sign-extra is = (refl, refl)
 sign-extra isnt = (refl, refl)
 
-cmp-extra : (c : Cmp) → (length (spellCmp c) + 2 ≡ extra (26 + cmpNumber c)) × (length (spellCmp c) + 4 ≡ extra (32 + cmpNumber c))
+cmp-extra : (c : Cmp) → (length (spellCmp c) + 2 ≡ extra (firstNumbered + cmpNumber c)) × (length (spellCmp c) + 4 ≡ extra (firstCounted + cmpNumber c))
 unfolding spellCmp cmpNumber extra extraTable
 cmp-extra lt = (refl, refl)
 cmp-extra le = (refl, refl)
@@ -79,14 +80,14 @@ digits-length m = go (ltb m 10) refl
     go false e = rw (e, digits)
 
 record Extras : Type 0 where
-  one : extra 16 ≡ 4
-  rest : extra 17 ≡ 4
-  calls : extra 18 ≡ 13
-  meets : extra 19 ≡ 3
-  joins : extra 20 ≡ 3
-  members : extra 21 ≡ 1
-  whens : extra 38 ≡ 2
-  alsos : extra 39 ≡ 1
+  one : extra oeOp ≡ 4
+  rest : extra aoOp ≡ 4
+  calls : extra firstPair ≡ 13
+  meets : extra firstJoin ≡ 3
+  joins : extra (firstJoin + 1) ≡ 3
+  members : extra memberOp ≡ 1
+  whens : extra whenOp ≡ 2
+  alsos : extra alsoOp ≡ 1
 
 extras : Extras
 unfolding extra extraTable
@@ -97,43 +98,43 @@ abbrev len : Choices → Thing → ℕ
 len σ x = length (thingText σ x)
 
 data Spelt (ns : List ℕ) (k : ℕ) (σ : Choices) (x : Thing) : Type 0 where
-  bare : opOf ns k < 9 → len σ x ≡ extra (opOf ns k) → Spelt ns k σ x
-  chosen : (a : Term) {d : ℕ} → opOf ns k ≡ 16 → leftOf ns k < k → Holds ns (leftOf ns k) a → digit σ a ≡ some d → len σ x ≡ 2 → Spelt ns k σ x
-  others : (a : Term) {d : ℕ} → opOf ns k ≡ 17 → leftOf ns k < k → Holds ns (leftOf ns k) a → digit σ a ≡ some d → len σ x ≡ 7 + len σ (term a) → Spelt ns k σ x
-  unknown : (a : Term) → 16 ≤ opOf ns k → opOf ns k < 18 → leftOf ns k < k → Holds ns (leftOf ns k) a → digit σ a ≡ none → len σ x ≡ extra (opOf ns k) + len σ (term a) → Spelt ns k σ x
-  single : (y : Thing) → 9 ≤ opOf ns k → opOf ns k < 26 → (16 ≤ opOf ns k → 24 ≤ opOf ns k) → leftOf ns k < k → HoldsThing ns (leftOf ns k) y → len σ x ≡ extra (opOf ns k) + len σ y → Spelt ns k σ x
-  numbered : (y : Thing) → 26 ≤ opOf ns k → opOf ns k < 32 → leftOf ns k < k → HoldsThing ns (leftOf ns k) y → len σ x ≡ extra (opOf ns k) + len σ y + cond (ltb (rightOf ns k) 10) 1 2 → Spelt ns k σ x
-  double : (y z : Thing) → 18 ≤ opOf ns k → hasTwo (opOf ns k) ≡ true → leftOf ns k < k → rightOf ns k < k → HoldsThing ns (leftOf ns k) y → HoldsThing ns (rightOf ns k) z → len σ x ≡ extra (opOf ns k) + len σ y + len σ z → Spelt ns k σ x
+  bare : opAt ns k < firstCall → len σ x ≡ extra (opAt ns k) → Spelt ns k σ x
+  chosen : (a : Term) {d : ℕ} → opAt ns k ≡ oeOp → leftAt ns k < k → Holds ns (leftAt ns k) a → digit σ a ≡ some d → len σ x ≡ 2 → Spelt ns k σ x
+  others : (a : Term) {d : ℕ} → opAt ns k ≡ aoOp → leftAt ns k < k → Holds ns (leftAt ns k) a → digit σ a ≡ some d → len σ x ≡ 7 + len σ (term a) → Spelt ns k σ x
+  unknown : (a : Term) → oeOp ≤ opAt ns k → opAt ns k < firstPair → leftAt ns k < k → Holds ns (leftAt ns k) a → digit σ a ≡ none → len σ x ≡ extra (opAt ns k) + len σ (term a) → Spelt ns k σ x
+  single : (y : Thing) → firstCall ≤ opAt ns k → opAt ns k < firstNumbered → (oeOp ≤ opAt ns k → firstEmpty ≤ opAt ns k) → leftAt ns k < k → HoldsThing ns (leftAt ns k) y → len σ x ≡ extra (opAt ns k) + len σ y → Spelt ns k σ x
+  numbered : (y : Thing) → firstNumbered ≤ opAt ns k → opAt ns k < firstCounted → leftAt ns k < k → HoldsThing ns (leftAt ns k) y → len σ x ≡ extra (opAt ns k) + len σ y + cond (ltb (rightAt ns k) 10) 1 2 → Spelt ns k σ x
+  double : (y z : Thing) → firstPair ≤ opAt ns k → hasTwo (opAt ns k) ≡ true → leftAt ns k < k → rightAt ns k < k → HoldsThing ns (leftAt ns k) y → HoldsThing ns (rightAt ns k) z → len σ x ≡ extra (opAt ns k) + len σ y + len σ z → Spelt ns k σ x
 
 module _ {ns : List ℕ} {k : ℕ} {σ : Choices} {x : Thing} where
-  as-single : {o i j : ℕ} (y : Thing) → 9 ≤ o → o < 26 → (16 ≤ o → 24 ≤ o) → Parts (getD ns k 0) o i j → i < k → HoldsThing ns i y → len σ x ≡ extra o + len σ y → Spelt ns k σ x
+  as-single : {o i j : ℕ} (y : Thing) → firstCall ≤ o → o < firstNumbered → (oeOp ≤ o → firstEmpty ≤ o) → Parts (getD ns k 0) o i j → i < k → HoldsThing ns i y → len σ x ≡ extra o + len σ y → Spelt ns k σ x
   as-single y lo hi gap p h w e = single y (rw (p .op) lo) (rw (p .op) hi) (rw (p .op) gap) (rw (p .left) h) (rw (p .left) w) (rw (p .op) e)
 
-  as-double : {o i j : ℕ} (y z : Thing) → 18 ≤ o → o < 256 → hasTwo o ≡ true → Both ns k o i j → HoldsThing ns i y → HoldsThing ns j z → len σ x ≡ extra o + len σ y + len σ z → Spelt ns k σ x
+  as-double : {o i j : ℕ} (y z : Thing) → firstPair ≤ o → o < opRoom → hasTwo o ≡ true → Both ns k o i j → HoldsThing ns i y → HoldsThing ns j z → len σ x ≡ extra o + len σ y + len σ z → Spelt ns k σ x
   as-double y z lo small h b v w e =
       let p = both-parts b small in
       double y z (rw (p .op) lo) (rw (p .op) h) (rw (p .left) (b .below)) (rw (p .right) (b .below₂)) (rw (p .left) v) (rw (p .right) w) (rw (p .op) e)
 
 test-spelt : (ns : List ℕ) (k : ℕ) (σ : Choices) (p : Test) → HoldsTest ns k p → Spelt ns k σ (test p)
 unfolding HoldsTest testText countText spellBetween
-test-spelt ns k σ (member a b) x = as-double (term a) (term b) (omega arith) (omega arith) (two-low 21 (omega arith) (omega arith)) (x .2) (x .3) (x .4) (simp length-append (omega (arith, extras)))
+test-spelt ns k σ (member a b) x = as-double (term a) (term b) (omega arith) (omega arith) (two-low memberOp (omega arith) (omega arith)) (x .2) (x .3) (x .4) (simp length-append (omega (arith, extras)))
 test-spelt ns k σ (alike g a b) x =
     let r = alike-op g in
     as-double (term a) (term b) (omega (arith, r .0)) (omega (arith, r .1)) (two-low (alikeOp g) (omega (arith, r .0)) (r .1)) (x .2) (x .3) (x .4) (simp length-append (omega (arith, sign-extra g .0)))
 test-spelt ns k σ (empty g a) x =
     let lo = empty-op g .0 in
     let hi = empty-op g .1 in
-    let small : emptyOp g < 256 = omega arith in
+    let small : emptyOp g < opRoom = omega arith in
     as-single (term a) (omega arith) hi (λ _. lo) (one-parts (x .1) small) (x .1 .below) (x .2) (simp length-append (omega (arith, sign-extra g .1)))
 test-spelt ns k σ (sized c a (number m)) x =
     let l = cmp-number c in
-    let small : 26 + cmpNumber c < 256 = omega arith in
+    let small : firstNumbered + cmpNumber c < opRoom = omega arith in
     let p = numbered-parts (x .1) small in
     numbered (term a) (rw (p .op) (omega arith)) (rw (p .op) (omega arith)) (rw (p .left) (x .1 .below)) (rw (p .left) (x .2))
     (rw (p .op, p .right) (simp length-append (omega (arith, cmp-extra c .0, digits-length m))))
 test-spelt ns k σ (sized c a (count b)) x =
     let l = cmp-number c in
-    as-double (term a) (term b) (omega arith) (omega arith) (two-high (32 + cmpNumber c) (omega arith)) (x .2) (x .3) (x .4) (simp length-append (omega (arith, cmp-extra c .1)))
+    as-double (term a) (term b) (omega arith) (omega arith) (two-high (firstCounted + cmpNumber c) (omega arith)) (x .2) (x .3) (x .4) (simp length-append (omega (arith, cmp-extra c .1)))
 
 -- A test alone is a clause, and a clause alone a rule.
 again : {ns : List ℕ} {k : ℕ} {σ : Choices} {x y : Thing} → len σ y ≡ len σ x → Spelt ns k σ x → Spelt ns k σ y
@@ -149,21 +150,21 @@ clause-spelt : (ns : List ℕ) (k : ℕ) (σ : Choices) (c : Clause) → HoldsCl
 unfolding HoldsClause clauseText
 clause-spelt ns k σ (plain p) x = again {x = test p} refl (test-spelt ns k σ p x)
 clause-spelt ns k σ (when p q) x =
-    as-double (test p) (test q) (omega arith) (omega arith) (two-high 38 (omega arith)) (x .2) (x .3) (x .4) (simp length-append (omega (arith, extras)))
+    as-double (test p) (test q) (omega arith) (omega arith) (two-high whenOp (omega arith)) (x .2) (x .3) (x .4) (simp length-append (omega (arith, extras)))
 
-two-length : (σ : Choices) (o : Op) (a b : Term) → length (text σ (two o a b)) ≡ extra (twoOp o) + length (text σ a) + length (text σ b)
-unfolding text twoOp spell spellMiddle
-two-length σ operations a b = simp length-append (omega (arith, extras))
-two-length σ meet a b = simp length-append (omega (arith, extras))
-two-length σ join a b = simp length-append (omega (arith, extras))
+two-length : (σ : Choices) (o : Pair) (a b : Term) → length (text σ (two o a b)) ≡ extra (twoOp o) + length (text σ a) + length (text σ b)
+unfolding text opening parting twoOp spell spellMiddle
+two-length σ (calls operations) a b = simp length-append (omega (arith, extras))
+two-length σ (joins meet) a b = simp length-append (omega (arith, extras))
+two-length σ (joins join) a b = simp length-append (omega (arith, extras))
 
 -- OE and AO, by whether their choice is known.
 module _ (ns : List ℕ) (k : ℕ) (σ : Choices) (a : Term) {i : ℕ} (x : Holds ns i a) where
-  oe-spelt : One ns k 16 i → Spelt ns k σ (term (oe a))
+  oe-spelt : One ns k oeOp i → Spelt ns k σ (term (oe a))
   unfolding text oeText spell
   oe-spelt b = go (digit σ a) refl
     where
-      p : Parts (getD ns k 0) 16 i 0
+      p : Parts (getD ns k 0) oeOp i 0
       p = one-parts b (omega arith)
 
       go : (q : Option ℕ) → digit σ a ≡ q → Spelt ns k σ (term (oe a))
@@ -172,11 +173,11 @@ module _ (ns : List ℕ) (k : ℕ) (σ : Choices) (a : Term) {i : ℕ} (x : Hold
           (rw (p .op, e) (simp length-append (omega (arith, extras))))
       go (some d) e = chosen a (p .op) (rw (p .left) (b .below)) (rw (p .left) x) e (rw e)
 
-  ao-spelt : One ns k 17 i → Spelt ns k σ (term (ao a))
+  ao-spelt : One ns k aoOp i → Spelt ns k σ (term (ao a))
   unfolding text aoText spell spellMiddle
   ao-spelt b = go (digit σ a) refl
     where
-      p : Parts (getD ns k 0) 17 i 0
+      p : Parts (getD ns k 0) aoOp i 0
       p = one-parts b (omega arith)
 
       go : (q : Option ℕ) → digit σ a ≡ q → Spelt ns k σ (term (ao a))
@@ -206,31 +207,31 @@ spelt ns k σ (test p) x = test-spelt ns k σ p x
 spelt ns k σ (clause c) x = clause-spelt ns k σ c x
 spelt ns k σ (rule (last c)) x = again {x = clause c} refl (clause-spelt ns k σ c x)
 spelt ns k σ (rule (also c ρ)) x =
-    as-double (clause c) (rule ρ) (omega arith) (omega arith) (two-high 39 (omega arith)) (x .2) (x .3) (x .4) (simp length-append (omega (arith, extras)))
+    as-double (clause c) (rule ρ) (omega arith) (omega arith) (two-high alsoOp (omega arith)) (x .2) (x .3) (x .4) (simp length-append (omega (arith, extras)))
 
 -- The ways in which a length is computed.
 module _ (o : ℕ) (a b m : ℕ) where
-  node-bare : (t : Bool) → o < 9 → nodeLength o t a b m ≡ extra o
+  node-bare : (t : Bool) → o < firstCall → nodeLength o t a b m ≡ extra o
   unfolding nodeLength
-  node-bare t h = rw (lt-ltb o 9 h)
+  node-bare t h = rw (lt-ltb o firstCall h)
 
-  node-unknown : 9 ≤ o → nodeLength o false a b m ≡ plainLength o a b m
+  node-unknown : firstCall ≤ o → nodeLength o false a b m ≡ plainLength o a b m
   unfolding nodeLength
-  node-unknown h = rw (le-ltb o 9 h)
+  node-unknown h = rw (le-ltb o firstCall h)
 
-  node-plain : (t : Bool) → 9 ≤ o → (16 ≤ o → 18 ≤ o) → nodeLength o t a b m ≡ plainLength o a b m
+  node-plain : (t : Bool) → firstCall ≤ o → (oeOp ≤ o → firstPair ≤ o) → nodeLength o t a b m ≡ plainLength o a b m
   unfolding nodeLength knownLength
   node-plain true h gap =
-      let p : o ≡ 16 → ⊥ = λ (e : o ≡ 16). let l : 16 ≤ o = omega arith in omega (arith, gap l) in
-      let q : o ≡ 17 → ⊥ = λ (e : o ≡ 17). let l : 16 ≤ o = omega arith in omega (arith, gap l) in
-      rw (le-ltb o 9 h, ne-eqb o 16 p, ne-eqb o 17 q)
-  node-plain false h gap = rw (le-ltb o 9 h)
+      let p : o ≡ oeOp → ⊥ = λ (e : o ≡ oeOp). let l : oeOp ≤ o = omega arith in omega (arith, gap l) in
+      let q : o ≡ aoOp → ⊥ = λ (e : o ≡ aoOp). let l : oeOp ≤ o = omega arith in omega (arith, gap l) in
+      rw (le-ltb o firstCall h, ne-eqb o oeOp p, ne-eqb o aoOp q)
+  node-plain false h gap = rw (le-ltb o firstCall h)
 
-  node-chosen : o ≡ 16 → nodeLength o true a b m ≡ 2
+  node-chosen : o ≡ oeOp → nodeLength o true a b m ≡ 2
   unfolding nodeLength knownLength
   node-chosen e = rw e
 
-  node-others : o ≡ 17 → nodeLength o true a b m ≡ 7 + a
+  node-others : o ≡ aoOp → nodeLength o true a b m ≡ 7 + a
   unfolding nodeLength knownLength
   node-others e = rw e
 
@@ -238,26 +239,26 @@ module _ (o : ℕ) (a b m : ℕ) where
   unfolding plainLength
   plain-two e = rw e
 
-  plain-one : hasTwo o ≡ false → o < 26 → plainLength o a b m ≡ extra o + a
+  plain-one : hasTwo o ≡ false → o < firstNumbered → plainLength o a b m ≡ extra o + a
   unfolding plainLength
-  plain-one e h = rw (e, lt-ltb o 26 h)
+  plain-one e h = rw (e, lt-ltb o firstNumbered h)
 
-  plain-number : hasTwo o ≡ false → 26 ≤ o → plainLength o a b m ≡ extra o + a + cond (ltb m 10) 1 2
+  plain-number : hasTwo o ≡ false → firstNumbered ≤ o → plainLength o a b m ≡ extra o + a + cond (ltb m 10) 1 2
   unfolding plainLength
-  plain-number e h = rw (e, le-ltb o 26 h)
+  plain-number e h = rw (e, le-ltb o firstNumbered h)
 
-single-none : (o : ℕ) → o < 26 → (16 ≤ o → 24 ≤ o) → hasTwo o ≡ false
+single-none : (o : ℕ) → o < firstNumbered → (oeOp ≤ o → firstEmpty ≤ o) → hasTwo o ≡ false
 single-none o h gap =
     ⊎-elim
-    (λ (l : o < 16). two-less o (omega arith))
-    (λ (l : 16 ≤ o). two-none o (gap l) (omega arith))
-    (lt-or-le o 16)
+    (λ (l : o < oeOp). two-less o (omega arith))
+    (λ (l : oeOp ≤ o). two-none o (gap l) (omega arith))
+    (lt-or-le o oeOp)
 
 -- The length at a node, by those below it.
 abbrev pub stepLength : List ℕ → List ℕ → ℕ → Bool → ℕ
-stepLength ns ls k t = capped (nodeLength (opOf ns k) t (capped (getD ls (leftOf ns k) 0)) (capped (getD ls (rightOf ns k) 0)) (rightOf ns k))
+stepLength ns ls k t = capped (nodeLength (opAt ns k) t (capped (getD ls (leftAt ns k) 0)) (capped (getD ls (rightAt ns k) 0)) (rightAt ns k))
 
-pub step-is : (ns ls : List ℕ) (k : ℕ) (t : Bool) (a b : ℕ) {z : ℕ} → a ≡ capped (getD ls (leftOf ns k) 0) → b ≡ capped (getD ls (rightOf ns k) 0) → z ≡ nodeLength (opOf ns k) t a b (rightOf ns k) → capped z ≡ stepLength ns ls k t
+pub step-is : (ns ls : List ℕ) (k : ℕ) (t : Bool) (a b : ℕ) {z : ℕ} → a ≡ capped (getD ls (leftAt ns k) 0) → b ≡ capped (getD ls (rightAt ns k) 0) → z ≡ nodeLength (opAt ns k) t a b (rightAt ns k) → capped z ≡ stepLength ns ls k t
 step-is ns ls k t a b p q e = rw (e, p, q)
 
 some-true : (t : Bool) (y : ℕ) {d : ℕ} → cond t (some y) none ≡ some d → t ≡ true
@@ -268,37 +269,37 @@ none-false : (t : Bool) (y : ℕ) → cond t (some y) none ≡ none → t ≡ fa
 none-false true y e = let z : _≡_ {A = ℕ} 0 1 = cc in absurd (omega arith)
 none-false false y e = refl
 
-module _ {ns vs ls : List ℕ} {n k r : ℕ} {σ : Choices} (apart : Apart ns n) (h : k < n) (c : Knows (mk ns n) vs σ) (m : Measured ns σ k ls) (s : Sought vs (length vs) (leftOf ns k) r) where
-  digit-is : (a : Term) → leftOf ns k < k → Holds ns (leftOf ns k) a → digit σ a ≡ cond (ltb r (length vs)) (some (49 + r)) none
-  digit-is a l w = digit-found ns n apart (leftOf ns k) a w (omega arith) 49 vs σ (c .holds) (c .below) ∙ rw (take-length vs) at (found-digit (omega arith) s)
+module _ {ns vs ls : List ℕ} {n k r : ℕ} {σ : Choices} (apart : Apart ns n) (h : k < n) (c : Knows (mk ns n) vs σ) (m : Measured ns σ k ls) (s : Sought vs (length vs) (leftAt ns k) r) where
+  digit-is : (a : Term) → leftAt ns k < k → Holds ns (leftAt ns k) a → digit σ a ≡ cond (ltb r (length vs)) (some (49 + r)) none
+  digit-is a l w = digit-found ns n apart (leftAt ns k) a w (omega arith) 49 vs σ (c .holds) (c .below) ∙ rw (take-length vs) at (found-digit (omega arith) s)
 
   length-here : (x : Thing) → HoldsThing ns k x → stepLength ns ls k (ltb r (length vs)) ≡ capped (len σ x)
   length-here x w = go (spelt ns k σ x w)
     where
       A : ℕ
-      A = capped (getD ls (leftOf ns k) 0)
+      A = capped (getD ls (leftAt ns k) 0)
 
       B : ℕ
-      B = capped (getD ls (rightOf ns k) 0)
+      B = capped (getD ls (rightAt ns k) 0)
 
-      go : Spelt ns k σ x → capped (nodeLength (opOf ns k) (ltb r (length vs)) A B (rightOf ns k)) ≡ capped (len σ x)
-      go (bare l e) = rw (node-bare (opOf ns k) A B (rightOf ns k) (ltb r (length vs)) l, e)
-      go (chosen a o l v d e) = rw (some-true (ltb r (length vs)) (49 + r) (sym (digit-is a l v) ∙ d), node-chosen (opOf ns k) A B (rightOf ns k) o, e)
+      go : Spelt ns k σ x → capped (nodeLength (opAt ns k) (ltb r (length vs)) A B (rightAt ns k)) ≡ capped (len σ x)
+      go (bare l e) = rw (node-bare (opAt ns k) A B (rightAt ns k) (ltb r (length vs)) l, e)
+      go (chosen a o l v d e) = rw (some-true (ltb r (length vs)) (49 + r) (sym (digit-is a l v) ∙ d), node-chosen (opAt ns k) A B (rightAt ns k) o, e)
       go (others a o l v d e) =
-          rw (some-true (ltb r (length vs)) (49 + r) (sym (digit-is a l v) ∙ d), node-others (opOf ns k) A B (rightOf ns k) o)
-          (omega (arith, e, m .at (leftOf ns k) (term a) l v))
+          rw (some-true (ltb r (length vs)) (49 + r) (sym (digit-is a l v) ∙ d), node-others (opAt ns k) A B (rightAt ns k) o)
+          (omega (arith, e, m .at (leftAt ns k) (term a) l v))
       go (unknown a lo hi l v d e) =
-          rw (none-false (ltb r (length vs)) (49 + r) (sym (digit-is a l v) ∙ d), node-unknown (opOf ns k) A B (rightOf ns k) (omega arith), plain-one (opOf ns k) A B (rightOf ns k) (two-less (opOf ns k) hi) (omega arith))
-          (omega (arith, e, m .at (leftOf ns k) (term a) l v))
+          rw (none-false (ltb r (length vs)) (49 + r) (sym (digit-is a l v) ∙ d), node-unknown (opAt ns k) A B (rightAt ns k) (omega arith), plain-one (opAt ns k) A B (rightAt ns k) (two-less (opAt ns k) hi) (omega arith))
+          (omega (arith, e, m .at (leftAt ns k) (term a) l v))
       go (single y lo hi gap l v e) =
-          rw (node-plain (opOf ns k) A B (rightOf ns k) (ltb r (length vs)) lo (λ z. omega (arith, gap z)), plain-one (opOf ns k) A B (rightOf ns k) (single-none (opOf ns k) hi gap) hi)
-          (omega (arith, e, m .at (leftOf ns k) y l v))
+          rw (node-plain (opAt ns k) A B (rightAt ns k) (ltb r (length vs)) lo (λ z. omega (arith, gap z)), plain-one (opAt ns k) A B (rightAt ns k) (single-none (opAt ns k) hi gap) hi)
+          (omega (arith, e, m .at (leftAt ns k) y l v))
       go (numbered y lo hi l v e) =
-          rw (node-plain (opOf ns k) A B (rightOf ns k) (ltb r (length vs)) (omega arith) (λ z. omega arith), plain-number (opOf ns k) A B (rightOf ns k) (two-none (opOf ns k) (omega arith) hi) lo)
-          (omega (arith, e, m .at (leftOf ns k) y l v))
+          rw (node-plain (opAt ns k) A B (rightAt ns k) (ltb r (length vs)) (omega arith) (λ z. omega arith), plain-number (opAt ns k) A B (rightAt ns k) (two-none (opAt ns k) (omega arith) hi) lo)
+          (omega (arith, e, m .at (leftAt ns k) y l v))
       go (double y z lo both l l′ v w e) =
-          rw (node-plain (opOf ns k) A B (rightOf ns k) (ltb r (length vs)) (omega arith) (λ _. lo), plain-two (opOf ns k) A B (rightOf ns k) both)
-          (omega (arith, e, m .at (leftOf ns k) y l v, m .at (rightOf ns k) z l′ w))
+          rw (node-plain (opAt ns k) A B (rightAt ns k) (ltb r (length vs)) (omega arith) (λ _. lo), plain-two (opAt ns k) A B (rightAt ns k) both)
+          (omega (arith, e, m .at (leftAt ns k) y l v, m .at (rightAt ns k) z l′ w))
 
   -- One node more.
   pub measured-next : {l : ℕ} → l ≡ stepLength ns ls k (ltb r (length vs)) → k < length ls → Measured ns σ (k + 1) (set ls k l)

@@ -2,7 +2,7 @@
 -- Assumes nothing.
 use mathlib.Core.Path.{_≡_, refl}
 use mathlib.Core.List.{List, [], _∷_}
-use Prim.Native.Nat.{ℕ, zero, suc, _/_, _%_, _<_, _≤_}
+use Prim.Native.Nat.{ℕ, zero, suc, _<_, _≤_}
 use lib.Dec.{ltb}
 use lib.ListN.{length, getD}
 use borrow.Author.Tests.{ltb-true, ltb-false}
@@ -10,18 +10,10 @@ use mathlib.Core.Bool.{Bool, true, false}
 use mathlib.Core.Logic.{_⊎_, inl, inr}
 use native.Mathlib.Nat.{le-of-suc-le-suc, not-suc-le-zero}
 use Rattle.syntax.specs.code.Arena.{Numbered, hasTwo, Down, Tidy}
+use Rattle.syntax.specs.code.Nodes.{firstCall, opAt, leftAt, rightAt, opRoom}
 use Rattle.syntax.proofs.ArenaLaws.{Parts, parts}
 
-abbrev pub opOf : List ℕ → ℕ → ℕ
-opOf ns k = getD ns k 0 % 256
-
-abbrev pub leftOf : List ℕ → ℕ → ℕ
-leftOf ns k = getD ns k 0 / 256 % 4096
-
-abbrev pub rightOf : List ℕ → ℕ → ℕ
-rightOf ns k = getD ns k 0 / 1048576
-
-pub numbered-parts : {ns : List ℕ} {k o i m : ℕ} → Numbered ns k o i m → o < 256 → Parts (getD ns k 0) o i m
+pub numbered-parts : {ns : List ℕ} {k o i m : ℕ} → Numbered ns k o i m → o < opRoom → Parts (getD ns k 0) o i m
 numbered-parts {ns} {k} {o} {i} {m} x h = parts (getD ns k 0) o i m (x .node) h (x .small)
 
 -- What stands within a list does not hang on what is taken past its end.
@@ -39,10 +31,10 @@ lt-or-le a b = go (ltb a b) refl
 
 -- What a node has below it stands before it.
 module _ {ns : List ℕ} {n k : ℕ} (tidy : Tidy ns n) (h : k < n) where
-  pub left-below : 9 ≤ opOf ns k → leftOf ns k < k
+  pub left-below : firstCall ≤ opAt ns k → leftAt ns k < k
   unfolding Down
   left-below l = tidy .down k h .left l
 
-  pub right-below : hasTwo (opOf ns k) ≡ true → rightOf ns k < k
+  pub right-below : hasTwo (opAt ns k) ≡ true → rightAt ns k < k
   unfolding Down
   right-below e = tidy .down k h .right e

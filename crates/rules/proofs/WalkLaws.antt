@@ -11,71 +11,72 @@ use Rattle.syntax.specs.Term.{Term, base, call, oe, ao, two, Choices}
 use Rattle.syntax.specs.Rule.{number, count, Test, member, alike, empty, sized, Clause, plain, when, last, also}
 use Rattle.syntax.specs.Rule.{add, vars, countVars, testVars, clauseVars, ruleVars}
 use Rattle.syntax.specs.code.Arena.{twoOp, emptyOp, alikeOp, cmpNumber, hasTwo, Both, Holds, HoldsTest, HoldsClause, HoldsRule, Apart}
+use Rattle.syntax.specs.code.Nodes.{firstCall, oeOp, firstPair, memberOp, firstEmpty, firstNumbered, firstCounted, whenOp, alsoOp, opAt, leftAt, rightAt, opRoom}
 use Rattle.rules.specs.code.Thing.{Thing, term, test, clause, rule, HoldsThing, thingVars}
 use Rattle.rules.specs.code.Variables.{Listed, Walked, VarsOf, Added, many, known, over, new}
 use Rattle.syntax.proofs.ArenaLaws.{base-small, fn-range, two-range, Parts, none-parts, one-parts, both-parts}
 use Rattle.rules.proofs.KindLaws.{alike-op, empty-op, cmp-number}
-use Rattle.rules.proofs.NodeLaws.{opOf, leftOf, rightOf, numbered-parts}
+use Rattle.rules.proofs.NodeLaws.{numbered-parts}
 use Rattle.rules.proofs.VariableLaws.{listed-add}
 
 -- Which operations have two nodes below.
 
-pub two-less : (o : ℕ) → o < 18 → hasTwo o ≡ false
+pub two-less : (o : ℕ) → o < firstPair → hasTwo o ≡ false
 unfolding hasTwo
-two-less o h = let l : o < 32 = omega arith in rw (lt-leb 18 o h, lt-leb 32 o l)
+two-less o h = let l : o < firstCounted = omega arith in rw (lt-leb firstPair o h, lt-leb firstCounted o l)
 
-pub two-none : (o : ℕ) → 24 ≤ o → o < 32 → hasTwo o ≡ false
+pub two-none : (o : ℕ) → firstEmpty ≤ o → o < firstCounted → hasTwo o ≡ false
 unfolding hasTwo
-two-none o lo hi = let l : 18 ≤ o = omega arith in rw (le-leb 18 o l, le-ltb o 24 lo, lt-leb 32 o hi)
+two-none o lo hi = let l : firstPair ≤ o = omega arith in rw (le-leb firstPair o l, le-ltb o firstEmpty lo, lt-leb firstCounted o hi)
 
-pub two-low : (o : ℕ) → 18 ≤ o → o < 24 → hasTwo o ≡ true
+pub two-low : (o : ℕ) → firstPair ≤ o → o < firstEmpty → hasTwo o ≡ true
 unfolding hasTwo
-two-low o lo hi = rw (le-leb 18 o lo, lt-ltb o 24 hi)
+two-low o lo hi = rw (le-leb firstPair o lo, lt-ltb o firstEmpty hi)
 
-pub two-high : (o : ℕ) → 32 ≤ o → hasTwo o ≡ true
+pub two-high : (o : ℕ) → firstCounted ≤ o → hasTwo o ≡ true
 unfolding hasTwo
 two-high o h =
-    let l : 18 ≤ o = omega arith in
-    let m : 24 ≤ o = omega arith in
-    rw (le-leb 18 o l, le-ltb o 24 m, le-leb 32 o h)
+    let l : firstPair ≤ o = omega arith in
+    let m : firstEmpty ≤ o = omega arith in
+    rw (le-leb firstPair o l, le-ltb o firstEmpty m, le-leb firstCounted o h)
 
 -- What stands below a node, and which choices come of it.
 data Shape (ns : List ℕ) (k : ℕ) (x : Thing) : Type 0 where
-  bare : opOf ns k < 9 → ((σ : Choices) → thingVars σ x ≡ σ) → Shape ns k x
-  single : (y : Thing) → 9 ≤ opOf ns k → (16 ≤ opOf ns k → 18 ≤ opOf ns k) → hasTwo (opOf ns k) ≡ false → HoldsThing ns (leftOf ns k) y → ((σ : Choices) → thingVars σ x ≡ thingVars σ y) → Shape ns k x
-  choosing : (a : Term) → 16 ≤ opOf ns k → opOf ns k < 18 → Holds ns (leftOf ns k) a → ((σ : Choices) → thingVars σ x ≡ add (vars σ a) a) → Shape ns k x
-  double : (y z : Thing) → 18 ≤ opOf ns k → hasTwo (opOf ns k) ≡ true → HoldsThing ns (leftOf ns k) y → HoldsThing ns (rightOf ns k) z → ((σ : Choices) → thingVars σ x ≡ thingVars (thingVars σ y) z) → Shape ns k x
+  bare : opAt ns k < firstCall → ((σ : Choices) → thingVars σ x ≡ σ) → Shape ns k x
+  single : (y : Thing) → firstCall ≤ opAt ns k → (oeOp ≤ opAt ns k → firstPair ≤ opAt ns k) → hasTwo (opAt ns k) ≡ false → HoldsThing ns (leftAt ns k) y → ((σ : Choices) → thingVars σ x ≡ thingVars σ y) → Shape ns k x
+  choosing : (a : Term) → oeOp ≤ opAt ns k → opAt ns k < firstPair → Holds ns (leftAt ns k) a → ((σ : Choices) → thingVars σ x ≡ add (vars σ a) a) → Shape ns k x
+  double : (y z : Thing) → firstPair ≤ opAt ns k → hasTwo (opAt ns k) ≡ true → HoldsThing ns (leftAt ns k) y → HoldsThing ns (rightAt ns k) z → ((σ : Choices) → thingVars σ x ≡ thingVars (thingVars σ y) z) → Shape ns k x
 
 module _ {ns : List ℕ} {k : ℕ} {x : Thing} where
-  as-single : {o i j : ℕ} (y : Thing) → 9 ≤ o → (16 ≤ o → 18 ≤ o) → hasTwo o ≡ false → Parts (getD ns k 0) o i j → HoldsThing ns i y → ((σ : Choices) → thingVars σ x ≡ thingVars σ y) → Shape ns k x
+  as-single : {o i j : ℕ} (y : Thing) → firstCall ≤ o → (oeOp ≤ o → firstPair ≤ o) → hasTwo o ≡ false → Parts (getD ns k 0) o i j → HoldsThing ns i y → ((σ : Choices) → thingVars σ x ≡ thingVars σ y) → Shape ns k x
   as-single y lo gap h p w e = single y (rw (p .op) lo) (rw (p .op) gap) (rw (p .op) h) (rw (p .left) w) e
 
-  as-choosing : {o i j : ℕ} (a : Term) → 16 ≤ o → o < 18 → Parts (getD ns k 0) o i j → Holds ns i a → ((σ : Choices) → thingVars σ x ≡ add (vars σ a) a) → Shape ns k x
+  as-choosing : {o i j : ℕ} (a : Term) → oeOp ≤ o → o < firstPair → Parts (getD ns k 0) o i j → Holds ns i a → ((σ : Choices) → thingVars σ x ≡ add (vars σ a) a) → Shape ns k x
   as-choosing a lo hi p w e = choosing a (rw (p .op) lo) (rw (p .op) hi) (rw (p .left) w) e
 
-  as-double : {o i j : ℕ} (y z : Thing) → 18 ≤ o → o < 256 → hasTwo o ≡ true → Both ns k o i j → HoldsThing ns i y → HoldsThing ns j z → ((σ : Choices) → thingVars σ x ≡ thingVars (thingVars σ y) z) → Shape ns k x
+  as-double : {o i j : ℕ} (y z : Thing) → firstPair ≤ o → o < opRoom → hasTwo o ≡ true → Both ns k o i j → HoldsThing ns i y → HoldsThing ns j z → ((σ : Choices) → thingVars σ x ≡ thingVars (thingVars σ y) z) → Shape ns k x
   as-double y z lo small h b v w e =
       let p = both-parts b small in
       double y z (rw (p .op) lo) (rw (p .op) h) (rw (p .left) v) (rw (p .right) w) e
 
 test-shape : (ns : List ℕ) (k : ℕ) (p : Test) → HoldsTest ns k p → Shape ns k (test p)
 unfolding HoldsTest testVars countVars
-test-shape ns k (member a b) x = as-double (term a) (term b) (omega arith) (omega arith) (two-low 21 (omega arith) (omega arith)) (x .2) (x .3) (x .4) (λ σ. refl)
+test-shape ns k (member a b) x = as-double (term a) (term b) (omega arith) (omega arith) (two-low memberOp (omega arith) (omega arith)) (x .2) (x .3) (x .4) (λ σ. refl)
 test-shape ns k (alike g a b) x =
     let r = alike-op g in
     as-double (term a) (term b) (omega (arith, r .0)) (omega (arith, r .1)) (two-low (alikeOp g) (omega (arith, r .0)) (r .1)) (x .2) (x .3) (x .4) (λ σ. refl)
 test-shape ns k (empty g a) x =
     let lo = empty-op g .0 in
     let hi = empty-op g .1 in
-    let small : emptyOp g < 256 = omega arith in
+    let small : emptyOp g < opRoom = omega arith in
     as-single (term a) (omega arith) (λ _. omega arith) (two-none (emptyOp g) lo (omega arith)) (one-parts (x .1) small) (x .2) (λ σ. refl)
 test-shape ns k (sized c a (number m)) x =
     let l = cmp-number c in
-    let small : 26 + cmpNumber c < 256 = omega arith in
-    as-single (term a) (omega arith) (λ _. omega arith) (two-none (26 + cmpNumber c) (omega arith) (omega arith)) (numbered-parts (x .1) small) (x .2) (λ σ. refl)
+    let small : firstNumbered + cmpNumber c < opRoom = omega arith in
+    as-single (term a) (omega arith) (λ _. omega arith) (two-none (firstNumbered + cmpNumber c) (omega arith) (omega arith)) (numbered-parts (x .1) small) (x .2) (λ σ. refl)
 test-shape ns k (sized c a (count b)) x =
     let l = cmp-number c in
-    as-double (term a) (term b) (omega arith) (omega arith) (two-high (32 + cmpNumber c) (omega arith)) (x .2) (x .3) (x .4) (λ σ. refl)
+    as-double (term a) (term b) (omega arith) (omega arith) (two-high (firstCounted + cmpNumber c) (omega arith)) (x .2) (x .3) (x .4) (λ σ. refl)
 
 -- A test alone is a clause, and a clause alone a rule.
 again : {ns : List ℕ} {k : ℕ} {x y : Thing} → ((σ : Choices) → thingVars σ y ≡ thingVars σ x) → Shape ns k x → Shape ns k y
@@ -87,7 +88,7 @@ again f (double z z′ lo h v w e) = double z z′ lo h v w (λ σ. f σ ∙ e �
 clause-shape : (ns : List ℕ) (k : ℕ) (c : Clause) → HoldsClause ns k c → Shape ns k (clause c)
 unfolding HoldsClause clauseVars
 clause-shape ns k (plain p) x = again {x = test p} (λ σ. refl) (test-shape ns k p x)
-clause-shape ns k (when p q) x = as-double (test p) (test q) (omega arith) (omega arith) (two-high 38 (omega arith)) (x .2) (x .3) (x .4) (λ σ. refl)
+clause-shape ns k (when p q) x = as-double (test p) (test q) (omega arith) (omega arith) (two-high whenOp (omega arith)) (x .2) (x .3) (x .4) (λ σ. refl)
 
 shape : (ns : List ℕ) (k : ℕ) (x : Thing) → HoldsThing ns k x → Shape ns k x
 unfolding Holds HoldsClause HoldsRule vars clauseVars ruleVars
@@ -107,7 +108,7 @@ shape ns k (term (two o a b)) x =
 shape ns k (test p) x = test-shape ns k p x
 shape ns k (clause c) x = clause-shape ns k c x
 shape ns k (rule (last c)) x = again {x = clause c} (λ σ. refl) (clause-shape ns k c x)
-shape ns k (rule (also c ρ)) x = as-double (clause c) (rule ρ) (omega arith) (omega arith) (two-high 39 (omega arith)) (x .2) (x .3) (x .4) (λ σ. refl)
+shape ns k (rule (also c ρ)) x = as-double (clause c) (rule ρ) (omega arith) (omega arith) (two-high alsoOp (omega arith)) (x .2) (x .3) (x .4) (λ σ. refl)
 
 added-size : {vs ws : List ℕ} {c v d : ℕ} → Added vs c v ws d → length ws ≡ length vs
 added-size (many m) = refl
@@ -117,7 +118,7 @@ added-size {vs} {ws} {c} {v} (new e s m) = length-set vs c v
 
 -- The four ways out of the walk.
 module _ {ns : List ℕ} {n k : ℕ} {vs : List ℕ} {c : ℕ} where
-  pub walked-bare : opOf ns k < 9 → Walked ns n k vs c vs c
+  pub walked-bare : opAt ns k < firstCall → Walked ns n k vs c vs c
   walked-bare h = record { size = refl; adds = λ x w σ l. go x σ l (shape ns k x w) }
     where
       go : (x : Thing) (σ : Choices) → Listed ns n vs c σ → Shape ns k x → Listed ns n vs c (thingVars σ x)
@@ -126,8 +127,8 @@ module _ {ns : List ℕ} {n k : ℕ} {vs : List ℕ} {c : ℕ} where
       go x σ l (choosing a lo hi v e) = absurd (omega arith)
       go x σ l (double y z lo m v w e) = absurd (omega arith)
 
-  module _ {ws : List ℕ} {d : ℕ} (left : Walked ns n (leftOf ns k) vs c ws d) where
-    pub walked-single : 9 ≤ opOf ns k → (16 ≤ opOf ns k → 18 ≤ opOf ns k) → hasTwo (opOf ns k) ≡ false → Walked ns n k vs c ws d
+  module _ {ws : List ℕ} {d : ℕ} (left : Walked ns n (leftAt ns k) vs c ws d) where
+    pub walked-single : firstCall ≤ opAt ns k → (oeOp ≤ opAt ns k → firstPair ≤ opAt ns k) → hasTwo (opAt ns k) ≡ false → Walked ns n k vs c ws d
     walked-single lo gap none = record { size = left .size; adds = λ x w σ l. go x σ l (shape ns k x w) }
       where
         go : (x : Thing) (σ : Choices) → Listed ns n vs c σ → Shape ns k x → Listed ns n ws d (thingVars σ x)
@@ -137,7 +138,7 @@ module _ {ns : List ℕ} {n k : ℕ} {vs : List ℕ} {c : ℕ} where
         go x σ l (double y z lo′ m v w e) = let q : _≡_ {A = Bool} true false = cc in let z : _≡_ {A = ℕ} 0 1 = cc in absurd (omega arith)
 
     module _ {us : List ℕ} {b : ℕ} where
-      pub walked-choosing : 16 ≤ opOf ns k → opOf ns k < 18 → Apart ns n → leftOf ns k < n → length vs ≡ 8 → Added ws d (leftOf ns k) us b → Walked ns n k vs c us b
+      pub walked-choosing : oeOp ≤ opAt ns k → opAt ns k < firstPair → Apart ns n → leftAt ns k < n → length vs ≡ 8 → Added ws d (leftAt ns k) us b → Walked ns n k vs c us b
       walked-choosing lo hi apart small size came = record { size = added-size came ∙ left .size; adds = λ x w σ l. go x σ l (shape ns k x w) }
         where
           go : (x : Thing) (σ : Choices) → Listed ns n vs c σ → Shape ns k x → Listed ns n us b (thingVars σ x)
@@ -146,7 +147,7 @@ module _ {ns : List ℕ} {n k : ℕ} {vs : List ℕ} {c : ℕ} where
           go x σ l (choosing a lo′ hi′ v e) = rw (e σ) (listed-add apart a v small (left .size ∙ size) (left .adds (term a) v σ l) came)
           go x σ l (double y z lo′ m v w e) = absurd (omega arith)
 
-      pub walked-double : hasTwo (opOf ns k) ≡ true → 18 ≤ opOf ns k → Walked ns n (rightOf ns k) ws d us b → Walked ns n k vs c us b
+      pub walked-double : hasTwo (opAt ns k) ≡ true → firstPair ≤ opAt ns k → Walked ns n (rightAt ns k) ws d us b → Walked ns n k vs c us b
       walked-double both lo right = record { size = right .size ∙ left .size; adds = λ x w σ l. go x σ l (shape ns k x w) }
         where
           go : (x : Thing) (σ : Choices) → Listed ns n vs c σ → Shape ns k x → Listed ns n us b (thingVars σ x)

@@ -4,7 +4,7 @@ use mathlib.Core.List.{List, [], _∷_}
 use mathlib.Core.Option.{Option, none, some}
 use mathlib.Core.Bool.{Bool, true, false, _&&_, _||_}
 use Rattle.syntax.specs.Term.{Base, bU, bR, bOP, bOBJ, bP, bS, bCR, bCP, bCU, Fn, user, roles, roles*, sessions, permissions}
-use Rattle.syntax.specs.Term.{permissions*, object, Op, operations, meet, join, Term, base, call, oe, ao, two}
+use Rattle.syntax.specs.Term.{permissions*, object, Fn2, operations, Pair, calls, joins, Term, base, call, oe, ao, two}
 use Rattle.syntax.specs.Rule.{Count, number, count, Test, member, alike, empty, sized, Clause, plain, when, Rule, last, also}
 
 -- "element or set of each of the six sorts U, R, OP, OBJ, P, S; collections CR, CP, CU"
@@ -103,11 +103,22 @@ asSet (collection c) = collection c
 unfoldable pub joined : Kind → Kind → Option Kind
 joined k l = elim (Kind≟ (asSet k) (asSet l)) [ yes p ↦ some (asSet k) | no n ↦ none ]
 
--- "operations(r,o): a role or roles and one object" (an element).
-unfoldable pub twoKind : Op → Kind → Kind → Option Kind
-twoKind operations k l = elim (holds (Kind≟ (asSet k) (set sR)) && holds (Kind≟ l (element sOBJ))) [ true ↦ some (set sOP) | false ↦ none ]
-twoKind meet k l = joined k l
-twoKind join k l = joined k l
+-- A call of two terms takes an element or a set of one sort and one element of another, and gives a set.
+pub record Row : Type 0 where
+  pub first : Sort
+  pub second : Sort
+  pub gives : Sort
+
+-- "operations(r,o): a role or roles and one object; a set of operations."
+unfoldable pub row : Fn2 → Row
+row operations = record { first = sR; second = sOBJ; gives = sOP }
+
+unfoldable pub call2Kind : Row → Kind → Kind → Option Kind
+call2Kind ρ k l = elim (holds (Kind≟ (asSet k) (set (ρ .first))) && holds (Kind≟ l (element (ρ .second)))) [ true ↦ some (set (ρ .gives)) | false ↦ none ]
+
+unfoldable pub twoKind : Pair → Kind → Kind → Option Kind
+twoKind (calls f) k l = call2Kind (row f) k l
+twoKind (joins o) k l = joined k l
 
 abbrev pub with : {A : Type 0} → Option Kind → (Kind → Option A) → Option A
 with none f = none

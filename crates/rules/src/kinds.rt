@@ -3,7 +3,19 @@
 ghost use mathlib.Core.Path.{_≡_};
 ghost use Prim.Native.Nat.{_<_, _≤_};
 ghost use lib.ListN.{length, getD};
-ghost use Rattle.rules.specs.code.Numbers.{noKind, oneNumber, setNumber, twoNumber, countableNumber, fitsNumber, nodeNumber, Kinded};
+ghost use Rattle.rules.specs.code.Numbers.{noKind, oneNumber, setNumber, call2Number, twoNumber, countableNumber, fitsNumber, nodeNumber, Kinded};
+ghost use Rattle.syntax.specs.code.Nodes.{firstCall, firstPair, firstJoin, opRoom};
+use syntax::nodes::FIRST_CALL;
+use syntax::nodes::FIRST_COUNTED;
+use syntax::nodes::FIRST_JOIN;
+use syntax::nodes::FIRST_PAIR;
+use syntax::nodes::INDEX_ROOM;
+use syntax::nodes::IS;
+use syntax::nodes::IS_EMPTY;
+use syntax::nodes::MEMBER;
+use syntax::nodes::OP_ROOM;
+use syntax::nodes::RIGHT_UNIT;
+use syntax::nodes::WHEN;
 
 // The kinds: elements, whose numbers are also those of the sorts; sets; collections.
 pub const USER: u8 = 0;
@@ -185,13 +197,20 @@ const ONE: [u8; 135] = [
     14,
 ];
 
-// The kind of the operation op, from 9 to 17, on an argument of the kind a.
-fn one_kind(op: usize, a: u8) -> u8
-    requires { ⌜ (9 ≤ op) × (op < 18) ⌝ }
+// The calls of two terms, a row for each: an element or a set of the first kind and an element of the second give the third.
+const PAIRS: [u8; 3] = [
+    ROLES, // operations
+    OBJECT,
+    OPERATIONS,
+];
+
+// The kind of a call of one term, `OE` or `AO` on an argument of the kind a.
+fn one_kind(op: u32, a: u8) -> u8
+    requires { ⌜ (firstCall ≤ op) × (op < firstPair) ⌝ }
     ensures { λ r. ⌜ r ≡ oneNumber op a ⌝ }
 {
     if a < NO_KIND {
-        ONE[15 * (op - 9) + a as usize]
+        ONE[(15 * (op - FIRST_CALL)) as usize + a as usize]
     } else {
         NO_KIND
     }
@@ -204,19 +223,30 @@ fn set_kind(a: u8) -> u8
     if a < FIRST_SET { a + FIRST_SET } else { a }
 }
 
-// The kind of `operations`, 18, and of `&` and `+`.
-fn two_kind(op: usize, a: u8, b: u8) -> u8
-    ensures { λ r. ⌜ r ≡ twoNumber op a b ⌝ }
+// The kind of a call of two terms, by its row.
+fn call2_kind(op: u32, a: u8, b: u8) -> u8
+    requires { ⌜ (firstPair ≤ op) × (op < firstJoin) ⌝ }
+    ensures { λ r. ⌜ r ≡ call2Number op a b ⌝ }
 {
-    let s = set_kind(a);
-    if op == 18 {
-        if s == ROLES {
-            if b == OBJECT {
-                return OPERATIONS;
-            }
-        }
+    let row = (3 * (op - FIRST_PAIR)) as usize;
+    if set_kind(a) != PAIRS[row] {
         return NO_KIND;
     }
+    if b != PAIRS[row + 1] {
+        return NO_KIND;
+    }
+    PAIRS[row + 2]
+}
+
+// The kind of a call of two terms, and of `&` and `+`.
+fn two_kind(op: u32, a: u8, b: u8) -> u8
+    requires { ⌜ firstPair ≤ op ⌝ }
+    ensures { λ r. ⌜ r ≡ twoNumber op a b ⌝ }
+{
+    if op < FIRST_JOIN {
+        return call2_kind(op, a, b);
+    }
+    let s = set_kind(a);
     if s == set_kind(b) { s } else { NO_KIND }
 }
 
@@ -228,23 +258,23 @@ fn countable(a: u8) -> bool
 }
 
 // Whether the kinds of a test, a clause or a rule fit: `@`; `=` and `!=`; a count or `{}`; two counts; `=>` and `^`.
-fn fits(op: usize, a: u8, b: u8) -> bool
+fn fits(op: u32, a: u8, b: u8) -> bool
     ensures { λ r. ⌜ r ≡ fitsNumber op a b ⌝ }
 {
-    if op < 22 {
+    if op < IS {
         return if a < FIRST_SET {
             b == a + FIRST_SET
         } else {
             false
         };
     }
-    if op < 24 {
+    if op < IS_EMPTY {
         return if a < NO_KIND { a == b } else { false };
     }
-    if op < 32 {
+    if op < FIRST_COUNTED {
         return countable(a);
     }
-    if op < 38 {
+    if op < WHEN {
         return if countable(a) { countable(b) } else { false };
     }
     if a == KINDS_FIT {
@@ -255,17 +285,17 @@ fn fits(op: usize, a: u8, b: u8) -> bool
 }
 
 // The kind of a node by its operation and the kinds at its left and right.
-fn node_kind(op: usize, a: u8, b: u8) -> u8
-    requires { ⌜ op < 256 ⌝ }
+fn node_kind(op: u32, a: u8, b: u8) -> u8
+    requires { ⌜ op < opRoom ⌝ }
     ensures { λ r. ⌜ r ≡ nodeNumber op a b ⌝ }
 {
-    if op < 9 {
+    if op < FIRST_CALL {
         return op as u8 + FIRST_SET;
     }
-    if op < 18 {
+    if op < FIRST_PAIR {
         return one_kind(op, a);
     }
-    if op < 21 {
+    if op < MEMBER {
         return two_kind(op, a, b);
     }
     if fits(op, a, b) { KINDS_FIT } else { NO_KIND }
@@ -286,9 +316,9 @@ pub fn kinds(nodes: &[u32], n: usize, kinds: &mut [u8])
     let mut k = 0;
     while k < n {
         let v = nodes[k];
-        let op = (v % 256) as usize;
-        let left = (v / 256 % 4096) as usize;
-        let right = (v / 1048576) as usize;
+        let op = v % OP_ROOM;
+        let left = (v / OP_ROOM % INDEX_ROOM) as usize;
+        let right = (v / RIGHT_UNIT) as usize;
         let a = kind_at(kinds, left);
         let b = kind_at(kinds, right);
         kinds[k] = node_kind(op, a, b);

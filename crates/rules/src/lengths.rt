@@ -1,6 +1,14 @@
 // Lengths of terms, tests, clauses and rules as they are written, from the nodes alone.
 // Equal subtrees are one node, so that a text that is long to write is quick to measure.
 use super::variables::has_two;
+use syntax::nodes::AO;
+use syntax::nodes::FIRST_CALL;
+use syntax::nodes::FIRST_NUMBERED;
+use syntax::nodes::INDEX_ROOM;
+use syntax::nodes::OE;
+use syntax::nodes::OP_ROOM;
+use syntax::nodes::OPS_END;
+use syntax::nodes::RIGHT_UNIT;
 use syntax::places::seek;
 ghost use mathlib.Core.Path.{_≡_};
 ghost use Prim.Native.Nat.{_<_, _≤_};
@@ -55,7 +63,7 @@ const EXTRA: [u32; 40] = [
 fn extra_of(op: u32) -> u32
     ensures { λ r. ⌜ (r ≡ extra op) × (r ≤ 14) ⌝ }
 {
-    if op < 40 { EXTRA[op as usize] } else { 0 }
+    if op < OPS_END { EXTRA[op as usize] } else { 0 }
 }
 
 // The length of an operation's text by those of its parts, which is m where the right part is a number.
@@ -67,7 +75,7 @@ fn plain_length(op: u32, a: u32, b: u32, m: u32) -> u32
     if has_two(op) {
         return e + a + b;
     }
-    if op < 26 {
+    if op < FIRST_NUMBERED {
         return e + a;
     }
     if m < 10 { e + a + 1 } else { e + a + 2 }
@@ -78,10 +86,10 @@ fn known_length(op: u32, a: u32, b: u32, m: u32) -> u32
     requires { ⌜ (a ≤ 65535) × (b ≤ 65535) ⌝ }
     ensures { λ r. ⌜ r ≡ knownLength op a b m ⌝ }
 {
-    if op == 16 {
+    if op == OE {
         return 2;
     }
-    if op == 17 {
+    if op == AO {
         return 7 + a;
     }
     plain_length(op, a, b, m)
@@ -91,7 +99,7 @@ fn node_length(op: u32, known: bool, a: u32, b: u32, m: u32) -> u32
     requires { ⌜ (a ≤ 65535) × (b ≤ 65535) ⌝ }
     ensures { λ r. ⌜ r ≡ nodeLength op known a b m ⌝ }
 {
-    if op < 9 {
+    if op < FIRST_CALL {
         return extra_of(op);
     }
     if known {
@@ -122,12 +130,12 @@ pub fn lengths(nodes: &[u32], n: usize, vars: &[u32], lens: &mut [u32])
     let mut k = 0;
     while k < n {
         let v = nodes[k];
-        let left = v / 256 % 4096;
-        let right = v / 1048576;
+        let left = v / OP_ROOM % INDEX_ROOM;
+        let right = v / RIGHT_UNIT;
         let known = seek(vars, vars.len(), left) < vars.len();
         let a = length_at(lens, left as usize);
         let b = length_at(lens, right as usize);
-        lens[k] = at_most(node_length(v % 256, known, a, b, right));
+        lens[k] = at_most(node_length(v % OP_ROOM, known, a, b, right));
         k += 1;
     }
 }

@@ -5,6 +5,14 @@ ghost use Prim.Native.Nat.{_<_, _≤_};
 ghost use lib.ListN.{length};
 ghost use Rattle.syntax.specs.code.Arena.{Tidy, hasTwo};
 ghost use Rattle.rules.specs.code.Variables.{Walked, Added, VarsOf};
+use syntax::nodes::FIRST_CALL;
+use syntax::nodes::FIRST_COUNTED;
+use syntax::nodes::FIRST_PAIR;
+use syntax::nodes::INDEX_ROOM;
+use syntax::nodes::IS_EMPTY;
+use syntax::nodes::OE;
+use syntax::nodes::OP_ROOM;
+use syntax::nodes::RIGHT_UNIT;
 use syntax::places::seek;
 
 // The count after the node, which is put behind the others unless it is one of them.
@@ -30,13 +38,13 @@ fn add(vars: &mut [u32], count: usize, node: u32) -> usize
 pub fn has_two(op: u32) -> bool
     ensures { λ r. ⌜ r ≡ hasTwo op ⌝ }
 {
-    if op < 18 {
+    if op < FIRST_PAIR {
         return false;
     }
-    if op < 24 {
+    if op < IS_EMPTY {
         return true;
     }
-    op >= 32
+    op >= FIRST_COUNTED
 }
 
 // The count after the variables of what node k holds, which are put behind the others: first those below it, then its own.
@@ -47,20 +55,20 @@ fn walk(nodes: &[u32], n: usize, k: usize, vars: &mut [u32], count: usize) -> us
     ensures { λ r. ⌜ Walked (now (nodes .entry)) n k (now (vars .entry)) count (now (vars .exit)) r ⌝ }
 {
     let v = nodes[k];
-    let op = v % 256;
-    if op < 9 {
+    let op = v % OP_ROOM;
+    if op < FIRST_CALL {
         return count;
     }
-    let left = v / 256 % 4096;
+    let left = v / OP_ROOM % INDEX_ROOM;
     let c = walk(nodes, n, left as usize, vars, count);
-    if op < 16 {
+    if op < OE {
         return c;
     }
-    if op < 18 {
+    if op < FIRST_PAIR {
         return add(vars, c, left);
     }
     if has_two(op) {
-        return walk(nodes, n, (v / 1048576) as usize, vars, c);
+        return walk(nodes, n, (v / RIGHT_UNIT) as usize, vars, c);
     }
     c
 }

@@ -3,20 +3,21 @@
 use mathlib.Core.Path.{_≡_, refl, sym, ap, ap₂, _∙_}
 use mathlib.Core.List.{List, [], _∷_}
 use mathlib.Core.Logic.{⊎-elim}
-use Prim.Native.Nat.{ℕ, suc, _+_, _*_, _-_, _/_, _%_, _<_, _≤_}
+use Prim.Native.Nat.{ℕ, suc, _+_, _-_, _<_, _≤_}
 use native.Mathlib.Nat.{eq-or-lt-of-le}
 use native.Mathlib.Omega.{arith}
 use lib.ListN.{length, getD, set, length-set}
 use lib.Seq.{getD-set-same, getD-set-other}
 use Rattle.syntax.specs.Term.{Base, bU, bR, bOP, bOBJ, bP, bS, bCR, bCP, bCU, Fn, user, roles, roles*, sessions, permissions}
-use Rattle.syntax.specs.Term.{permissions*, object, Op, operations, meet, join, Term, base, call, oe, ao, two, Choices}
+use Rattle.syntax.specs.Term.{permissions*, object, operations, meet, join, Term, base, call, oe, ao, two, Choices, Pair, calls, joins}
 use Rattle.syntax.specs.Rule.{number, count, Test, member, alike, empty, sized, Clause, plain, when, Rule, last, also}
-use Rattle.syntax.specs.code.Arena.{baseOp, fnOp, oeOp, aoOp, twoOp, None, One, Numbered, Both, Holds, HoldsTest, HoldsClause, HoldsRule, HoldsAll, Apart, Low, Down, Tidy}
+use Rattle.syntax.specs.code.Arena.{baseOp, fnOp, twoOp, None, One, Numbered, Both, Holds, HoldsTest, HoldsClause, HoldsRule, HoldsAll, Apart, Low, Down, Tidy}
 use Rattle.syntax.specs.code.Reading.{Arena, Stays, Knows}
+use Rattle.syntax.specs.code.Nodes.{firstCall, oeOp, aoOp, firstPair, memberOp, operationOf, leftOf, rightOf, nodeOf, opAt, opRoom, indexRoom}
 
 -- The numbers of operations.
 
-pub base-small : (b : Base) → baseOp b < 9
+pub base-small : (b : Base) → baseOp b < firstCall
 unfolding baseOp
 base-small bU = omega arith
 base-small bR = omega arith
@@ -30,8 +31,8 @@ base-small bCU = omega arith
 
 -- The number of a function is one of seven.
 pub record FnRange (o : ℕ) : Type 0 where
-  pub low : 9 ≤ o
-  pub high : o < 16
+  pub low : firstCall ≤ o
+  pub high : o < oeOp
 
 pub fn-range : (f : Fn) → FnRange (fnOp f)
 unfolding fnOp
@@ -44,14 +45,14 @@ fn-range permissions* = record { low = omega arith; high = omega arith }
 fn-range object = record { low = omega arith; high = omega arith }
 
 pub record TwoRange (o : ℕ) : Type 0 where
-  pub low : 18 ≤ o
-  pub high : o < 21
+  pub low : firstPair ≤ o
+  pub high : o < memberOp
 
-pub two-range : (o : Op) → TwoRange (twoOp o)
+pub two-range : (o : Pair) → TwoRange (twoOp o)
 unfolding twoOp
-two-range operations = record { low = omega arith; high = omega arith }
-two-range meet = record { low = omega arith; high = omega arith }
-two-range join = record { low = omega arith; high = omega arith }
+two-range (calls operations) = record { low = omega arith; high = omega arith }
+two-range (joins meet) = record { low = omega arith; high = omega arith }
+two-range (joins join) = record { low = omega arith; high = omega arith }
 
 -- Each number is that of one operation.
 
@@ -70,7 +71,7 @@ base-back bCU = refl
 pub base-one : (a b : Base) → baseOp a ≡ baseOp b → a ≡ b
 base-one a b e = cc (base-back a, base-back b)
 
-fn-back : (f : Fn) → getD (user ∷ roles ∷ roles* ∷ sessions ∷ permissions ∷ permissions* ∷ object ∷ []) (fnOp f - 9) user ≡ f
+fn-back : (f : Fn) → getD (user ∷ roles ∷ roles* ∷ sessions ∷ permissions ∷ permissions* ∷ object ∷ []) (fnOp f - firstCall) user ≡ f
 unfolding fnOp
 fn-back user = refl
 fn-back roles = refl
@@ -83,33 +84,33 @@ fn-back object = refl
 pub fn-one : (f g : Fn) → fnOp f ≡ fnOp g → f ≡ g
 fn-one f g e = cc (fn-back f, fn-back g)
 
-two-back : (o : Op) → getD (operations ∷ meet ∷ join ∷ []) (twoOp o - 18) operations ≡ o
+two-back : (o : Pair) → getD (calls operations ∷ joins meet ∷ joins join ∷ []) (twoOp o - firstPair) (calls operations) ≡ o
 unfolding twoOp
-two-back operations = refl
-two-back meet = refl
-two-back join = refl
+two-back (calls operations) = refl
+two-back (joins meet) = refl
+two-back (joins join) = refl
 
-pub two-one : (o p : Op) → twoOp o ≡ twoOp p → o ≡ p
+pub two-one : (o p : Pair) → twoOp o ≡ twoOp p → o ≡ p
 two-one o p e = cc (two-back o, two-back p)
 
 -- The parts of a node: its operation, its left index and its right one.
 
 pub record Parts (v o i j : ℕ) : Type 0 where
-  pub op : v % 256 ≡ o
-  pub left : v / 256 % 4096 ≡ i
-  pub right : v / 1048576 ≡ j
+  pub op : operationOf v ≡ o
+  pub left : leftOf v ≡ i
+  pub right : rightOf v ≡ j
 
-pub parts : (v o i j : ℕ) → v ≡ o + 256 * i + 1048576 * j → o < 256 → i < 4096 → Parts v o i j
+pub parts : (v o i j : ℕ) → v ≡ nodeOf o i j → o < opRoom → i < indexRoom → Parts v o i j
 parts v o i j e lo li =
     record { op = rw e (omega arith); left = rw e (omega arith); right = rw e (omega arith) }
 
-pub none-parts : {ns : List ℕ} {k o : ℕ} → None ns k o → o < 256 → Parts (getD ns k 0) o 0 0
+pub none-parts : {ns : List ℕ} {k o : ℕ} → None ns k o → o < opRoom → Parts (getD ns k 0) o 0 0
 none-parts {ns} {k} {o} x h = parts (getD ns k 0) o 0 0 (omega (arith, x .node)) h (omega arith)
 
-pub one-parts : {ns : List ℕ} {k o i : ℕ} → One ns k o i → o < 256 → Parts (getD ns k 0) o i 0
+pub one-parts : {ns : List ℕ} {k o i : ℕ} → One ns k o i → o < opRoom → Parts (getD ns k 0) o i 0
 one-parts {ns} {k} {o} {i} x h = parts (getD ns k 0) o i 0 (omega (arith, x .node)) h (x .small)
 
-pub both-parts : {ns : List ℕ} {k o i j : ℕ} → Both ns k o i j → o < 256 → Parts (getD ns k 0) o i j
+pub both-parts : {ns : List ℕ} {k o i j : ℕ} → Both ns k o i j → o < opRoom → Parts (getD ns k 0) o i j
 both-parts {ns} {k} {o} {i} {j} x h = parts (getD ns k 0) o i j (x .node) h (x .small)
 
 -- What a node holds it holds later.
@@ -202,10 +203,10 @@ opOf (oe t) = oeOp
 opOf (ao t) = aoOp
 opOf (two o t u) = twoOp o
 
-one-op : {ns : List ℕ} {k o i : ℕ} → One ns k o i → o < 256 → getD ns k 0 % 256 ≡ o
+one-op : {ns : List ℕ} {k o i : ℕ} → One ns k o i → o < opRoom → opAt ns k ≡ o
 one-op x h = one-parts x h .op
 
-pub holds-op : (ns : List ℕ) (k : ℕ) (t : Term) → Holds ns k t → getD ns k 0 % 256 ≡ opOf t
+pub holds-op : (ns : List ℕ) (k : ℕ) (t : Term) → Holds ns k t → opAt ns k ≡ opOf t
 unfolding Holds opOf
 holds-op ns k (base b) x = none-parts x (omega (arith, base-small b)) .op
 holds-op ns k (call f t) x = one-op (x .1) (omega (arith, fn-range f .high))
@@ -214,7 +215,7 @@ holds-op ns k (ao t) x = one-op (x .1) (omega arith)
 holds-op ns k (two o t u) x = both-parts (x .2) (omega (arith, two-range o .high)) .op
 
 -- Two operations on one node are on one index.
-one-same : {ns : List ℕ} {k o p i j : ℕ} → One ns k o i → One ns k p j → o < 256 → p < 256 → i ≡ j
+one-same : {ns : List ℕ} {k o p i j : ℕ} → One ns k o i → One ns k p j → o < opRoom → p < opRoom → i ≡ j
 one-same x y ho hp = sym (one-parts x ho .left) ∙ one-parts y hp .left
 
 pub holds-one : (ns : List ℕ) (k : ℕ) (t u : Term) → Holds ns k t → Holds ns k u → t ≡ u

@@ -4,18 +4,18 @@ use mathlib.Core.Path.{_≡_, refl, ap, sym, _∙_}
 use mathlib.Core.List.{List, [], _∷_, _++_, map, append-assoc, append-nil}
 use mathlib.Core.Option.{Option, none, some}
 use mathlib.Core.Bool.{Bool, true, false, _&&_, _||_, cond}
-use Prim.Native.Nat.{ℕ, suc, _+_, _-_, _≤_, _<_, _/_, _%_}
+use Prim.Native.Nat.{ℕ, suc, _+_, _-_, _<_, _/_, _%_}
 use native.Mathlib.Omega.{arith}
 use native.Mathlib.Decide.{decLt}
-use lib.Dec.{eqb, ltb}
-use lib.ListN.{length, take, length-append}
+use lib.Dec.{eqb}
+use lib.ListN.{length, length-append}
 use lib.Seq.{take-append-seam}
 use borrow.Author.Tests.{ne-eqb}
 use Rattle.syntax.specs.Bytes.{Bytes, ascii, same}
 use Rattle.syntax.specs.Term.{Base, bU, bR, bOP, bOBJ, bP, bS, bCR, bCP, bCU, Fn, user, roles, roles*, sessions, permissions, permissions*}
-use Rattle.syntax.specs.Term.{object, operations, meet, join, Term, base, call, oe, ao, two, Term≟, Choices, digitFrom, digit}
-use Rattle.syntax.specs.Term.{Head, isBase, isCall, isOE, isAO, isOperations, isBracket, spell, spellMiddle, isMeet, isJoin, text, oeText, aoText}
-use Rattle.syntax.specs.Rule.{lt, le, gt, ge, eq, ne, is, isnt, Count, number, count, Test, member, alike, empty, sized, Cmp, Sign, Clause}
+use Rattle.syntax.specs.Term.{object, operations, meet, join, calls, joins, Term, base, call, oe, ao, two, Term≟, Choices, digitFrom, digit}
+use Rattle.syntax.specs.Term.{isBase, isCall, isOE, isAO, isCall2, isBracket, spell, spellMiddle, opening, parting, text, oeText, aoText}
+use Rattle.syntax.specs.Rule.{lt, le, gt, ge, eq, ne, is, isnt, Count, number, count, Test, member, alike, empty, sized, Cmp, Clause}
 use Rattle.syntax.specs.Rule.{plain, when, Rule, last, also, spellCmp, Between, spellBetween, isIn, isSign, digits, countText, testText, clauseText, ruleText}
 use Rattle.syntax.specs.Rule.{add, vars, countVars, testVars, clauseVars, ruleVars, ruleOf}
 use Rattle.syntax.specs.Choosing.{Bracket, chooser, among, noted, argument, outer, closing, choicesFrom, choicesIn}
@@ -149,7 +149,7 @@ open-call permissions = record { at = λ x y bs xs s h. (115, refl) }
 open-call permissions* = record { at = λ x y bs xs s h. (42, refl) }
 open-call object = record { at = λ x y bs xs s h. (116, refl) }
 
-open-operations : Opens (spell isOperations) false
+open-operations : Opens (spell (isCall2 operations)) false
 unfolding spell choicesFrom chooser same
 open-operations = record { at = λ x y bs xs s h. (115, refl) }
 
@@ -224,14 +224,14 @@ reads-pair {w} k u v o q p r =
     reads-as (ap (λ (l : Bytes). w ++ l) (sym (append-assoc u (k ∷ v) (ascii ")")))) (plain-wrapped o (reads-then p (reads-then (silent-byte k q) r)))
 
 term-choices : (t : Term) → Reads (text [] t) (λ σ. vars σ t)
-unfolding text vars oeText aoText digitFrom spellMiddle
+unfolding text vars opening parting oeText aoText digitFrom spellMiddle
 term-choices (base b) = silent-base b
 term-choices (call f a) = plain-wrapped (open-call f) (term-choices a)
 term-choices (oe a) = chosen-wrapped a open-oe (term-choices a)
 term-choices (ao a) = chosen-wrapped a open-ao (term-choices a)
-term-choices (two operations a b) = reads-pair 44 (text [] a) (text [] b) open-operations (refl, refl, refl, refl) (term-choices a) (term-choices b)
-term-choices (two meet a b) = reads-pair 38 (text [] a) (text [] b) open-bracket (refl, refl, refl, refl) (term-choices a) (term-choices b)
-term-choices (two join a b) = reads-pair 43 (text [] a) (text [] b) open-bracket (refl, refl, refl, refl) (term-choices a) (term-choices b)
+term-choices (two (calls operations) a b) = reads-pair 44 (text [] a) (text [] b) open-operations (refl, refl, refl, refl) (term-choices a) (term-choices b)
+term-choices (two (joins meet) a b) = reads-pair 38 (text [] a) (text [] b) open-bracket (refl, refl, refl, refl) (term-choices a) (term-choices b)
+term-choices (two (joins join) a b) = reads-pair 43 (text [] a) (text [] b) open-bracket (refl, refl, refl, refl) (term-choices a) (term-choices b)
 
 -- Tests, clauses and rules.
 

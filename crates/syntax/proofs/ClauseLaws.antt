@@ -3,7 +3,7 @@
 use mathlib.Core.Path.{_≡_, refl, sym, ap, subst, _∙_}
 use mathlib.Core.List.{List, [], _∷_, _++_}
 use mathlib.Core.Logic.{⊎-elim}
-use Prim.Native.Nat.{ℕ, suc, _+_, _*_, _-_, _<_, _≤_}
+use Prim.Native.Nat.{ℕ, suc, _+_, _-_, _<_, _≤_}
 use native.Mathlib.Nat.{eq-or-lt-of-le}
 use native.Mathlib.Omega.{arith}
 use lib.ListN.{length, getD, drop, set, length-set, length-append, drop-of-length-le, List·getD-append, List·getD-eq-default}
@@ -16,6 +16,9 @@ use Rattle.syntax.specs.code.Reading.{Arena, mk, Stays, Fresh, Interned,
 use Rattle.syntax.specs.code.Reading.{Collected, Collects, noClause, someClauses, Joinable, JoinedAt, Joined, joined}
 use Rattle.syntax.specs.declared.arena.Place.{Place}
 use Rattle.syntax.specs.declared.arena.Place.the-variants.{Nothing, Got}
+use Rattle.syntax.specs.declared.tests.Clauses.{Clauses}
+use Rattle.syntax.specs.declared.tests.Clauses.the-variants.{Nothing as NoClause, Several}
+use Rattle.syntax.specs.code.Nodes.{alsoOp, nodeOf, indexRoom}
 use Rattle.syntax.proofs.BytesLaws.{next-agree, next-next}
 use Rattle.syntax.proofs.ArenaLaws.{stays-refl, stays-trans, clause-later, rule-later, knows-later}
 use Rattle.syntax.proofs.NameLaws.{Hit}
@@ -168,11 +171,11 @@ module _ {s : Bytes} {start left K at c : ℕ} {vars list : List ℕ} {a₀ a : 
 
 -- What was collected.
 
-pub as-no-clause : {s : Bytes} {at : ℕ} {a : Arena} {ns list : List ℕ} {p : Place} {r : Read Rule} → Collects s at a ns list p r → p ≡ Nothing → r ≡ fail
+pub as-no-clause : {s : Bytes} {at : ℕ} {a : Arena} {ns list : List ℕ} {p : Clauses} {r : Read Rule} → Collects s at a ns list p r → p ≡ NoClause → r ≡ fail
 as-no-clause (noClause e) q = e
 as-no-clause (someClauses x) q = let z : _≡_ {A = ℕ} 0 1 = cc in absurd (omega arith)
 
-pub as-clauses : {s : Bytes} {at : ℕ} {a : Arena} {ns list : List ℕ} {p : Place} {r : Read Rule} {c e n : ℕ} → Collects s at a ns list p r → p ≡ Got c e n → Collected s at a (mk ns n) list c e r
+pub as-clauses : {s : Bytes} {at : ℕ} {a : Arena} {ns list : List ℕ} {p : Clauses} {r : Read Rule} {c e n : ℕ} → Collects s at a ns list p r → p ≡ Several c e n → Collected s at a (mk ns n) list c e r
 as-clauses (noClause e) q = let z : _≡_ {A = ℕ} 0 1 = cc in absurd (omega arith)
 as-clauses {c = c} {e = e} {n = n} (someClauses {c = c′} {e = e′} {n = n′} x) q =
     let qc : c′ ≡ c = cc in
@@ -244,10 +247,10 @@ module _ {a : Arena} {list : List ℕ} {c next : ℕ} (g : Joinable a list c nex
       item : getD list (k - 1) 0 < b .n
       item = omega (arith, g .below (k - 1) (omega (arith, j .left)), j .stays .more)
 
-      pub join-fresh : Fresh b 39 (getD list (k - 1) 0) node
+      pub join-fresh : Fresh b alsoOp (getD list (k - 1) 0) node
       join-fresh = fresh-two (omega (arith, g .room, j .few, j .stays .size)) (j .tidy) (omega arith) item (j .within)
 
-      pub join-next : {d : Arena} {i : ℕ} → Interned b (39 + 256 * getD list (k - 1) 0 + 1048576 * node) d i → Joining a list c d (k - 1) i
+      pub join-next : {d : Arena} {i : ℕ} → Interned b (nodeOf alsoOp (getD list (k - 1) 0) node) d i → Joining a list c d (k - 1) i
       unfolding graft HoldsRule hasTwo
       join-next {d} {i} u =
           record {
@@ -260,9 +263,9 @@ module _ {a : Arena} {list : List ℕ} {c next : ℕ} (g : Joinable a list c nex
                 let m : k - 1 < length cs = omega (arith, x .size, j .left) in
                 let n : suc (k - 1) ≡ k = omega arith in
                 let lim : b .n ≤ 4096 = omega (arith, j .tidy .size, j .tidy .fits) in
-                let i₁ : getD list (k - 1) 0 < 4096 = omega (arith, item) in
-                let i₂ : node < 4096 = omega (arith, j .within) in
-                let y : Both (d .nodes) i 39 (getD list (k - 1) 0) node = both-node u (omega arith) (omega arith) refl i₁ i₂ in
+                let i₁ : getD list (k - 1) 0 < indexRoom = omega (arith, item) in
+                let i₂ : node < indexRoom = omega (arith, j .within) in
+                let y : Both (d .nodes) i alsoOp (getD list (k - 1) 0) node = both-node u (omega arith) (omega arith) refl i₁ i₂ in
                 let o : getD list (k - 1) 0 < a .n = g .below (k - 1) (omega (arith, j .left)) in
                 let t : HoldsClause (d .nodes) (getD list (k - 1) 0) (getD cs (k - 1) e) = clause-later a d (getD list (k - 1) 0) (getD cs (k - 1) e) (stays-trans (j .stays) (u .stays)) o (x .each (k - 1) (omega (arith, j .left))) in
                 let v : HoldsRule (d .nodes) node (graft (drop k cs) (last e)) = rule-later b d node (graft (drop k cs) (last e)) (u .stays) (j .within) (j .holds cs e x) in

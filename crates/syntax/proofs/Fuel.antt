@@ -8,8 +8,8 @@ use lib.ListN.{length, length-append}
 use Rattle.syntax.specs.Bytes.{Bytes, ascii, Read, fail, got, Reader, skip, scan, either}
 use Rattle.syntax.proofs.BytesLaws.{never, next-case, next-agree, skip-gives}
 use Rattle.syntax.proofs.BytesLaws.{scan-gives}
-use Rattle.syntax.specs.Term.{Term, Choices, namedFrom, Head, isBase, isCall, isOE, isAO, isOperations, isBracket, isChoice, spell}
-use Rattle.syntax.specs.Term.{Middle, isMeet, isJoin, isLess, spellMiddle, heads, collectionHeads, callHeads, bracketHeads, middles, known, closed, second, inner, readTerm}
+use Rattle.syntax.specs.Term.{Term, Choices, namedFrom, Head, isBase, isCall, isOE, isAO, isBracket, isChoice, spell}
+use Rattle.syntax.specs.Term.{Middle, isLess, spellMiddle, heads, collectionHeads, callHeads, bracketHeads, middles, known, closed, second, inner, readTerm, isCall2, isOp}
 use Rattle.syntax.proofs.TermLaws.{head-long, no-head}
 
 -- What is left is no longer than what was there.
@@ -44,8 +44,7 @@ module _ (rd : Reader Term) (σ : Choices) (shr : Shrinks rd) where
 
   second-short : (a : Term) (m : Middle) (s : Bytes) (t : Term) (r : Bytes) → second rd σ a m s ≡ got t r → length r ≤ length s
   unfolding second
-  second-short a isMeet s t r e = closed-short _ s t r e
-  second-short a isJoin s t r e = closed-short _ s t r e
+  second-short a (isOp o) s t r e = closed-short _ s t r e
   second-short a isLess s t r e =
       next-case (known σ s) _ e λ b s₁ e₁ e₂. next-case (skip (ascii "})") s₁) _ e₂ λ _ s₂ e₃ e₄.
       let q : r ≡ s₂ = cc in omega (arith, known-short σ s e₁, skip-short (ascii "})") s₁ e₃, ap length q)
@@ -56,7 +55,7 @@ module _ (rd : Reader Term) (σ : Choices) (shr : Shrinks rd) where
   inner-short (isCall f) s t r e = closed-short _ s t r e
   inner-short isOE s t r e = closed-short _ s t r e
   inner-short isAO s t r e = closed-short _ s t r e
-  inner-short isOperations s t r e =
+  inner-short (isCall2 f) s t r e =
       next-case (rd s) _ e λ a s₁ e₁ e₂. next-case (skip (ascii ",") s₁) _ e₂ λ _ s₂ e₃ e₄.
       omega (arith, shr s a s₁ e₁, skip-short (ascii ",") s₁ e₃, closed-short _ s₂ t r e₄)
   inner-short isBracket s t r e =
@@ -80,8 +79,7 @@ module _ (rd rd' : Reader Term) (σ : Choices) (n : ℕ) (shr : Shrinks rd) (sam
 
   second-agree : (a : Term) (m : Middle) (s : Bytes) → length s ≤ n → second rd σ a m s ≡ second rd' σ a m s
   unfolding second
-  second-agree a isMeet s h = closed-agree _ s h
-  second-agree a isJoin s h = closed-agree _ s h
+  second-agree a (isOp o) s h = closed-agree _ s h
   second-agree a isLess s h = refl
 
   inner-agree : (h : Head) (s : Bytes) → length s ≤ n → inner rd σ h s ≡ inner rd' σ h s
@@ -90,7 +88,7 @@ module _ (rd rd' : Reader Term) (σ : Choices) (n : ℕ) (shr : Shrinks rd) (sam
   inner-agree (isCall f) s h = closed-agree _ s h
   inner-agree isOE s h = closed-agree _ s h
   inner-agree isAO s h = closed-agree _ s h
-  inner-agree isOperations s h =
+  inner-agree (isCall2 f) s h =
       rw (← (same s h)) (next-agree (rd s) _ _ λ a s₁ e₁. next-agree (skip (ascii ",") s₁) _ _ λ _ s₂ e₂.
       closed-agree _ s₂ (omega (arith, shr s a s₁ e₁, skip-short (ascii ",") s₁ e₂)))
   inner-agree isBracket s h =

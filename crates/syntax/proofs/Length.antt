@@ -5,7 +5,7 @@ use Prim.Native.Nat.{ℕ, suc, _*_, _≤_}
 use native.Mathlib.Omega.{arith}
 use lib.ListN.{length, length-append}
 use Rattle.syntax.specs.Bytes.{Bytes}
-use Rattle.syntax.specs.Term.{Term, base, call, oe, ao, two, operations, meet, join, Choices, digitFrom, digit, text, oeText, aoText, spell, spellMiddle}
+use Rattle.syntax.specs.Term.{Term, base, call, oe, ao, two, Choices, digitFrom, digit, text, oeText, aoText, spell, spellMiddle}
 use Rattle.syntax.specs.Rule.{Count, number, count, Test, member, alike, empty, sized, Clause, plain, when, Rule, last, also}
 use Rattle.syntax.specs.Rule.{countText, testText, clauseText, ruleText, add, vars, countVars, testVars, clauseVars, ruleVars, quantifiers, formulaWith}
 use Rattle.syntax.specs.Rule.{formula}
@@ -27,9 +27,7 @@ text-grows σ (ao a) = go (digit σ a) (text-grows σ a)
     go : (o : Option ℕ) → Grows (text σ a) (text [] a) → Grows (aoText o (text σ a)) (text [] (ao a))
     go none h = simp length-append (omega arith)
     go (some d) h = simp length-append (omega arith)
-text-grows σ (two operations a b) = simp length-append (omega (arith, text-grows σ a, text-grows σ b))
-text-grows σ (two meet a b) = simp length-append (omega (arith, text-grows σ a, text-grows σ b))
-text-grows σ (two join a b) = simp length-append (omega (arith, text-grows σ a, text-grows σ b))
+text-grows σ (two o a b) = simp length-append (omega (arith, text-grows σ a, text-grows σ b))
 
 count-grows : (σ : Choices) (k : Count) → Grows (countText σ k) (countText [] k)
 unfolding countText
@@ -81,13 +79,7 @@ module _ (n : ℕ) where
   vars-small σ (ao a) h k =
       let w : length (text [] a) ≤ n = omega (arith, simp length-append at k) in
       add-small n (vars σ a) a (vars-small σ a h w) w
-  vars-small σ (two operations a b) h k =
-      let w : (length (text [] a) ≤ n) × (length (text [] b) ≤ n) = omega (arith, simp length-append at k) in
-      vars-small (vars σ a) b (vars-small σ a h (w .0)) (w .1)
-  vars-small σ (two meet a b) h k =
-      let w : (length (text [] a) ≤ n) × (length (text [] b) ≤ n) = omega (arith, simp length-append at k) in
-      vars-small (vars σ a) b (vars-small σ a h (w .0)) (w .1)
-  vars-small σ (two join a b) h k =
+  vars-small σ (two o a b) h k =
       let w : (length (text [] a) ≤ n) × (length (text [] b) ≤ n) = omega (arith, simp length-append at k) in
       vars-small (vars σ a) b (vars-small σ a h (w .0)) (w .1)
 

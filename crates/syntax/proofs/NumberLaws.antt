@@ -12,7 +12,7 @@ use lib.ListN.{length, getD, drop, drop-of-length-le}
 use lib.Seq.{drop-cons}
 use Rattle.syntax.specs.Bytes.{Bytes, Read, fail, got, skip, scan}
 use Rattle.syntax.specs.Rule.{digits, down, readNumber}
-use Rattle.syntax.specs.code.Reading.{Named, noName, someName, digitOf, itself}
+use Rattle.syntax.specs.code.Reading.{noDigit, Named, noName, someName, digitOf, itself}
 use Rattle.syntax.specs.declared.names.Spelled.the-variants.{Unknown, Name}
 use Rattle.syntax.proofs.BytesLaws.{skip-gives, either-own, either-on}
 use Rattle.syntax.proofs.RuleLaws.{digits-one, digits-two}
@@ -36,15 +36,15 @@ digit-own d r h =
     rw (le-ltb (48 + d) 48 l, le-ltb 57 (48 + d) m, digitOf) (omega arith)
 
 module _ (s : Bytes) (at : ℕ) where
-  pub digit-end : length s ≤ at → 100 ≡ digitOf (drop at s)
+  pub digit-end : length s ≤ at → noDigit ≡ digitOf (drop at s)
   unfolding digitOf
   digit-end h = rw (drop-of-length-le s h)
 
-  pub digit-low : at < length s → getD s at 0 < 48 → 100 ≡ digitOf (drop at s)
+  pub digit-low : at < length s → getD s at 0 < 48 → noDigit ≡ digitOf (drop at s)
   unfolding digitOf
   digit-low h l = rw (drop-cons s at 0 h, lt-ltb (getD s at 0) 48 l, digitOf)
 
-  pub digit-high : at < length s → 48 ≤ getD s at 0 → 57 < getD s at 0 → 100 ≡ digitOf (drop at s)
+  pub digit-high : at < length s → 48 ≤ getD s at 0 → 57 < getD s at 0 → noDigit ≡ digitOf (drop at s)
   unfolding digitOf
   digit-high h l m = rw (drop-cons s at 0 h, le-ltb (getD s at 0) 48 l, lt-ltb 57 (getD s at 0) m, digitOf)
 
@@ -53,20 +53,20 @@ module _ (s : Bytes) (at : ℕ) where
   digit-is h l m = rw (drop-cons s at 0 h, le-ltb (getD s at 0) 48 l, le-ltb 57 (getD s at 0) m, digitOf)
 
 -- A digit is at most 9, or there is none.
-pub digit-cases : (s : Bytes) → (digitOf s ≤ 9) ⊎ (digitOf s ≡ 100)
+pub digit-cases : (s : Bytes) → (digitOf s ≤ 9) ⊎ (digitOf s ≡ noDigit)
 unfolding digitOf
 digit-cases [] = inr refl
 digit-cases (c ∷ r) = go (decLt c 48) (decLt 57 c)
   where
-    go : Dec (c < 48) → Dec (57 < c) → (digitOf (c ∷ r) ≤ 9) ⊎ (digitOf (c ∷ r) ≡ 100)
+    go : Dec (c < 48) → Dec (57 < c) → (digitOf (c ∷ r) ≤ 9) ⊎ (digitOf (c ∷ r) ≡ noDigit)
     go (yes p) q = inr (rw (lt-ltb c 48 p, digitOf))
     go (no p) (yes q) = let l : 48 ≤ c = omega arith in inr (rw (le-ltb c 48 l, lt-ltb 57 c q, digitOf))
     go (no p) (no q) = let l : 48 ≤ c = omega arith in let m : c ≤ 57 = omega arith in inl (rw (le-ltb c 48 l, le-ltb 57 c m, digitOf) (omega arith))
 
-pub digit-most : {b : ℕ} (s : Bytes) → b ≡ digitOf s → b ≤ 100
+pub digit-most : {b : ℕ} (s : Bytes) → b ≡ digitOf s → b ≤ noDigit
 digit-most s e = ⊎-elim (λ x. omega arith) (λ x. omega arith) (digit-cases s)
 
-small-digit : {b : ℕ} (s : Bytes) → b ≡ digitOf s → b < 100 → b ≤ 9
+small-digit : {b : ℕ} (s : Bytes) → b ≡ digitOf s → b < noDigit → b ≤ 9
 small-digit s e l = ⊎-elim (λ x. omega arith) (λ x. omega arith) (digit-cases s)
 
 -- The digit a stands at `at`.

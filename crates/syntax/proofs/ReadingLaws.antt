@@ -3,19 +3,20 @@
 use mathlib.Core.Path.{_≡_, refl, sym, ap, subst, _∙_}
 use mathlib.Core.Bool.{Bool, true, false}
 use mathlib.Core.List.{List, [], _∷_}
-use Prim.Native.Nat.{ℕ, suc, _+_, _*_, _-_, _%_, _<_, _≤_}
+use Prim.Native.Nat.{ℕ, suc, _+_, _-_, _<_, _≤_}
 use native.Mathlib.Omega.{arith}
 use borrow.Author.Tests.{lt-leb, eq-eqb, ne-eqb}
 use lib.ListN.{length, getD, drop}
 use Rattle.syntax.specs.Bytes.{Bytes, ascii, Read, fail, got, Reader, next, skip, either, scan}
-use Rattle.syntax.specs.Term.{Base, Op, operations, meet, join, Term, base, call, oe, ao, two, Choices, Head, isBase, isCall, isOE}
-use Rattle.syntax.specs.Term.{isAO, isOperations, isBracket, isChoice, spell, heads, spellMiddle, middles}
-use Rattle.syntax.specs.Term.{known, closed, second, inner, readTerm}
+use Rattle.syntax.specs.Term.{Base, operations, meet, join, Term, base, call, oe, ao, two, Choices, Head, isBase, isCall, isOE}
+use Rattle.syntax.specs.Term.{isAO, isBracket, isChoice, spell, heads, spellMiddle, middles}
+use Rattle.syntax.specs.Term.{known, closed, second, inner, readTerm, Pair, calls, joins, isCall2, parting}
 use Rattle.syntax.specs.code.Arena.{baseOp, twoOp, None, One, Numbered, Both, Holds, hasTwo, Down, Tidy}
 use Rattle.syntax.specs.code.Reading.{Signed, headOp, Choice, Arena, mk, Stays, Fresh, Interned, Put, put, Knows, Ready, Found, Agree, noThing}
 use Rattle.syntax.specs.code.Reading.{someThing, Makes, Joint, pair, away, jointOp, spellJoint, joints, choice, less, ending, paired}
 use Rattle.syntax.specs.declared.arena.Place.{Place}
 use Rattle.syntax.specs.declared.arena.Place.the-variants.{Nothing, Got}
+use Rattle.syntax.specs.code.Nodes.{firstCall, oeOp, aoOp, firstPair, firstCounted, opsEnd, bracketHead, choiceHead, operationOf, nodeOf, opAt, indexRoom}
 use Rattle.syntax.proofs.BytesLaws.{next-agree}
 use Rattle.syntax.proofs.ArenaLaws.{base-small, fn-range, two-range, stays-refl, stays-trans, holds-later, knows-later, parts}
 use Rattle.syntax.proofs.NameLaws.{Hit, meant}
@@ -63,18 +64,18 @@ ready-on g f l h =
 
 -- A node may be put behind the others.
 
-has-few : (o : ℕ) → o < 18 → hasTwo o ≡ false
+has-few : (o : ℕ) → o < firstPair → hasTwo o ≡ false
 unfolding hasTwo
 has-few o h =
-    let l : o < 32 = omega arith in
-    rw (lt-leb 18 o h, lt-leb 32 o l)
+    let l : o < firstCounted = omega arith in
+    rw (lt-leb firstPair o h, lt-leb firstCounted o l)
 
 not-both : {b : Bool} → b ≡ false → b ≡ true → ⊥
 not-both e q = let z : _≡_ {A = ℕ} 0 1 = cc in omega arith
 
-pub fresh-leaf : {a : Arena} {o : ℕ} → a .n < length (a .nodes) → Tidy (a .nodes) (a .n) → o < 9 → Fresh a o 0 0
+pub fresh-leaf : {a : Arena} {o : ℕ} → a .n < length (a .nodes) → Tidy (a .nodes) (a .n) → o < firstCall → Fresh a o 0 0
 fresh-leaf {a} {o} l d h =
-    let v : (o + 256 * 0 + 1048576 * 0) % 256 ≡ o = omega arith in
+    let v : operationOf (nodeOf o 0 0) ≡ o = omega arith in
     let few : hasTwo o ≡ false = has-few o (omega arith) in
     record {
       room = l;
@@ -85,10 +86,10 @@ fresh-leaf {a} {o} l d h =
       low = record { op = omega arith; left = λ q. absurd (omega arith); right = λ q. absurd (not-both few (rw v at q)) };
     }
 
-pub fresh-two : {a : Arena} {o i j : ℕ} → a .n < length (a .nodes) → Tidy (a .nodes) (a .n) → o < 40 → i < a .n → j < a .n → Fresh a o i j
+pub fresh-two : {a : Arena} {o i j : ℕ} → a .n < length (a .nodes) → Tidy (a .nodes) (a .n) → o < opsEnd → i < a .n → j < a .n → Fresh a o i j
 fresh-two {a} {o} {i} {j} l d h li lj =
     let m : a .n ≤ 4096 = omega (arith, d .size, d .fits) in
-    let p = parts (o + 256 * i + 1048576 * j) o i j refl (omega arith) (omega arith) in
+    let p = parts (nodeOf o i j) o i j refl (omega arith) (omega arith) in
     record {
       room = l;
       tidy = d;
@@ -98,10 +99,10 @@ fresh-two {a} {o} {i} {j} l d h li lj =
       low = record { op = omega (arith, p .op); left = λ q. omega (arith, p .left); right = λ q. omega (arith, p .right) };
     }
 
-pub fresh-number : {a : Arena} {o i m : ℕ} → a .n < length (a .nodes) → Tidy (a .nodes) (a .n) → o < 40 → hasTwo o ≡ false → i < a .n → m ≤ 64 → Fresh a o i m
+pub fresh-number : {a : Arena} {o i m : ℕ} → a .n < length (a .nodes) → Tidy (a .nodes) (a .n) → o < opsEnd → hasTwo o ≡ false → i < a .n → m ≤ 64 → Fresh a o i m
 fresh-number {a} {o} {i} {m} l d h few li lm =
     let n : a .n ≤ 4096 = omega (arith, d .size, d .fits) in
-    let p = parts (o + 256 * i + 1048576 * m) o i m refl (omega arith) (omega arith) in
+    let p = parts (nodeOf o i m) o i m refl (omega arith) (omega arith) in
     record {
       room = l;
       tidy = d;
@@ -113,22 +114,22 @@ fresh-number {a} {o} {i} {m} l d h few li lm =
 
 -- The parts of a node that was put stand below it.
 
-pub leaf-node : {a b : Arena} {o k : ℕ} → Interned a (o + 256 * 0 + 1048576 * 0) b k → None (b .nodes) k o
+pub leaf-node : {a b : Arena} {o k : ℕ} → Interned a (nodeOf o 0 0) b k → None (b .nodes) k o
 leaf-node u = record { node = omega (arith, u .at) }
 
-pub one-node : {a b : Arena} {o i k : ℕ} → Interned a (o + 256 * i + 1048576 * 0) b k → 9 ≤ o → o < 40 → i < 4096 → One (b .nodes) k o i
+pub one-node : {a b : Arena} {o i k : ℕ} → Interned a (nodeOf o i 0) b k → firstCall ≤ o → o < opsEnd → i < indexRoom → One (b .nodes) k o i
 unfolding Down
 one-node {a} {b} {o} {i} {k} u lo hi li =
     let p = parts (getD (b .nodes) k 0) o i 0 (u .at) (omega arith) li in
     let d = u .tidy .down k (u .within) in
     record { below = omega (arith, p .left, d .left (omega (arith, p .op))); small = li; node = omega (arith, u .at) }
 
-pub both-node : {a b : Arena} {o i j k : ℕ} → Interned a (o + 256 * i + 1048576 * j) b k → 9 ≤ o → o < 40 → hasTwo o ≡ true → i < 4096 → j < 4096 → Both (b .nodes) k o i j
+pub both-node : {a b : Arena} {o i j k : ℕ} → Interned a (nodeOf o i j) b k → firstCall ≤ o → o < opsEnd → hasTwo o ≡ true → i < indexRoom → j < indexRoom → Both (b .nodes) k o i j
 unfolding Down
 both-node {a} {b} {o} {i} {j} {k} u lo hi has li lj =
     let p = parts (getD (b .nodes) k 0) o i j (u .at) (omega arith) li in
     let d = u .tidy .down k (u .within) in
-    let t : hasTwo (getD (b .nodes) k 0 % 256) ≡ true = rw (p .op) has in
+    let t : hasTwo (opAt (b .nodes) k) ≡ true = rw (p .op) has in
     record {
       below = omega (arith, p .left, d .left (omega (arith, p .op)));
       small = li;
@@ -137,28 +138,28 @@ both-node {a} {b} {o} {i} {j} {k} u lo hi has li lj =
       node = u .at;
     }
 
-pub number-node : {a b : Arena} {o i m k : ℕ} → Interned a (o + 256 * i + 1048576 * m) b k → 9 ≤ o → o < 40 → i < 4096 → m ≤ 64 → Numbered (b .nodes) k o i m
+pub number-node : {a b : Arena} {o i m k : ℕ} → Interned a (nodeOf o i m) b k → firstCall ≤ o → o < opsEnd → i < indexRoom → m ≤ 64 → Numbered (b .nodes) k o i m
 unfolding Down
 number-node {a} {b} {o} {i} {m} {k} u lo hi li lm =
     let p = parts (getD (b .nodes) k 0) o i m (u .at) (omega arith) li in
     let d = u .tidy .down k (u .within) in
     record { below = omega (arith, p .left, d .left (omega (arith, p .op))); small = li; few = lm; node = u .at }
 
-has-pair : (o : Op) → hasTwo (twoOp o) ≡ true
+has-pair : (o : Pair) → hasTwo (twoOp o) ≡ true
 unfolding hasTwo twoOp
-has-pair operations = refl
-has-pair meet = refl
-has-pair join = refl
+has-pair (calls operations) = refl
+has-pair (joins meet) = refl
+has-pair (joins join) = refl
 
 -- The beginnings by their numbers.
 
-pub leaf-head : (h : Head) → headOp h < 9 → (b : Base) × (h ≡ isBase b)
+pub leaf-head : (h : Head) → headOp h < firstCall → (b : Base) × (h ≡ isBase b)
 unfolding headOp
 leaf-head (isBase b) l = (b, refl)
 leaf-head (isCall f) l = absurd (omega (arith, fn-range f .low))
 leaf-head isOE l = absurd (omega arith)
 leaf-head isAO l = absurd (omega arith)
-leaf-head isOperations l = absurd (omega arith)
+leaf-head (isCall2 operations) l = absurd (omega arith)
 leaf-head isBracket l = absurd (omega arith)
 leaf-head isChoice l = absurd (omega arith)
 
@@ -167,51 +168,51 @@ pub record OneHead (h : Head) : Type 0 where
   pub makes : Makes (headOp h) make
   pub is : (rd : Reader Term) (σ : Choices) (s : Bytes) → inner rd σ h s ≡ closed rd make s
 
-pub one-head : (h : Head) → 9 ≤ headOp h → headOp h < 18 → OneHead h
+pub one-head : (h : Head) → firstCall ≤ headOp h → headOp h < firstPair → OneHead h
 unfolding headOp inner Holds
 one-head (isBase b) l m = absurd (omega (arith, base-small b))
 one-head (isCall f) l m = record { make = call f; makes = record { builds = λ ns k i a x y. (i, x, y) }; is = λ rd σ s. refl }
 one-head isOE l m = record { make = oe; makes = record { builds = λ ns k i a x y. (i, x, y) }; is = λ rd σ s. refl }
 one-head isAO l m = record { make = ao; makes = record { builds = λ ns k i a x y. (i, x, y) }; is = λ rd σ s. refl }
-one-head isOperations l m = absurd (omega arith)
+one-head (isCall2 operations) l m = absurd (omega arith)
 one-head isBracket l m = absurd (omega arith)
 one-head isChoice l m = absurd (omega arith)
 
-comma-paired : (rd : Reader Term) (σ : Choices) (s : Bytes) → inner rd σ isOperations s ≡ paired rd σ 18 s
-unfolding inner paired joints scan either spellJoint next ending
+comma-paired : (rd : Reader Term) (σ : Choices) (s : Bytes) → inner rd σ (isCall2 operations) s ≡ paired rd σ firstPair s
+unfolding inner paired joints scan either spellJoint parting next ending
 comma-paired rd σ s = next-agree (rd s) _ _ (λ a r e. go a r (skip (ascii ",") r) refl)
   where
-    go : (a : Term) (r : Bytes) (o : Read (Unit {0})) → skip (ascii ",") r ≡ o → next (skip (ascii ",") r) (λ _. closed rd (two operations a)) ≡ next (scan spellJoint (joints 18) r) (ending rd σ a)
+    go : (a : Term) (r : Bytes) (o : Read (Unit {0})) → skip (ascii ",") r ≡ o → next (skip (ascii ",") r) (λ _. closed rd (two (calls operations) a)) ≡ next (scan spellJoint (joints firstPair) r) (ending rd σ a)
     go a r fail q = rw q
     go a r (got u w) q = rw q
 
-sign-paired : (rd : Reader Term) (σ : Choices) (s : Bytes) → inner rd σ isBracket s ≡ paired rd σ 19 s
-unfolding inner paired joints scan either spellJoint spellMiddle middles second less next ending
+sign-paired : (rd : Reader Term) (σ : Choices) (s : Bytes) → inner rd σ isBracket s ≡ paired rd σ bracketHead s
+unfolding inner paired joints scan either spellJoint parting spellMiddle middles second less next ending
 sign-paired rd σ s = next-agree (rd s) _ _ (λ a r e. go a r (skip (ascii "&") r) refl (skip (ascii "+") r) refl (skip (ascii "-{v") r) refl)
   where
-    go : (a : Term) (r : Bytes) (o : Read (Unit {0})) → skip (ascii "&") r ≡ o → (p : Read (Unit {0})) → skip (ascii "+") r ≡ p → (q : Read (Unit {0})) → skip (ascii "-{v") r ≡ q → next (scan spellMiddle middles r) (second rd σ a) ≡ next (scan spellJoint (joints 19) r) (ending rd σ a)
+    go : (a : Term) (r : Bytes) (o : Read (Unit {0})) → skip (ascii "&") r ≡ o → (p : Read (Unit {0})) → skip (ascii "+") r ≡ p → (q : Read (Unit {0})) → skip (ascii "-{v") r ≡ q → next (scan spellMiddle middles r) (second rd σ a) ≡ next (scan spellJoint (joints bracketHead) r) (ending rd σ a)
     go a r (got u w) e p e′ q e″ = rw e
     go a r fail e (got u w) e′ q e″ = rw (e, e′)
     go a r fail e fail e′ (got u w) e″ = rw (e, e′, e″)
     go a r fail e fail e′ fail e″ = rw (e, e′, e″)
 
-pub two-head : (h : Head) → 18 ≤ headOp h → headOp h < 20 → (rd : Reader Term) (σ : Choices) (s : Bytes) → inner rd σ h s ≡ paired rd σ (headOp h) s
+pub two-head : (h : Head) → firstPair ≤ headOp h → headOp h < choiceHead → (rd : Reader Term) (σ : Choices) (s : Bytes) → inner rd σ h s ≡ paired rd σ (headOp h) s
 unfolding headOp
 two-head (isBase b) l m rd σ s = absurd (omega (arith, base-small b))
 two-head (isCall f) l m rd σ s = absurd (omega (arith, fn-range f .high))
 two-head isOE l m rd σ s = absurd (omega arith)
 two-head isAO l m rd σ s = absurd (omega arith)
-two-head isOperations l m rd σ s = comma-paired rd σ s
+two-head (isCall2 operations) l m rd σ s = comma-paired rd σ s
 two-head isBracket l m rd σ s = sign-paired rd σ s
 two-head isChoice l m rd σ s = absurd (omega arith)
 
-pub choice-head : (h : Head) → 20 ≤ headOp h → (rd : Reader Term) (σ : Choices) (s : Bytes) → inner rd σ h s ≡ choice σ s
+pub choice-head : (h : Head) → choiceHead ≤ headOp h → (rd : Reader Term) (σ : Choices) (s : Bytes) → inner rd σ h s ≡ choice σ s
 unfolding headOp inner choice
 choice-head (isBase b) l rd σ s = absurd (omega (arith, base-small b))
 choice-head (isCall f) l rd σ s = absurd (omega (arith, fn-range f .high))
 choice-head isOE l rd σ s = absurd (omega arith)
 choice-head isAO l rd σ s = absurd (omega arith)
-choice-head isOperations l rd σ s = absurd (omega arith)
+choice-head (isCall2 operations) l rd σ s = absurd (omega arith)
 choice-head isBracket l rd σ s = absurd (omega arith)
 choice-head isChoice l rd σ s = refl
 
@@ -240,23 +241,23 @@ module _ (f : ℕ) (σ : Choices) (s : Bytes) (at : ℕ) (h : f ≡ 0 → ⊥) w
   unfolding next
   read-head x = read-more f σ (drop at s) h ∙ rw (x .is)
 
-  pub read-leaf : {o e : ℕ} → Signed headOp s at o e (scan spell heads (drop at s)) → o < 9 → (b : Base) × (baseOp b ≡ o) × (readTerm f σ (drop at s) ≡ got (base b) (drop e s))
+  pub read-leaf : {o e : ℕ} → Signed headOp s at o e (scan spell heads (drop at s)) → o < firstCall → (b : Base) × (baseOp b ≡ o) × (readTerm f σ (drop at s) ≡ got (base b) (drop e s))
   unfolding headOp inner
   read-leaf {o} {e} x l =
       let y = leaf-head (x .thing) (omega (arith, x .numbered)) in
       (y .0, ap headOp (sym (y .1)) ∙ x .numbered, read-head x ∙ ap (λ (g : Head). inner (readTerm (f - 1) σ) σ g (drop e s)) (y .1))
 
-  pub read-one : {o e : ℕ} → Signed headOp s at o e (scan spell heads (drop at s)) → 9 ≤ o → o < 18 → OneRead f σ s at o e
+  pub read-one : {o e : ℕ} → Signed headOp s at o e (scan spell heads (drop at s)) → firstCall ≤ o → o < firstPair → OneRead f σ s at o e
   read-one {o} {e} x l m =
       let y = one-head (x .thing) (omega (arith, x .numbered)) (omega (arith, x .numbered)) in
       record { make = y .make; makes = subst (λ (p : ℕ). Makes p (y .make)) (x .numbered) (y .makes); is = read-head x ∙ y .is (readTerm (f - 1) σ) σ (drop e s) }
 
-  pub read-pair : {o e : ℕ} → Signed headOp s at o e (scan spell heads (drop at s)) → 18 ≤ o → o < 20 → readTerm f σ (drop at s) ≡ paired (readTerm (f - 1) σ) σ o (drop e s)
+  pub read-pair : {o e : ℕ} → Signed headOp s at o e (scan spell heads (drop at s)) → firstPair ≤ o → o < choiceHead → readTerm f σ (drop at s) ≡ paired (readTerm (f - 1) σ) σ o (drop e s)
   read-pair {o} {e} x l m =
       read-head x ∙ two-head (x .thing) (omega (arith, x .numbered)) (omega (arith, x .numbered)) (readTerm (f - 1) σ) σ (drop e s)
       ∙ ap (λ (p : ℕ). paired (readTerm (f - 1) σ) σ p (drop e s)) (x .numbered)
 
-  pub read-known : {o e : ℕ} → Signed headOp s at o e (scan spell heads (drop at s)) → 20 ≤ o → readTerm f σ (drop at s) ≡ choice σ (drop e s)
+  pub read-known : {o e : ℕ} → Signed headOp s at o e (scan spell heads (drop at s)) → choiceHead ≤ o → readTerm f σ (drop at s) ≡ choice σ (drop e s)
   read-known {o} {e} x l = read-head x ∙ choice-head (x .thing) (omega (arith, x .numbered)) (readTerm (f - 1) σ) σ (drop e s)
 
 -- A term and its closing bracket.
@@ -289,33 +290,33 @@ module _ (rd : Reader Term) (σ : Choices) (op : ℕ) (s : Bytes) where
   unfolding paired next
   paired-on e q = rw (e, q)
 
-pub is-away : (j : Joint) → jointOp j ≡ 17 → j ≡ away
+pub is-away : (j : Joint) → jointOp j ≡ aoOp → j ≡ away
 unfolding jointOp
 is-away (pair o) e = absurd (omega (arith, two-range o .low))
 is-away away e = refl
 
-pub is-pair : (j : Joint) → (jointOp j ≡ 17 → ⊥) → (o : Op) × (j ≡ pair o)
+pub is-pair : (j : Joint) → (jointOp j ≡ aoOp → ⊥) → (o : Pair) × (j ≡ pair o)
 unfolding jointOp
 is-pair (pair o) h = (o, refl)
 is-pair away h = absurd (h refl)
 
 -- The names between two terms, by the number of what stands before.
 
-pub joints-comma : (op : ℕ) → op ≡ 18 → joints op ≡ pair operations ∷ []
+pub joints-comma : (op : ℕ) → op ≡ firstPair → joints op ≡ pair (calls operations) ∷ []
 unfolding joints
-joints-comma op e = rw (eq-eqb op 18 e)
+joints-comma op e = rw (eq-eqb op firstPair e)
 
-pub joints-sign : (op : ℕ) → (op ≡ 18 → ⊥) → joints op ≡ pair meet ∷ pair join ∷ away ∷ []
+pub joints-sign : (op : ℕ) → (op ≡ firstPair → ⊥) → joints op ≡ pair (joins meet) ∷ pair (joins join) ∷ away ∷ []
 unfolding joints
-joints-sign op h = rw (ne-eqb op 18 h)
+joints-sign op h = rw (ne-eqb op firstPair h)
 
 -- A node behind what was read, where one byte more is there.
-pub fresh-on : {A : Type 0} {H : List ℕ → ℕ → A → Type 0} {s : Bytes} {at i e o j : ℕ} {vars : List ℕ} {a b : Arena} {r : Read A} → Ready s at vars a → Found H s at a b i e r → e + 1 ≤ length s → o < 40 → j < b .n → Fresh b o i j
+pub fresh-on : {A : Type 0} {H : List ℕ → ℕ → A → Type 0} {s : Bytes} {at i e o j : ℕ} {vars : List ℕ} {a b : Arena} {r : Read A} → Ready s at vars a → Found H s at a b i e r → e + 1 ≤ length s → o < opsEnd → j < b .n → Fresh b o i j
 fresh-on g f l h lj =
     fresh-two (omega (arith, g .room, g .count, f .count, f .stays .size)) (f .tidy) h (f .within) lj
 
 -- A node on two things that were read one after the other, with a byte between them.
-pub fresh-pair : {A B : Type 0} {H : List ℕ → ℕ → A → Type 0} {H′ : List ℕ → ℕ → B → Type 0} {s : Bytes} {at i e y j z o : ℕ} {vars : List ℕ} {a b d : Arena} {r : Read A} {r′ : Read B} → Ready s at vars a → Found H s at a b i e r → Found H′ s y b d j z r′ → e + 1 ≤ y → o < 40 → Fresh d o i j
+pub fresh-pair : {A B : Type 0} {H : List ℕ → ℕ → A → Type 0} {H′ : List ℕ → ℕ → B → Type 0} {s : Bytes} {at i e y j z o : ℕ} {vars : List ℕ} {a b d : Arena} {r : Read A} {r′ : Read B} → Ready s at vars a → Found H s at a b i e r → Found H′ s y b d j z r′ → e + 1 ≤ y → o < opsEnd → Fresh d o i j
 fresh-pair g f f′ l h =
     fresh-two (omega (arith, g .room, g .count, f .count, f′ .count, f′ .end, f .stays .size, f′ .stays .size)) (f′ .tidy) h (omega (arith, f .within, f′ .stays .more)) (f′ .within)
 
@@ -333,15 +334,15 @@ module _ {s : Bytes} {at : ℕ} {vars : List ℕ} {a : Arena} {v e : ℕ} (g : R
   below : v < a .n
   below = omega (arith, x .node, g .knows .below (x .index) (x .known))
 
-  small : {i : ℕ} → i < a .n → i < 4096
+  small : {i : ℕ} → i < a .n → i < indexRoom
   small l = omega (arith, g .tidy .size, g .tidy .fits)
 
-  pub choice-fresh : Fresh a 16 v 0
+  pub choice-fresh : Fresh a oeOp v 0
   choice-fresh =
       let l = below in
       fresh-two (omega (arith, g .count, g .room, x .fits)) (g .tidy) (omega arith) l (omega arith)
 
-  pub choice-found : (σ : Choices) {ns : List ℕ} {p : Place} → Knows a vars σ → Put a (16 + 256 * v + 1048576 * 0) e ns p → Agree Holds s at a ns p (choice σ (drop at s))
+  pub choice-found : (σ : Choices) {ns : List ℕ} {p : Place} → Knows a vars σ → Put a (nodeOf oeOp v 0) e ns p → Agree Holds s at a ns p (choice σ (drop at s))
   unfolding choice next Holds
   choice-found σ w u =
       let m = meant (a .nodes) σ x (w .holds) in
@@ -357,7 +358,7 @@ module _ {s : Bytes} {at : ℕ} {vars : List ℕ} {a : Arena} {v e : ℕ} (g : R
         let m = meant (a .nodes) σ x (w .holds) in
         rw (m .reads, ← x .behind, q)
 
-    pub less-found : {i : ℕ} {ns : List ℕ} {p : Place} → i < a .n → Holds (a .nodes) i t → Hit s e (ascii "})") → Put a (17 + 256 * i + 1048576 * 0) (e + 2) ns p → Agree Holds s at a ns p (less σ t (drop at s))
+    pub less-found : {i : ℕ} {ns : List ℕ} {p : Place} → i < a .n → Holds (a .nodes) i t → Hit s e (ascii "})") → Put a (nodeOf aoOp i 0) (e + 2) ns p → Agree Holds s at a ns p (less σ t (drop at s))
     unfolding less next Holds
     less-found {i} l y h u =
         let m = meant (a .nodes) σ x (w .holds) in
@@ -366,7 +367,7 @@ module _ {s : Bytes} {at : ℕ} {vars : List ℕ} {a : Arena} {v e : ℕ} (g : R
         (λ k n z. (i, one-node z (omega arith) (omega arith) (small l), holds-later a _ i t (z .stays) l y))
 
 -- A term in brackets behind a name.
-pub call-found : {s : Bytes} {at i e o : ℕ} {a b : Arena} {ns : List ℕ} {p : Place} (rd : Reader Term) (make : Term → Term) → Makes o make → 9 ≤ o → o < 40 → Found Holds s at a b i e (rd (drop at s)) → Hit s e (ascii ")") → Put b (o + 256 * i + 1048576 * 0) (e + 1) ns p → Agree Holds s at a ns p (closed rd make (drop at s))
+pub call-found : {s : Bytes} {at i e o : ℕ} {a b : Arena} {ns : List ℕ} {p : Place} (rd : Reader Term) (make : Term → Term) → Makes o make → firstCall ≤ o → o < opsEnd → Found Holds s at a b i e (rd (drop at s)) → Hit s e (ascii ")") → Put b (nodeOf o i 0) (e + 1) ns p → Agree Holds s at a ns p (closed rd make (drop at s))
 call-found {s} {at} {i} {e} {o} {a} {b} {ns} rd make k lo hi f h u =
     put-found (make (f .thing)) u (f .stays) (omega (arith, f .count)) (h .fits) (closed-got rd make (drop at s) (f .reads) (h .skips))
     (λ l n y. k .builds ns l i (f .thing) (one-node y lo hi (omega (arith, f .within, f .tidy .size, f .tidy .fits))) (holds-later b _ i (f .thing) (y .stays) (f .within) (f .holds)))
@@ -377,7 +378,7 @@ module _ (rd : Reader Term) (σ : Choices) (op : ℕ) {s : Bytes} {at i e : ℕ}
   two-lost q = paired-lost rd σ op (drop at s) (f .reads) q
 
   module _ {o y : ℕ} (x : Signed jointOp s e o y (scan spellJoint (joints op) (drop e s))) where
-    pub away-found : {ns : List ℕ} {p : Place} → o ≡ 17 → Agree Holds s y b ns p (less σ (f .thing) (drop y s)) → Agree Holds s at a ns p (paired rd σ op (drop at s))
+    pub away-found : {ns : List ℕ} {p : Place} → o ≡ aoOp → Agree Holds s y b ns p (less σ (f .thing) (drop y s)) → Agree Holds s at a ns p (paired rd σ op (drop at s))
     unfolding ending
     away-found q u =
         let j = is-away (x .thing) (x .numbered ∙ q) in
@@ -385,28 +386,28 @@ module _ (rd : Reader Term) (σ : Choices) (op : ℕ) {s : Bytes} {at i e : ℕ}
         rw z (agree-from (f .stays) (omega (arith, f .count, x .more)) u)
 
     -- What the two terms make.
-    pair-op : (o ≡ 17 → ⊥) → (k : Op) × (twoOp k ≡ o) × (paired rd σ op (drop at s) ≡ closed rd (two k (f .thing)) (drop y s))
+    pair-op : (o ≡ aoOp → ⊥) → (k : Pair) × (twoOp k ≡ o) × (paired rd σ op (drop at s) ≡ closed rd (two k (f .thing)) (drop y s))
     unfolding ending jointOp
     pair-op n =
         let j = is-pair (x .thing) (λ q. n (sym (x .numbered) ∙ q)) in
         (j .0, ap jointOp (sym (j .1)) ∙ x .numbered, paired-on rd σ op (drop at s) (f .reads) (x .is) ∙ ap (λ (k : Joint). ending rd σ (f .thing) k (drop y s)) (j .1))
 
-    pub two-none : (o ≡ 17 → ⊥) → rd (drop y s) ≡ fail → paired rd σ op (drop at s) ≡ fail
+    pub two-none : (o ≡ aoOp → ⊥) → rd (drop y s) ≡ fail → paired rd σ op (drop at s) ≡ fail
     two-none n q = let k = pair-op n in k .2 ∙ closed-none rd _ (drop y s) q
 
-    module _ (n : o ≡ 17 → ⊥) {d : Arena} {j z : ℕ} (f′ : Found Holds s y b d j z (rd (drop y s))) where
+    module _ (n : o ≡ aoOp → ⊥) {d : Arena} {j z : ℕ} (f′ : Found Holds s y b d j z (rd (drop y s))) where
       pub two-open : skip (ascii ")") (drop z s) ≡ fail → paired rd σ op (drop at s) ≡ fail
       two-open q = let k = pair-op n in k .2 ∙ closed-lost rd _ (drop y s) (f′ .reads) q
 
-      pub two-small : o < 40
+      pub two-small : o < opsEnd
       two-small = let k = pair-op n in omega (arith, k .1, two-range (k .0) .high)
 
-      pub two-found : {ns : List ℕ} {p : Place} → Hit s z (ascii ")") → Put d (o + 256 * i + 1048576 * j) (z + 1) ns p → Agree Holds s at a ns p (paired rd σ op (drop at s))
+      pub two-found : {ns : List ℕ} {p : Place} → Hit s z (ascii ")") → Put d (nodeOf o i j) (z + 1) ns p → Agree Holds s at a ns p (paired rd σ op (drop at s))
       unfolding Holds
       two-found {ns} h u =
           let k = pair-op n in
-          let hi : o < 40 = two-small in
-          let lo : 9 ≤ o = omega (arith, k .1, two-range (k .0) .low) in
+          let hi : o < opsEnd = two-small in
+          let lo : firstCall ≤ o = omega (arith, k .1, two-range (k .0) .low) in
           let has : hasTwo o ≡ true = rw (k .1) at (has-pair (k .0)) in
           put-found (two (k .0) (f .thing) (f′ .thing)) u (stays-trans (f .stays) (f′ .stays)) (omega (arith, f .count, x .more, f′ .count)) (h .fits)
           (k .2 ∙ closed-got rd _ (drop y s) (f′ .reads) (h .skips))
@@ -419,7 +420,7 @@ module _ (rd : Reader Term) (σ : Choices) (op : ℕ) {s : Bytes} {at i e : ℕ}
           ))
 
 -- A set or a collection.
-pub leaf-found : {s : Bytes} {at o e : ℕ} {a : Arena} {ns : List ℕ} {p : Place} (f : ℕ) (σ : Choices) → (f ≡ 0 → ⊥) → Signed headOp s at o e (scan spell heads (drop at s)) → o < 9 → Put a (o + 256 * 0 + 1048576 * 0) e ns p → Agree Holds s at a ns p (readTerm f σ (drop at s))
+pub leaf-found : {s : Bytes} {at o e : ℕ} {a : Arena} {ns : List ℕ} {p : Place} (f : ℕ) (σ : Choices) → (f ≡ 0 → ⊥) → Signed headOp s at o e (scan spell heads (drop at s)) → o < firstCall → Put a (nodeOf o 0 0) e ns p → Agree Holds s at a ns p (readTerm f σ (drop at s))
 unfolding Holds
 leaf-found {s} {at} {o} {e} {a} {ns} f σ h x l u =
     let y = read-leaf f σ s at h x l in

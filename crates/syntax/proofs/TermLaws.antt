@@ -11,9 +11,9 @@ use Rattle.syntax.proofs.BytesLaws.{never, next-case, skip-gives}
 use Rattle.syntax.proofs.BytesLaws.{scan-gives}
 use Rattle.syntax.specs.Term.{bU, bR, bOP, bOBJ, bP, bS, bCR, bCP, bCU, user, roles, roles*, sessions, permissions, permissions*}
 use Rattle.syntax.specs.Term.{object, operations, meet, join, Term, base, call, oe, ao, two, Term≟, Choices, digitFrom, namedFrom}
-use Rattle.syntax.specs.Term.{digit, Head, isBase, isCall, isOE, isAO, isOperations, isBracket, isChoice, spell, Middle, isMeet}
-use Rattle.syntax.specs.Term.{isJoin, isLess, spellMiddle, text, oeText, aoText, heads, collectionHeads, callHeads, bracketHeads, middles, known, closed, second, inner}
-use Rattle.syntax.specs.Term.{readTerm}
+use Rattle.syntax.specs.Term.{digit, Head, isBase, isCall, isOE, isAO, isBracket, isChoice, spell, Middle}
+use Rattle.syntax.specs.Term.{isLess, spellMiddle, text, oeText, aoText, heads, collectionHeads, callHeads, bracketHeads, middles, known, closed, second, inner}
+use Rattle.syntax.specs.Term.{readTerm, calls, joins, isCall2, isOp, opening, parting}
 
 -- Each beginning is found again, whatever follows it.
 pub scan-head : (h : Head) (s : Bytes) → scan spell heads (spell h ++ s) ≡ got h s
@@ -36,14 +36,14 @@ scan-head (isCall permissions*) s = refl
 scan-head (isCall object) s = refl
 scan-head isOE s = refl
 scan-head isAO s = refl
-scan-head isOperations s = refl
+scan-head (isCall2 operations) s = refl
 scan-head isBracket s = refl
 scan-head isChoice s = refl
 
 pub scan-middle : (m : Middle) (s : Bytes) → scan spellMiddle middles (spellMiddle m ++ s) ≡ got m s
 unfolding spellMiddle middles scan either skip
-scan-middle isMeet s = refl
-scan-middle isJoin s = refl
+scan-middle (isOp meet) s = refl
+scan-middle (isOp join) s = refl
 scan-middle isLess s = refl
 
 -- A digit that stands for a choice names it.
@@ -88,20 +88,17 @@ module _ (σ : Choices) (n : ℕ) (law : (a : Term) (r : Bytes) → length (text
       rw (append-assoc, scan-head, append-assoc, law a _ w, append-assoc, scan-middle, known-digit σ a (125 ∷ 41 ∷ r) e)
 
   step : (t : Term) (r : Bytes) → length (text σ t) ≤ suc n → readTerm (suc n) σ (text σ t ++ r) ≡ got t r
-  unfolding readTerm text inner second closed next skip
+  unfolding readTerm text opening parting inner second closed next skip
   step (base b) r h = rw scan-head
   step (call f a) r h =
       let w : length (text σ a) ≤ n = omega (arith, head-long (isCall f), simp length-append at h) in
       rw (append-assoc, scan-head, append-assoc, law a (41 ∷ r) w)
   step (oe a) r h = step-oe a r (digit σ a) refl h
   step (ao a) r h = step-ao a r (digit σ a) refl h
-  step (two operations a b) r h =
-      let w : (length (text σ a) ≤ n) × (length (text σ b) ≤ n) = omega (arith, head-long isOperations, simp length-append at h) in
+  step (two (calls f) a b) r h =
+      let w : (length (text σ a) ≤ n) × (length (text σ b) ≤ n) = omega (arith, head-long (isCall2 f), simp length-append at h) in
       rw (append-assoc, scan-head, append-assoc, law a _ (w .0), append-assoc, law b (41 ∷ r) (w .1))
-  step (two meet a b) r h =
-      let w : (length (text σ a) ≤ n) × (length (text σ b) ≤ n) = omega (arith, head-long isBracket, simp length-append at h) in
-      rw (append-assoc, scan-head, append-assoc, law a _ (w .0), append-assoc, scan-middle, append-assoc, law b (41 ∷ r) (w .1))
-  step (two join a b) r h =
+  step (two (joins o) a b) r h =
       let w : (length (text σ a) ≤ n) × (length (text σ b) ≤ n) = omega (arith, head-long isBracket, simp length-append at h) in
       rw (append-assoc, scan-head, append-assoc, law a _ (w .0), append-assoc, scan-middle, append-assoc, law b (41 ∷ r) (w .1))
 
@@ -120,9 +117,7 @@ text-long σ (ao a) = go (digit σ a)
     go : (o : Option ℕ) → 1 ≤ length (aoText o (text σ a))
     go none = simp length-append (omega arith)
     go (some d) = simp length-append (omega arith)
-text-long σ (two operations a b) = simp length-append (omega arith)
-text-long σ (two meet a b) = simp length-append (omega arith)
-text-long σ (two join a b) = simp length-append (omega arith)
+text-long σ (two o a b) = simp length-append (omega arith)
 
 -- What is written is read back, whatever follows it, with a bound of at least its length.
 pub read-text : (n : ℕ) (σ : Choices) (t : Term) (r : Bytes) → length (text σ t) ≤ n → readTerm n σ (text σ t ++ r) ≡ got t r
@@ -160,20 +155,19 @@ module _ (n : ℕ) (law : (s : Bytes) (a : Term) (r : Bytes) → readTerm n [] s
       k a (cc (law s a s₁ e₁, skip-gives (ascii ")") s₁ e₃)) (cc)
 
   second-gives : (a : Term) (m : Middle) (s : Bytes) (t : Term) (r : Bytes) → second rd [] a m s ≡ got t r → spell isBracket ++ (text [] a ++ (spellMiddle m ++ s)) ≡ text [] t ++ r
-  unfolding second text
-  second-gives a isMeet s t r e = closed-case (two meet a) s e λ b p q. rw (p, q) (simp append-assoc)
-  second-gives a isJoin s t r e = closed-case (two join a) s e λ b p q. rw (p, q) (simp append-assoc)
+  unfolding second text opening parting
+  second-gives a (isOp o) s t r e = closed-case (two (joins o) a) s e λ b p q. rw (p, q) (simp append-assoc)
   second-gives a isLess s t r e = next-case (known [] s) _ e λ b s₁ e₁ e₂. absurd (none-known s e₁)
 
   inner-gives : (h : Head) (s : Bytes) (t : Term) (r : Bytes) → inner rd [] h s ≡ got t r → spell h ++ s ≡ text [] t ++ r
-  unfolding inner text oeText aoText digitFrom
+  unfolding inner text opening parting oeText aoText digitFrom
   inner-gives (isBase b) s t r e = cc
   inner-gives (isCall f) s t r e = closed-case (call f) s e λ a p q. rw (p, q) (simp append-assoc)
   inner-gives isOE s t r e = closed-case oe s e λ a p q. rw (p, q) (simp append-assoc)
   inner-gives isAO s t r e = closed-case ao s e λ a p q. rw (p, q) (simp append-assoc)
-  inner-gives isOperations s t r e =
+  inner-gives (isCall2 f) s t r e =
       next-case (rd s) _ e λ a s₁ e₁ e₂. next-case (skip (ascii ",") s₁) _ e₂ λ _ s₂ e₃ e₄.
-      closed-case (two operations a) s₂ e₄ λ b p q.
+      closed-case (two (calls f) a) s₂ e₄ λ b p q.
       rw (law s a s₁ e₁, skip-gives (ascii ",") s₁ e₃, p, q) (simp append-assoc)
   inner-gives isBracket s t r e =
       next-case (rd s) _ e λ a s₁ e₁ e₂. next-case (scan spellMiddle middles s₁) _ e₂ λ m s₂ e₃ e₄.

@@ -3,7 +3,7 @@
 use mathlib.Core.Path.{_≡_, refl, sym, ap, subst, _∙_}
 use mathlib.Core.Bool.{Bool, true, false}
 use mathlib.Core.List.{List}
-use Prim.Native.Nat.{ℕ, suc, _+_, _*_, _-_, _<_, _≤_}
+use Prim.Native.Nat.{ℕ, suc, _+_, _-_, _<_, _≤_}
 use native.Mathlib.Omega.{arith}
 use borrow.Author.Tests.{lt-leb, le-leb, le-ltb}
 use lib.ListN.{length, drop}
@@ -15,6 +15,7 @@ use Rattle.syntax.specs.Rule.{readSecond, readTest, readClause, readRule
 use Rattle.syntax.specs.code.Arena.{alikeOp, emptyOp, cmpNumber, Both, Holds, HoldsTest, HoldsClause, hasTwo}
 use Rattle.syntax.specs.code.Reading.{Stands, Signed, itself, betweenOp, Arena, Fresh, Put, Ready, Found, Agree, counted, sizedTest, relatedTest}
 use Rattle.syntax.specs.declared.arena.Place.{Place}
+use Rattle.syntax.specs.code.Nodes.{firstPair, memberOp, firstAlike, firstEmpty, firstNumbered, firstCounted, whenOp, nodeOf, indexRoom}
 use Rattle.syntax.proofs.ArenaLaws.{stays-refl, stays-trans, holds-later, test-later}
 use Rattle.syntax.proofs.NameLaws.{Hit, hit, miss}
 use Rattle.syntax.proofs.ReadingLaws.{put-found, agree-from, fresh-two, fresh-number, fresh-pair, one-node, both-node, number-node}
@@ -31,25 +32,25 @@ cmp-small ge = omega arith
 cmp-small eq = omega arith
 cmp-small ne = omega arith
 
-has-number : (c : ℕ) → c < 6 → hasTwo (26 + c) ≡ false
+has-number : (c : ℕ) → c < 6 → hasTwo (firstNumbered + c) ≡ false
 unfolding hasTwo
 has-number c h =
-    let l : 18 ≤ 26 + c = omega arith in
-    let m : 24 ≤ 26 + c = omega arith in
-    let u : 26 + c < 32 = omega arith in
-    rw (le-leb 18 (26 + c) l, le-ltb (26 + c) 24 m, lt-leb 32 (26 + c) u)
+    let l : firstPair ≤ firstNumbered + c = omega arith in
+    let m : firstEmpty ≤ firstNumbered + c = omega arith in
+    let u : firstNumbered + c < firstCounted = omega arith in
+    rw (le-leb firstPair (firstNumbered + c) l, le-ltb (firstNumbered + c) firstEmpty m, lt-leb firstCounted (firstNumbered + c) u)
 
-has-count : (c : ℕ) → hasTwo (32 + c) ≡ true
+has-count : (c : ℕ) → hasTwo (firstCounted + c) ≡ true
 unfolding hasTwo
 has-count c =
-    let l : 18 ≤ 32 + c = omega arith in
-    let m : 24 ≤ 32 + c = omega arith in
-    let u : 32 ≤ 32 + c = omega arith in
-    rw (le-leb 18 (32 + c) l, le-ltb (32 + c) 24 m, le-leb 32 (32 + c) u)
+    let l : firstPair ≤ firstCounted + c = omega arith in
+    let m : firstEmpty ≤ firstCounted + c = omega arith in
+    let u : firstCounted ≤ firstCounted + c = omega arith in
+    rw (le-leb firstPair (firstCounted + c) l, le-ltb (firstCounted + c) firstEmpty m, le-leb firstCounted (firstCounted + c) u)
 
 pub record BetweenRange (o : ℕ) : Type 0 where
-  pub low : 21 ≤ o
-  pub high : o < 24
+  pub low : memberOp ≤ o
+  pub high : o < firstEmpty
   pub has : hasTwo o ≡ true
 
 pub between-range : (m : Between) → BetweenRange (betweenOp m)
@@ -60,7 +61,7 @@ between-range (isSign isnt) = record { low = omega arith; high = omega arith; ha
 
 -- A number or a count behind a comparison.
 
-small : {s : Bytes} {at i : ℕ} {vars : List ℕ} {a : Arena} → Ready s at vars a → i < a .n → i < 4096
+small : {s : Bytes} {at i : ℕ} {vars : List ℕ} {a : Arena} → Ready s at vars a → i < a .n → i < indexRoom
 small g l = omega (arith, g .tidy .size, g .tidy .fits)
 
 pub count-lost : (f : ℕ) (σ : Choices) (o : Cmp) (t : Term) (w : Bytes) → skip (ascii "|") w ≡ fail → readNumber w ≡ fail → counted f σ o t w ≡ fail
@@ -68,7 +69,7 @@ unfolding counted readCount either next
 count-lost f σ o t w e q = rw (e, q)
 
 module _ (f : ℕ) (σ : Choices) (o : Cmp) (t : Term) {s : Bytes} {at : ℕ} where
-  pub number-found : {i c m e : ℕ} {vars : List ℕ} {a : Arena} {ns : List ℕ} {p : Place} → Ready s at vars a → i < a .n → c < 6 → cmpNumber o ≡ c → Holds (a .nodes) i t → skip (ascii "|") (drop at s) ≡ fail → Signed itself s at m e (readNumber (drop at s)) → Put a (26 + c + 256 * i + 1048576 * m) e ns p → Agree HoldsTest s at a ns p (counted f σ o t (drop at s))
+  pub number-found : {i c m e : ℕ} {vars : List ℕ} {a : Arena} {ns : List ℕ} {p : Place} → Ready s at vars a → i < a .n → c < 6 → cmpNumber o ≡ c → Holds (a .nodes) i t → skip (ascii "|") (drop at s) ≡ fail → Signed itself s at m e (readNumber (drop at s)) → Put a (nodeOf (firstNumbered + c) i m) e ns p → Agree HoldsTest s at a ns p (counted f σ o t (drop at s))
   unfolding counted readCount either next HoldsTest
   number-found {i} {c} {m} {e} {vars} {a} {ns} g l lc q y z x u =
       let w : readNumber (drop at s) ≡ got m (drop e s) = x .is ∙ ap (λ (n : ℕ). got n (drop e s)) (x .numbered) in
@@ -87,11 +88,11 @@ module _ (f : ℕ) (σ : Choices) (o : Cmp) (t : Term) {s : Bytes} {at : ℕ} wh
       unfolding counted readCount either next
       count-open q = rw (h .skips, x .reads, q)
 
-      pub count-found : {i c : ℕ} {vars : List ℕ} {ns : List ℕ} {p : Place} → Ready s at vars a → i < a .n → c < 6 → cmpNumber o ≡ c → Holds (a .nodes) i t → Hit s e (ascii "|") → Put b (32 + c + 256 * i + 1048576 * j) (e + 1) ns p → Agree HoldsTest s at a ns p (counted f σ o t (drop at s))
+      pub count-found : {i c : ℕ} {vars : List ℕ} {ns : List ℕ} {p : Place} → Ready s at vars a → i < a .n → c < 6 → cmpNumber o ≡ c → Holds (a .nodes) i t → Hit s e (ascii "|") → Put b (nodeOf (firstCounted + c) i j) (e + 1) ns p → Agree HoldsTest s at a ns p (counted f σ o t (drop at s))
       unfolding counted readCount either next HoldsTest
       count-found {i} {c} {vars} {ns} g l lc q y h′ u =
           let r : counted f σ o t (drop at s) ≡ got (sized o t (count (x .thing))) (drop (e + 1) s) = rw (h .skips, x .reads, h′ .skips) in
-          let lj : j < 4096 = omega (arith, x .within, x .tidy .size, x .tidy .fits) in
+          let lj : j < indexRoom = omega (arith, x .within, x .tidy .size, x .tidy .fits) in
           put-found (sized o t (count (x .thing))) u (x .stays) (omega (arith, x .count)) (h′ .fits) r
           (λ k n v. (
             i,
@@ -101,7 +102,7 @@ module _ (f : ℕ) (σ : Choices) (o : Cmp) (t : Term) {s : Bytes} {at : ℕ} wh
             holds-later b _ j (x .thing) (v .stays) (x .within) (x .holds),
           ))
 
-pub number-fresh : {s : Bytes} {at i c m e : ℕ} {vars : List ℕ} {a : Arena} → Ready s at vars a → i < a .n → c < 6 → Signed itself s at m e (readNumber (drop at s)) → Fresh a (26 + c) i m
+pub number-fresh : {s : Bytes} {at i c m e : ℕ} {vars : List ℕ} {a : Arena} → Ready s at vars a → i < a .n → c < 6 → Signed itself s at m e (readNumber (drop at s)) → Fresh a (firstNumbered + c) i m
 number-fresh {s} {at} {m = m} {e = e} g l lc x =
     let w : readNumber (drop at s) ≡ got m (drop e s) = x .is ∙ ap (λ (n : ℕ). got n (drop e s)) (x .numbered) in
     fresh-number (omega (arith, g .room, g .count, x .more, x .fits)) (g .tidy) (omega arith) (has-number _ lc) l (number-small 64 m (drop at s) (drop e s) w)
@@ -143,7 +144,7 @@ tested-holds (isSign g) a b {ns} {k} {i} {j} x y z = (i, j, x, y, z)
 
 -- Whether `{}` stands behind the sign.
 abbrev Emptied : Bytes → ℕ → ℕ → Bool → Type 0
-Emptied s at op r = (op < 22 → r ≡ false) × (22 ≤ op → Stands s at (ascii "{}") r)
+Emptied s at op r = (op < firstAlike → r ≡ false) × (firstAlike ≤ op → Stands s at (ascii "{}") r)
 
 second-term : (n : ℕ) (σ : Choices) (m : Between) (a : Term) {s : Bytes} {at : ℕ} {r : Bool} → Emptied s at (betweenOp m) r → r ≡ false → readSecond n σ a m (drop at s) ≡ next (readTerm n σ (drop at s)) (λ b w. got (tested m a b) w)
 unfolding readSecond either betweenOp alikeOp
@@ -189,7 +190,7 @@ module _ (n : ℕ) (σ : Choices) {s : Bytes} {at : ℕ} where
           let w = range in
           fresh-two (omega (arith, g .room, g .count, f .count, f .stays .size, x .more, x .fits)) (f .tidy) (omega (arith, w .high)) (f .within) (omega (arith, f .within))
 
-      pub empty-found : {ns : List ℕ} {p : Place} → r ≡ true → Put b (o + 2 + 256 * i + 1048576 * 0) (y + 2) ns p → Agree HoldsTest s at a ns p (relatedTest n σ (drop at s))
+      pub empty-found : {ns : List ℕ} {p : Place} → r ≡ true → Put b (nodeOf (o + 2) i 0) (y + 2) ns p → Agree HoldsTest s at a ns p (relatedTest n σ (drop at s))
       unfolding HoldsTest
       empty-found {ns} e′ u =
           let w = range in
@@ -206,7 +207,7 @@ module _ (n : ℕ) (σ : Choices) {s : Bytes} {at : ℕ} where
         pub related-fresh : {vars : List ℕ} → Ready s at vars a → Fresh d o i j
         related-fresh q = let w = range in fresh-pair q f f′ (x .more) (omega (arith, w .high))
 
-        pub related-found : {ns : List ℕ} {p : Place} → r ≡ false → Put d (o + 256 * i + 1048576 * j) g ns p → Agree HoldsTest s at a ns p (relatedTest n σ (drop at s))
+        pub related-found : {ns : List ℕ} {p : Place} → r ≡ false → Put d (nodeOf o i j) g ns p → Agree HoldsTest s at a ns p (relatedTest n σ (drop at s))
         unfolding next
         related-found {ns} e′ u =
             let w = range in
@@ -256,7 +257,7 @@ module _ (n : ℕ) (σ : Choices) where
       unfolding readClause next either
       clause-lost q = rw (f .reads, h .skips, q)
 
-      pub clause-found : {d : Arena} {j z : ℕ} {ns : List ℕ} {p : Place} → Found HoldsTest s (e + 2) b d j z (readTest n σ (drop (e + 2) s)) → Put d (38 + 256 * i + 1048576 * j) z ns p → Agree HoldsClause s at a ns p (readClause n σ (drop at s))
+      pub clause-found : {d : Arena} {j z : ℕ} {ns : List ℕ} {p : Place} → Found HoldsTest s (e + 2) b d j z (readTest n σ (drop (e + 2) s)) → Put d (nodeOf whenOp i j) z ns p → Agree HoldsClause s at a ns p (readClause n σ (drop at s))
       unfolding readClause next either HoldsClause hasTwo
       clause-found {d} {j} {z} f′ u =
           let q : readClause n σ (drop at s) ≡ got (when (f .thing) (f′ .thing)) (drop z s) = rw (f .reads, h .skips, f′ .reads) in

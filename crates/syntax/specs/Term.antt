@@ -18,21 +18,32 @@ pub data Fn : Type 0 where
   user roles roles* sessions permissions permissions* object : Fn
   deriving Discrete as Fn≟
 
--- "operations alone has two, parted by a comma". Intersection is meet, union is join.
+-- "operations alone has two, parted by a comma".
+pub data Fn2 : Type 0 where
+  operations : Fn2
+  deriving Discrete as Fn2≟
+
+-- "(term&term) (intersection), (term+term) (union)": meet and join.
 pub data Op : Type 0 where
-  operations meet join : Op
+  meet join : Op
   deriving Discrete as Op≟
+
+-- What makes one term of two.
+pub data Pair : Type 0 where
+  calls : Fn2 → Pair
+  joins : Op → Pair
+  deriving Discrete as Pair≟′
 
 pub data Term : Type 0 where
   base : Base → Term
   call : Fn → Term → Term
   oe : Term → Term
   ao : Term → Term
-  two : Op → Term → Term → Term
+  two : Pair → Term → Term → Term
   deriving Discrete as Term≟′
 
 unfoldable pub Term≟ : Discrete Term
-Term≟ = Term≟′ Base≟ Fn≟ Op≟
+Term≟ = Term≟′ Base≟ Fn≟ (Pair≟′ Fn2≟ Op≟)
 
 -- The choices known so far: v1, v2, .. in order, each with the argument of its OE and AO (document 01: "Equal argument texts choose
 -- the same element; different texts choose separately"). The digit of v1 is the byte 49.
@@ -60,7 +71,8 @@ digit σ a = digitFrom 49 σ a
 pub data Head : Type 0 where
   isBase : Base → Head
   isCall : Fn → Head
-  isOE isAO isOperations isBracket isChoice : Head
+  isCall2 : Fn2 → Head
+  isOE isAO isBracket isChoice : Head
 
 unfoldable pub spell : Head → Bytes
 spell (isBase bU) = ascii "U"
@@ -81,18 +93,28 @@ spell (isCall permissions*) = ascii "permissions*("
 spell (isCall object) = ascii "object("
 spell isOE = ascii "OE("
 spell isAO = ascii "AO("
-spell isOperations = ascii "operations("
+spell (isCall2 operations) = ascii "operations("
 spell isBracket = ascii "("
 spell isChoice = ascii "v"
 
 -- What stands after the first term in a bracket.
 pub data Middle : Type 0 where
-  isMeet isJoin isLess : Middle
+  isOp : Op → Middle
+  isLess : Middle
 
 unfoldable pub spellMiddle : Middle → Bytes
-spellMiddle isMeet = ascii "&"
-spellMiddle isJoin = ascii "+"
+spellMiddle (isOp meet) = ascii "&"
+spellMiddle (isOp join) = ascii "+"
 spellMiddle isLess = ascii "-{v"
+
+-- How two terms begin, and what parts them.
+unfoldable pub opening : Pair → Head
+opening (calls f) = isCall2 f
+opening (joins o) = isBracket
+
+unfoldable pub parting : Pair → Bytes
+parting (calls f) = ascii ","
+parting (joins o) = spellMiddle (isOp o)
 
 -- OE and AO of an argument that is written w: by the choice's digit where it is known.
 unfoldable pub oeText : Option ℕ → Bytes → Bytes
@@ -108,15 +130,13 @@ text σ (base b) = spell (isBase b)
 text σ (call f a) = spell (isCall f) ++ (text σ a ++ ascii ")")
 text σ (oe a) = oeText (digit σ a) (text σ a)
 text σ (ao a) = aoText (digit σ a) (text σ a)
-text σ (two operations a b) = spell isOperations ++ (text σ a ++ (ascii "," ++ (text σ b ++ ascii ")")))
-text σ (two meet a b) = spell isBracket ++ (text σ a ++ (spellMiddle isMeet ++ (text σ b ++ ascii ")")))
-text σ (two join a b) = spell isBracket ++ (text σ a ++ (spellMiddle isJoin ++ (text σ b ++ ascii ")")))
+text σ (two o a b) = spell (opening o) ++ (text σ a ++ (parting o ++ (text σ b ++ ascii ")")))
 
 -- How a term is read. With no choices known the reader is the grammar of terms.
 
 -- The names, the longest of those that begin alike first.
 unfoldable pub bracketHeads : List Head
-bracketHeads = isOperations ∷ isBracket ∷ isChoice ∷ []
+bracketHeads = isCall2 operations ∷ isBracket ∷ isChoice ∷ []
 
 unfoldable pub callHeads : List Head
 callHeads =
@@ -130,7 +150,7 @@ unfoldable pub heads : List Head
 heads = isBase bU ∷ isBase bR ∷ isBase bOBJ ∷ isBase bOP ∷ isBase bP ∷ isBase bS ∷ collectionHeads
 
 unfoldable pub middles : List Middle
-middles = isMeet ∷ isJoin ∷ isLess ∷ []
+middles = isOp meet ∷ isOp join ∷ isLess ∷ []
 
 -- Read the digit of a known choice, and give its argument.
 unfoldable pub known : Choices → Reader Term
@@ -143,8 +163,7 @@ closed rd make = do a ← rd; skip (ascii ")"); give (make a)
 
 -- The rest of a bracket after its first term a and what stands between.
 unfoldable pub second : Reader Term → Choices → Term → Middle → Reader Term
-second rd σ a isMeet = closed rd (two meet a)
-second rd σ a isJoin = closed rd (two join a)
+second rd σ a (isOp o) = closed rd (two (joins o) a)
 second rd σ a isLess = do known σ; skip (ascii "})"); give (ao a)
 
 -- The rest of a term after its beginning; rd reads the terms inside.
@@ -153,7 +172,7 @@ inner rd σ (isBase b) = give (base b)
 inner rd σ (isCall f) = closed rd (call f)
 inner rd σ isOE = closed rd oe
 inner rd σ isAO = closed rd ao
-inner rd σ isOperations = do a ← rd; skip (ascii ","); closed rd (two operations a)
+inner rd σ (isCall2 f) = do a ← rd; skip (ascii ","); closed rd (two (calls f) a)
 inner rd σ isBracket = do a ← rd; m ← scan spellMiddle middles; second rd σ a m
 inner rd σ isChoice = do a ← known σ; give (oe a)
 

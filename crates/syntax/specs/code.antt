@@ -1,4 +1,5 @@
 -- What only the code needs: nobody has to believe these definitions to read what the entry points promise.
+pub mod Nodes
 pub mod Arena
 pub mod Printing
 pub mod Reading

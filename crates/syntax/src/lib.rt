@@ -1,5 +1,5 @@
 // The reader of rules and of formulas: the whole text as a tree of nodes.
-// arena: the nodes; places: where a number stands; names: fixed byte strings; terms, tests and formulas: a reader for each form of the language.
+// nodes: their numbers; arena: the nodes; places: where a number stands; names: fixed byte strings; terms, tests and formulas: a reader for each form of the language.
 ghost use Prim.Native.Nat.{ℕ, _≤_};
 ghost use mathlib.Core.List.{List, []};
 ghost use lib.ListN.{length};
@@ -11,6 +11,7 @@ ghost use Rattle.syntax.specs.code.Reading.{mk, Agree, Reads};
 mod arena;
 mod formulas;
 mod names;
+pub mod nodes;
 pub mod places;
 mod terms;
 mod tests;

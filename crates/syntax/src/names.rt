@@ -8,6 +8,32 @@ ghost use Rattle.syntax.specs.Term.{spell, heads, collectionHeads, callH
 ghost use Rattle.syntax.specs.Rule.{spellCmp, cmps, spellBetween, betweens, readNumber};
 ghost use Rattle.syntax.specs.code.Arena.{cmpNumber};
 ghost use Rattle.syntax.specs.code.Reading.{Stands, Named, headOp, spellJoint, joints, jointOp, betweenOp, itself, digitOf};
+use super::nodes::AO;
+use super::nodes::BRACKET_HEAD;
+use super::nodes::CHOICE_HEAD;
+use super::nodes::CP;
+use super::nodes::CR;
+use super::nodes::CU;
+use super::nodes::IS;
+use super::nodes::ISNT;
+use super::nodes::JOIN;
+use super::nodes::MEET;
+use super::nodes::MEMBER;
+use super::nodes::OBJ;
+use super::nodes::OBJECT;
+use super::nodes::OE;
+use super::nodes::OP;
+use super::nodes::OPERATIONS;
+use super::nodes::P;
+use super::nodes::PERMISSIONS;
+use super::nodes::PERMISSIONS_STAR;
+use super::nodes::R;
+use super::nodes::ROLES;
+use super::nodes::ROLES_STAR;
+use super::nodes::S;
+use super::nodes::SESSIONS;
+use super::nodes::U;
+use super::nodes::USER;
 
 // A name's number and where the bytes behind it begin, or no name.
 pub enum Spelled {
@@ -39,22 +65,22 @@ pub fn head_at(s: &[u8], at: usize) -> Spelled
     ensures { λ r. ⌜ Named headOp (now (s .entry)) at r (scan spell heads (drop at (now (s .entry)))) ⌝ }
 {
     if stands(s, at, b"U") {
-        return Spelled::Name(0, at + 1);
+        return Spelled::Name(U, at + 1);
     }
     if stands(s, at, b"R") {
-        return Spelled::Name(1, at + 1);
+        return Spelled::Name(R, at + 1);
     }
     if stands(s, at, b"OBJ") {
-        return Spelled::Name(3, at + 3);
+        return Spelled::Name(OBJ, at + 3);
     }
     if stands(s, at, b"OP") {
-        return Spelled::Name(2, at + 2);
+        return Spelled::Name(OP, at + 2);
     }
     if stands(s, at, b"P") {
-        return Spelled::Name(4, at + 1);
+        return Spelled::Name(P, at + 1);
     }
     if stands(s, at, b"S") {
-        return Spelled::Name(5, at + 1);
+        return Spelled::Name(S, at + 1);
     }
     collection_at(s, at)
 }
@@ -65,19 +91,19 @@ fn collection_at(s: &[u8], at: usize) -> Spelled
     ensures { λ r. ⌜ Named headOp (now (s .entry)) at r (scan spell collectionHeads (drop at (now (s .entry)))) ⌝ }
 {
     if stands(s, at, b"CR") {
-        return Spelled::Name(6, at + 2);
+        return Spelled::Name(CR, at + 2);
     }
     if stands(s, at, b"CP") {
-        return Spelled::Name(7, at + 2);
+        return Spelled::Name(CP, at + 2);
     }
     if stands(s, at, b"CU") {
-        return Spelled::Name(8, at + 2);
+        return Spelled::Name(CU, at + 2);
     }
     if stands(s, at, b"OE(") {
-        return Spelled::Name(16, at + 3);
+        return Spelled::Name(OE, at + 3);
     }
     if stands(s, at, b"AO(") {
-        return Spelled::Name(17, at + 3);
+        return Spelled::Name(AO, at + 3);
     }
     call_at(s, at)
 }
@@ -88,25 +114,25 @@ fn call_at(s: &[u8], at: usize) -> Spelled
     ensures { λ r. ⌜ Named headOp (now (s .entry)) at r (scan spell callHeads (drop at (now (s .entry)))) ⌝ }
 {
     if stands(s, at, b"user(") {
-        return Spelled::Name(9, at + 5);
+        return Spelled::Name(USER, at + 5);
     }
     if stands(s, at, b"roles*(") {
-        return Spelled::Name(11, at + 7);
+        return Spelled::Name(ROLES_STAR, at + 7);
     }
     if stands(s, at, b"roles(") {
-        return Spelled::Name(10, at + 6);
+        return Spelled::Name(ROLES, at + 6);
     }
     if stands(s, at, b"sessions(") {
-        return Spelled::Name(12, at + 9);
+        return Spelled::Name(SESSIONS, at + 9);
     }
     if stands(s, at, b"permissions*(") {
-        return Spelled::Name(14, at + 13);
+        return Spelled::Name(PERMISSIONS_STAR, at + 13);
     }
     if stands(s, at, b"permissions(") {
-        return Spelled::Name(13, at + 12);
+        return Spelled::Name(PERMISSIONS, at + 12);
     }
     if stands(s, at, b"object(") {
-        return Spelled::Name(15, at + 7);
+        return Spelled::Name(OBJECT, at + 7);
     }
     bracket_at(s, at)
 }
@@ -117,13 +143,13 @@ fn bracket_at(s: &[u8], at: usize) -> Spelled
     ensures { λ r. ⌜ Named headOp (now (s .entry)) at r (scan spell bracketHeads (drop at (now (s .entry)))) ⌝ }
 {
     if stands(s, at, b"operations(") {
-        return Spelled::Name(18, at + 11);
+        return Spelled::Name(OPERATIONS, at + 11);
     }
     if stands(s, at, b"(") {
-        return Spelled::Name(19, at + 1);
+        return Spelled::Name(BRACKET_HEAD, at + 1);
     }
     if stands(s, at, b"v") {
-        return Spelled::Name(20, at + 1);
+        return Spelled::Name(CHOICE_HEAD, at + 1);
     }
     Spelled::Unknown
 }
@@ -133,20 +159,20 @@ pub fn middle_at(s: &[u8], at: usize, op: u32) -> Spelled
     requires { ⌜ at ≤ length (now s) ⌝ }
     ensures { λ r. ⌜ Named jointOp (now (s .entry)) at r (scan spellJoint (joints op) (drop at (now (s .entry)))) ⌝ }
 {
-    if op == 18 {
+    if op == OPERATIONS {
         if stands(s, at, b",") {
-            return Spelled::Name(18, at + 1);
+            return Spelled::Name(OPERATIONS, at + 1);
         }
         return Spelled::Unknown;
     }
     if stands(s, at, b"&") {
-        return Spelled::Name(19, at + 1);
+        return Spelled::Name(MEET, at + 1);
     }
     if stands(s, at, b"+") {
-        return Spelled::Name(20, at + 1);
+        return Spelled::Name(JOIN, at + 1);
     }
     if stands(s, at, b"-{v") {
-        return Spelled::Name(17, at + 3);
+        return Spelled::Name(AO, at + 3);
     }
     Spelled::Unknown
 }
@@ -183,30 +209,33 @@ pub fn between_at(s: &[u8], at: usize) -> Spelled
     ensures { λ r. ⌜ Named betweenOp (now (s .entry)) at r (scan spellBetween betweens (drop at (now (s .entry)))) ⌝ }
 {
     if stands(s, at, b"@") {
-        return Spelled::Name(21, at + 1);
+        return Spelled::Name(MEMBER, at + 1);
     }
     if stands(s, at, b"=") {
-        return Spelled::Name(22, at + 1);
+        return Spelled::Name(IS, at + 1);
     }
     if stands(s, at, b"!=") {
-        return Spelled::Name(23, at + 2);
+        return Spelled::Name(ISNT, at + 2);
     }
     Spelled::Unknown
 }
 
-// The digit at a place, or 100, with which no number is written.
+// No digit: with it no number is written.
+const NO_DIGIT: u32 = 100;
+
+// The digit at a place.
 fn digit_at(s: &[u8], at: usize) -> u32
     ensures { λ r. ⌜ r ≡ digitOf (drop at (now (s .entry))) ⌝ }
 {
     if s.len() <= at {
-        return 100;
+        return NO_DIGIT;
     }
     let c = s[at];
     if c < 48 {
-        return 100;
+        return NO_DIGIT;
     }
     if 57 < c {
-        return 100;
+        return NO_DIGIT;
     }
     wide(c) - 48
 }

@@ -6,12 +6,18 @@ ghost use lib.ListN.{length, drop};
 ghost use Rattle.syntax.specs.Term.{Term, Choices, readTerm, closed};
 ghost use Rattle.syntax.specs.code.Arena.{Holds};
 ghost use Rattle.syntax.specs.code.Reading.{mk, Ready, Knows, Agree, Chosen, Makes, choice, less, paired};
+ghost use Rattle.syntax.specs.code.Nodes.{firstCall, firstPair};
 use super::arena::Place;
 use super::arena::intern;
 use super::names::Spelled;
 use super::names::head_at;
 use super::names::middle_at;
 use super::names::stands;
+use super::nodes::AO;
+use super::nodes::CHOICE_HEAD;
+use super::nodes::FIRST_CALL;
+use super::nodes::FIRST_PAIR;
+use super::nodes::OE;
 
 // The node of the choice whose digit stands at a place.
 fn choice_at(s: &[u8], at: usize, vars: &[u32]) -> Spelled
@@ -41,7 +47,7 @@ fn read_choice(s: &[u8], at: usize, vars: &[u32], nodes: &mut [u32], n: usize) -
     let Spelled::Name(v, e) = c else {
         return Place::Nothing;
     };
-    intern(nodes, n, 16, v as usize, 0, e)
+    intern(nodes, n, OE, v as usize, 0, e)
 }
 
 // What stands behind `(`, a term and `-{v`: the digit of a choice and `})`, which is AO of the term at node i.
@@ -57,7 +63,7 @@ fn read_less(s: &[u8], at: usize, vars: &[u32], nodes: &mut [u32], n: usize, i: 
     if !stands(s, e, b"})") {
         return Place::Nothing;
     }
-    intern(nodes, n, 17, i, 0, e + 2)
+    intern(nodes, n, AO, i, 0, e + 2)
 }
 
 // A term at a place.
@@ -79,13 +85,13 @@ pub fn read_term(
     let Spelled::Name(op, next) = h else {
         return Place::Nothing;
     };
-    if op < 9 {
+    if op < FIRST_CALL {
         return intern(nodes, n, op, 0, 0, next);
     }
-    if op < 18 {
+    if op < FIRST_PAIR {
         return read_call(s, next, vars, nodes, n, left - 1, op);
     }
-    if op < 20 {
+    if op < CHOICE_HEAD {
         return read_two(s, next, vars, nodes, n, left - 1, op);
     }
     read_choice(s, next, vars, nodes, n)
@@ -102,7 +108,7 @@ fn read_call(
     op: u32,
 ) -> Place
     requires { ⌜ Ready (now s) at (now vars) (mk (now nodes) n) ⌝ }
-    requires { ⌜ (9 ≤ op) × (op < 18) ⌝ }
+    requires { ⌜ (firstCall ≤ op) × (op < firstPair) ⌝ }
     ensures { λ r. ⌜ ((σ : Choices) (make : Term → Term) → Knows (mk (now (nodes .entry)) n) (now (vars .entry)) σ → Makes op make → Agree Holds (now (s .entry)) at (mk (now (nodes .entry)) n) (now (nodes .exit)) r (closed (readTerm left σ) make (drop at (now (s .entry))))) ⌝ }
 {
     let p = read_term(s, at, vars, nodes, n, left);
@@ -141,7 +147,7 @@ fn read_two(
     let Spelled::Name(o, f) = h else {
         return Place::Nothing;
     };
-    if o == 17 {
+    if o == AO {
         return read_less(s, f, vars, nodes, m, node);
     }
     let q = read_term(s, f, vars, nodes, m, left);

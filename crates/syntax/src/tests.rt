@@ -9,6 +9,7 @@ ghost use Rattle.syntax.specs.Term.{Term, Choices};
 ghost use Rattle.syntax.specs.Rule.{Cmp, readTest, readClause, readRule};
 ghost use Rattle.syntax.specs.code.Arena.{Holds, HoldsTest, HoldsClause, HoldsRule, cmpNumber};
 ghost use Rattle.syntax.specs.code.Reading.{mk, Ready, Knows, Agree, Stands, counted, sizedTest, relatedTest, Collects, Joinable, Joined};
+ghost use Rattle.syntax.specs.code.Nodes.{firstAlike};
 use super::arena::Place;
 use super::arena::intern;
 use super::names::Spelled;
@@ -16,6 +17,11 @@ use super::names::between_at;
 use super::names::cmp_at;
 use super::names::number_at;
 use super::names::stands;
+use super::nodes::ALSO;
+use super::nodes::FIRST_COUNTED;
+use super::nodes::FIRST_NUMBERED;
+use super::nodes::IS;
+use super::nodes::WHEN;
 use super::terms::read_term;
 
 // What stands behind a comparison with the number c: a number or a count. The term at node i is counted.
@@ -38,7 +44,7 @@ fn read_count(
         let Spelled::Name(m, e) = h else {
             return Place::Nothing;
         };
-        return intern(nodes, n, 26 + c, i, m as usize, e);
+        return intern(nodes, n, FIRST_NUMBERED + c, i, m as usize, e);
     }
     let p = read_term(s, at + 1, vars, nodes, n, left);
     let Place::Got {
@@ -52,7 +58,7 @@ fn read_count(
     if !stands(s, e, b"|") {
         return Place::Nothing;
     }
-    intern(nodes, m, 32 + c, i, j, e + 1)
+    intern(nodes, m, FIRST_COUNTED + c, i, j, e + 1)
 }
 
 // What stands behind the first `|` of a test: a term, `|`, a comparison, and a number or a count.
@@ -82,9 +88,9 @@ fn read_sized(s: &[u8], at: usize, vars: &[u32], nodes: &mut [u32], n: usize, le
 // Whether `{}` stands behind a sign; `@` has none behind it.
 fn empty_at(s: &[u8], at: usize, op: u32) -> bool
     requires { ⌜ at ≤ length (now s) ⌝ }
-    ensures { λ r. ⌜ (op < 22 → r ≡ false) × (22 ≤ op → Stands (now (s .entry)) at (ascii "{}") r) ⌝ }
+    ensures { λ r. ⌜ (op < firstAlike → r ≡ false) × (firstAlike ≤ op → Stands (now (s .entry)) at (ascii "{}") r) ⌝ }
 {
-    if op < 22 {
+    if op < IS {
         return false;
     }
     stands(s, at, b"{}")
@@ -170,7 +176,7 @@ fn read_clause(s: &[u8], at: usize, vars: &[u32], nodes: &mut [u32], n: usize, l
     else {
         return Place::Nothing;
     };
-    intern(nodes, l, 38, i, j, f)
+    intern(nodes, l, WHEN, i, j, f)
 }
 
 fn caret_at(s: &[u8], at: usize) -> bool
@@ -180,7 +186,13 @@ fn caret_at(s: &[u8], at: usize) -> bool
     stands(s, at, b"^")
 }
 
-// The nodes of the clauses joined by `^`, at most as many as the list has room for; the node of the answer is their count.
+// The clauses of a rule: how many there are, the place behind them, and the count of nodes after them.
+pub enum Clauses {
+    Nothing,
+    Several { count: usize, next: usize, n: usize },
+}
+
+// The nodes of the clauses joined by `^`, at most as many as the list has room for.
 fn read_clauses(
     s: &[u8],
     start: usize,
@@ -189,7 +201,7 @@ fn read_clauses(
     first: usize,
     left: usize,
     list: &mut [u32],
-) -> Place
+) -> Clauses
     requires { ⌜ Ready (now s) start (now vars) (mk (now nodes) first) ⌝ }
     ensures { λ r. ⌜ ((σ : Choices) → Knows (mk (now (nodes .entry)) first) (now (vars .entry)) σ → Collects (now (s .entry)) start (mk (now (nodes .entry)) first) (now (nodes .exit)) (now (list .exit)) r (readRule left σ (length (now (list .entry))) (drop start (now (s .entry))))) ⌝ }
 {
@@ -199,13 +211,13 @@ fn read_clauses(
     while c < list.len() {
         let p = read_clause(s, at, vars, nodes, n, left);
         let Place::Got { node, next, n: m } = p else {
-            return Place::Nothing;
+            return Clauses::Nothing;
         };
         list[c] = node as u32;
         c += 1;
         if !caret_at(s, next) {
-            return Place::Got {
-                node: c,
+            return Clauses::Several {
+                count: c,
                 next: next,
                 n: m,
             };
@@ -213,7 +225,7 @@ fn read_clauses(
         at = next + 1;
         n = m;
     }
-    Place::Nothing
+    Clauses::Nothing
 }
 
 // The rule of the first c clauses of a list, made from the last one on.
@@ -226,7 +238,7 @@ fn join_clauses(nodes: &mut [u32], n: usize, list: &[u32], c: usize, next: usize
     let mut m = n;
     while 0 < k {
         k -= 1;
-        let p = intern(nodes, m, 39, list[k] as usize, node, next);
+        let p = intern(nodes, m, ALSO, list[k] as usize, node, next);
         let Place::Got {
             node: i,
             next: _,
@@ -259,8 +271,8 @@ pub fn read_rule(
     ensures { λ r. ⌜ ((σ : Choices) → Knows (mk (now (nodes .entry)) n) (now (vars .entry)) σ → Agree HoldsRule (now (s .entry)) at (mk (now (nodes .entry)) n) (now (nodes .exit)) r (readRule left σ (length (now (list .entry))) (drop at (now (s .entry))))) ⌝ }
 {
     let p = read_clauses(s, at, vars, nodes, n, left, list);
-    let Place::Got {
-        node: c,
+    let Clauses::Several {
+        count: c,
         next: e,
         n: m,
     } = p

@@ -18,22 +18,22 @@ use Rattle.words.proofs.WordsLaws.{has-in, word-has, and-true, all-lt}
 use Rattle.tables.specs.Tables.{Tables}
 use Rattle.tables.specs.Accepted.{Below, Sound}
 use Rattle.syntax.specs.Term.{bU, Fn, user, roles, roles*, sessions, permissions, permissions*, object}
-use Rattle.syntax.specs.Term.{operations, meet, join, Term, base, call, oe, ao, two, Choices}
+use Rattle.syntax.specs.Term.{meet, join, Term, base, call, oe, ao, two, Choices, Op, calls, joins}
 use Rattle.syntax.specs.Bytes.{Bytes}
 use Rattle.syntax.specs.Rule.{Rule, ruleVars, ruleOf}
 use Rattle.syntax.proofs.Closed.{Known, Ordered, rule-ordered}
-use Rattle.rules.specs.Kind.{Sort, Sort≟, sU, sR, sOP, sOBJ, sP, sS, CR, CP, CU, Kind, Kind≟, element, set, collection, baseKind, inside, takes, makes, oneOf, holds}
+use Rattle.rules.specs.Kind.{Sort, Sort≟, sU, sR, sOP, sOBJ, sP, sS, CR, CP, CU, Kind, Kind≟, element, set, collection, baseKind, inside, takes, makes, Row, row, call2Kind, oneOf, holds}
 use Rattle.rules.specs.Kind.{ofElement, callKind, oneKind, othersKind, asSet, joined, twoKind, with, kind}
 use Rattle.rules.specs.Accept.{refusal}
 use Rattle.rules.proofs.ChoiceLaws.{some-with, accepted-choosable}
 use Rattle.walks.specs.Choices.{variables, fullOn}
 use Rattle.walks.specs.code.Among.{Within}
 use Rattle.walks.proofs.OrderLaws.{and-left, and-right}
-use Rattle.values.specs.Values.{twoValue, variableOf, itemIn, oneValue, value}
+use Rattle.values.specs.Values.{opValue, twoValue, variableOf, itemIn, oneValue, value}
 use Rattle.values.specs.Items.{sortItems, kindItems}
 use Rattle.values.specs.Sets.{setOf, itemsOfKind, itemsOf, inSet}
 use Rattle.values.proofs.VariableLaws.{variable-digit, variable-at, variable-more}
-use Rattle.values.proofs.InsideLaws.{Among, among-all, row-inside, permissions-few, call-among, operations-among}
+use Rattle.values.proofs.InsideLaws.{Among, among-all, row-inside, permissions-few, call-among, call2-among}
 
 -- Which items a word has by its making.
 in-word : (f : ℕ → Bool) (x : ℕ) → has (wordOf 64 f) x ≡ true → f x ≡ true
@@ -58,6 +58,11 @@ join-among u v w f g x h = go (has v x) refl (in-word (λ i. has v i || has w i)
     go : (t : Bool) → has v x ≡ t → (t || has w x) ≡ true → has u x ≡ true
     go true e q = f x e
     go false e q = g x q
+
+op-among : (o : Op) (u v w : ℕ) → Among u v → Among u w → Among u (opValue o v w)
+unfolding opValue
+op-among meet u v w f g = meet-among u v w f
+op-among join u v w f g = join-among u v w f g
 
 -- Which items each kind has.
 module _ (T : Tables) where
@@ -109,12 +114,12 @@ module _ (T : Tables) where
           (sym (set-items k) ∙ ap (kindItems T) r, sym (set-items l) ∙ ap (kindItems T) (sym p ∙ r))
       go (no n) q = let z : _≡_ {A = ℕ} 0 1 = cc in absurd (omega arith)
 
-  operations-items : (k l m : Kind) → twoKind operations k l ≡ some m → kindItems T m ≡ sortItems T sOP
-  unfolding twoKind kindItems
-  operations-items k l m e = go (holds (Kind≟ (asSet k) (set sR)) && holds (Kind≟ l (element sOBJ))) e
+  call2-items : (ρ : Row) (k l m : Kind) → call2Kind ρ k l ≡ some m → kindItems T m ≡ sortItems T (ρ .gives)
+  unfolding call2Kind kindItems
+  call2-items ρ k l m e = go (holds (Kind≟ (asSet k) (set (ρ .first))) && holds (Kind≟ l (element (ρ .second)))) e
     where
-      go : (b : Bool) → _≡_ {A = Option Kind} (elim b [ true ↦ some (set sOP) | false ↦ none ]) (some m) → kindItems T m ≡ sortItems T sOP
-      go true q = let p : set sOP ≡ m = cc in rw (← p)
+      go : (b : Bool) → _≡_ {A = Option Kind} (elim b [ true ↦ some (set (ρ .gives)) | false ↦ none ]) (some m) → kindItems T m ≡ sortItems T (ρ .gives)
+      go true q = let p : set (ρ .gives) ≡ m = cc in rw (← p)
       go false q = let z : _≡_ {A = ℕ} 0 1 = cc in absurd (omega arith)
 
 -- The words of a collection have items of their sort.
@@ -161,20 +166,15 @@ module _ (T : Tables) (sound : Sound T) (σ : Choices) (c : List ℕ) where
   value-among (ao a) l e r =
       let q = some-with (kind a) othersKind l e in
       less-among (kindItems T l) (value T σ c a) (itemOf (itemIn σ c a)) (value-among a l (q .1 ∙ ap some (others-same (q .0) l (q .2))) r)
-  value-among (two operations a b) l e r =
-      let q = some-with (kind a) (λ k. with (kind b) (λ m. twoKind operations k m)) l e in
-      let p = some-with (kind b) (λ m. twoKind operations (q .0) m) l (q .2) in
-      rw (operations-items T (q .0) (p .0) l (p .2)) (operations-among T (sound .fits) (sound .bounded) (value T σ c a) (value T σ c b))
-  value-among (two meet a b) l e r =
-      let q = some-with (kind a) (λ k. with (kind b) (λ m. twoKind meet k m)) l e in
-      let p = some-with (kind b) (λ m. twoKind meet (q .0) m) l (q .2) in
+  value-among (two (calls f) a b) l e r =
+      let q = some-with (kind a) (λ k. with (kind b) (λ m. twoKind (calls f) k m)) l e in
+      let p = some-with (kind b) (λ m. twoKind (calls f) (q .0) m) l (q .2) in
+      rw (call2-items T (row f) (q .0) (p .0) l (p .2)) (call2-among T (sound .fits) (sound .bounded) (value T σ c a) f (value T σ c b))
+  value-among (two (joins o) a b) l e r =
+      let q = some-with (kind a) (λ k. with (kind b) (λ m. twoKind (joins o) k m)) l e in
+      let p = some-with (kind b) (λ m. twoKind (joins o) (q .0) m) l (q .2) in
       let n = joined-items T (q .0) (p .0) l (p .2) in
-      meet-among (kindItems T l) (value T σ c a) (value T σ c b) (rw (n .0) at (value-among a (q .0) (q .1) (r .0)))
-  value-among (two join a b) l e r =
-      let q = some-with (kind a) (λ k. with (kind b) (λ m. twoKind join k m)) l e in
-      let p = some-with (kind b) (λ m. twoKind join (q .0) m) l (q .2) in
-      let n = joined-items T (q .0) (p .0) l (p .2) in
-      join-among (kindItems T l) (value T σ c a) (value T σ c b)
+      op-among o (kindItems T l) (value T σ c a) (value T σ c b)
       (rw (n .0) at (value-among a (q .0) (q .1) (r .0))) (rw (n .1) at (value-among b (p .0) (p .1) (r .1)))
 
   -- The item of the variable v is of the kind of its set.

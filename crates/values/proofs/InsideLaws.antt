@@ -19,9 +19,9 @@ use Rattle.tables.specs.code.Reads.{Below, Bounded}
 use Rattle.functions.specs.Functions.{dominates, assigned, active, heldBy, sessionOf, those, someIn, isPermission, userOfSessions, userOfRoles}
 use Rattle.functions.specs.Functions.{rolesOfUsers, rolesOfSessions, rolesOfPermissions, juniorsOfUsers, juniorsOfSessions, seniorsOfPermissions}
 use Rattle.functions.specs.Functions.{sessionsOfUsers, permissionsOfRoles, permissionsOfJuniors, objectsOfPermissions, operationsOn}
-use Rattle.syntax.specs.Term.{Fn, user, roles, roles*, sessions, permissions, permissions*, object}
-use Rattle.rules.specs.Kind.{Kind, sU, sR, sOP, sP, makes}
-use Rattle.values.specs.Values.{ofSort, if, callValue}
+use Rattle.syntax.specs.Term.{Fn, user, roles, roles*, sessions, permissions, permissions*, object, Fn2, operations}
+use Rattle.rules.specs.Kind.{Kind, sU, sR, sP, makes, row}
+use Rattle.values.specs.Values.{ofSort, if, callValue, call2Value}
 use Rattle.values.specs.Items.{sortItems}
 
 -- Every item of w is below n.
@@ -171,9 +171,9 @@ module _ (T : Tables) (fits : Fits T) (b : Bounded T) (w : ℕ) where
           let more : T .operationCount * T .objectCount ≤ a * T .objectCount = mul-le-mul-right (T .objectCount) (omega arith) in
           absurd (omega (arith, e .0, e .2, fits .permissions, more))
 
-  pub operations-among : (v : ℕ) → Among (sortItems T sOP) (operationsOn T w v)
-  unfolding sortItems
-  operations-among v = among-all (T .operationCount) (operationsOn T w v) (omega (arith, fits .operations)) (operations-on v)
+  pub call2-among : (f : Fn2) (v : ℕ) → Among (sortItems T (row f .gives)) (call2Value T f w v)
+  unfolding sortItems row call2Value
+  call2-among operations v = among-all (T .operationCount) (operationsOn T w v) (omega (arith, fits .operations)) (operations-on v)
 
   pub permissions-few : length (T .permissionRows) ≤ 64
   permissions-few = omega (arith, fits .permissions, mul-le-mul (fits .operations) (fits .objects))

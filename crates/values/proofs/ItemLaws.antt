@@ -14,6 +14,7 @@ use Rattle.words.specs.Words.{allOf, itemOf}
 use Rattle.tables.specs.Tables.{Tables}
 use Rattle.tables.specs.Flat.{Fits, counts, sections, flat}
 use Rattle.tables.proofs.FlatLaws.{flat-at}
+use Rattle.syntax.specs.code.Nodes.{firstCall}
 use Rattle.rules.specs.Kind.{baseKind}
 use Rattle.rules.specs.code.Numbers.{firstSet, firstCollection, noKind, kindsFit, kindList, kindOf}
 use Rattle.rules.proofs.TableLaws.{pair}
@@ -37,12 +38,12 @@ each P (suc n) h k l = ⊎-elim (λ (e : k ≡ n). subst P (sym e) (h .1)) (λ (
 abbrev pub countPlaces : List ℕ
 countPlaces = 1 ∷ 0 ∷ 3 ∷ 4 ∷ 5 ∷ 2 ∷ 6 ∷ 8 ∷ 7 ∷ []
 
-pub count-place : (o : ℕ) → o < 9 → getD countPlaces o 0 < 9
+pub count-place : (o : ℕ) → o < firstCall → getD countPlaces o 0 < 9
 count-place o h =
     each (λ o. getD countPlaces o 0 < 9) 9
     (((((((((tt, lit< tt), lit< tt), lit< tt), lit< tt), lit< tt), lit< tt), lit< tt), lit< tt), lit< tt) o h
 
-pub base-items : (T : Tables) (o : ℕ) → o < 9 → allOf (getD (flat T) (getD countPlaces o 0) 0) ≡ kindItems T (baseKind (baseAt o))
+pub base-items : (T : Tables) (o : ℕ) → o < firstCall → allOf (getD (flat T) (getD countPlaces o 0) 0) ≡ kindItems T (baseKind (baseAt o))
 unfolding sections counts kindItems sortItems baseKind baseAt
 base-items T o h =
     each (λ o. allOf (getD (flat T) (getD countPlaces o 0) 0) ≡ kindItems T (baseKind (baseAt o))) 9

@@ -4,7 +4,7 @@ use mathlib.Core.Path.{_≡_, sym, ap, ap₂, _∙_}
 use mathlib.Core.Bool.{Bool, _||_}
 use mathlib.Core.List.{List, [], _∷_}
 use mathlib.Core.Logic.{⊎-elim}
-use Prim.Native.Nat.{ℕ, zero, suc, _+_, _/_, _%_, _<_, _≤_}
+use Prim.Native.Nat.{ℕ, zero, suc, _+_, _<_, _≤_}
 use native.Mathlib.Decide.{ℕ-discrete}
 use native.Mathlib.Omega.{arith}
 use lib.Dec.{eqb}
@@ -16,6 +16,7 @@ use Rattle.words.specs.Words.{has, itemOf, joinOf}
 use Rattle.words.proofs.WordsLaws.{has-zero, has-item, has-join}
 use Rattle.syntax.specs.Term.{Term, Choices}
 use Rattle.syntax.specs.code.Arena.{Holds, HoldsAll, Tidy}
+use Rattle.syntax.specs.code.Nodes.{firstCall, oeOp, aoOp, firstPair, opAt, leftAt, rightAt}
 use Rattle.values.specs.Values.{variableOf}
 use Rattle.values.specs.Sets.{namesIn, names}
 use Rattle.values.specs.code.Nodes.{placeIn, Variables, Named}
@@ -30,35 +31,35 @@ eqb-swap a b = go (ℕ-discrete a b)
 
 module _ {ns : List ℕ} {n : ℕ} {vs : List ℕ} {σ : Choices} (d : Tidy ns n) (w : Variables ns n vs σ) (k : ℕ) (h : k < n) (t : Term) (x : Holds ns k t)
     (u : ℕ) (l : u < 64) where
-  pub names-base : getD ns k 0 % 256 < 9 → has 0 u ≡ namesIn σ t u
+  pub names-base : opAt ns k < firstCall → has 0 u ≡ namesIn σ t u
   unfolding namesIn
   names-base m = has-zero u ∙ ap (λ (s : Term). namesIn σ s u) (sym (is-base ns k t x m))
 
   -- OE names its variable;
-  own : (a : Term) → 9 ≤ getD ns k 0 % 256 → Holds ns (getD ns k 0 / 256 % 4096) a → (p r : ℕ) → p ≡ placeIn (getD ns k 0 / 256 % 4096) vs → r ≡ itemOf p
+  own : (a : Term) → firstCall ≤ opAt ns k → Holds ns (leftAt ns k) a → (p r : ℕ) → p ≡ placeIn (leftAt ns k) vs → r ≡ itemOf p
       → has r u ≡ eqb (variableOf σ a) u
   own a m y p r e f =
       let b = left-below d h m in
       ap (λ (z : ℕ). has z u) f ∙ has-item p u l ∙ eqb-swap u p
-      ∙ ap (λ (z : ℕ). eqb z u) (e ∙ variable-place d w (getD ns k 0 / 256 % 4096) a (omega arith) y)
+      ∙ ap (λ (z : ℕ). eqb z u) (e ∙ variable-place d w (leftAt ns k) a (omega arith) y)
 
-  pub names-one : getD ns k 0 % 256 ≡ 16 → (p r : ℕ) → p ≡ placeIn (getD ns k 0 / 256 % 4096) vs → r ≡ itemOf p → has r u ≡ namesIn σ t u
+  pub names-one : opAt ns k ≡ oeOp → (p r : ℕ) → p ≡ placeIn (leftAt ns k) vs → r ≡ itemOf p → has r u ≡ namesIn σ t u
   unfolding namesIn
   names-one m p r e f =
       let q = is-one ns k t x m in
       own (q .inner) (omega arith) (q .holds) p r e f ∙ ap (λ (s : Term). namesIn σ s u) (sym (q .is))
 
   -- a call what its argument names;
-  pub names-call : 9 ≤ getD ns k 0 % 256 → getD ns k 0 % 256 < 16 → (r : ℕ)
-      → ((a : Term) → Holds ns (getD ns k 0 / 256 % 4096) a → has r u ≡ namesIn σ a u) → has r u ≡ namesIn σ t u
+  pub names-call : firstCall ≤ opAt ns k → opAt ns k < oeOp → (r : ℕ)
+      → ((a : Term) → Holds ns (leftAt ns k) a → has r u ≡ namesIn σ a u) → has r u ≡ namesIn σ t u
   unfolding namesIn
   names-call m m′ r ih =
       let q = is-call ns k t x m m′ in
       ih (q .inner) (q .holds) ∙ ap (λ (s : Term). namesIn σ s u) (sym (q .is))
 
   -- AO both;
-  pub names-others : getD ns k 0 % 256 ≡ 17 → (p i a r : ℕ) → p ≡ placeIn (getD ns k 0 / 256 % 4096) vs → i ≡ itemOf p
-      → ((b : Term) → Holds ns (getD ns k 0 / 256 % 4096) b → has a u ≡ namesIn σ b u) → r ≡ joinOf i a → has r u ≡ namesIn σ t u
+  pub names-others : opAt ns k ≡ aoOp → (p i a r : ℕ) → p ≡ placeIn (leftAt ns k) vs → i ≡ itemOf p
+      → ((b : Term) → Holds ns (leftAt ns k) b → has a u ≡ namesIn σ b u) → r ≡ joinOf i a → has r u ≡ namesIn σ t u
   unfolding namesIn
   names-others m p i a r e f ih g =
       let q = is-others ns k t x m in
@@ -67,9 +68,9 @@ module _ {ns : List ℕ} {n : ℕ} {vs : List ℕ} {σ : Choices} (d : Tidy ns n
       ∙ ap (λ (s : Term). namesIn σ s u) (sym (q .is))
 
   -- two terms what each names.
-  pub names-two : 18 ≤ getD ns k 0 % 256 → (a b r : ℕ)
-      → ((s : Term) → Holds ns (getD ns k 0 / 256 % 4096) s → has a u ≡ namesIn σ s u)
-      → ((s : Term) → Holds ns (getD ns k 0 / 1048576) s → has b u ≡ namesIn σ s u) → r ≡ joinOf a b → has r u ≡ namesIn σ t u
+  pub names-two : firstPair ≤ opAt ns k → (a b r : ℕ)
+      → ((s : Term) → Holds ns (leftAt ns k) s → has a u ≡ namesIn σ s u)
+      → ((s : Term) → Holds ns (rightAt ns k) s → has b u ≡ namesIn σ s u) → r ≡ joinOf a b → has r u ≡ namesIn σ t u
   unfolding namesIn
   names-two m a b r ih jh g =
       let q = is-two ns k t x m in

@@ -12,8 +12,8 @@ use lib.ListN.{length, getD, length-append}
 use borrow.Author.Tests.{eq-eqb, ne-eqb}
 use Rattle.syntax.specs.Bytes.{Bytes, ascii, isGot, onlyIf, skip, begins}
 use Rattle.syntax.specs.Term.{Base, bU, bR, bOP, bOBJ, bP, bS, bCR, bCP, bCU, Fn, user, roles, roles*, sessions, permissions, permissions*}
-use Rattle.syntax.specs.Term.{object, operations, meet, join, Term, base, call, oe, ao, two, Term≟, Choices, digitFrom, digit}
-use Rattle.syntax.specs.Term.{isBase, isCall, isOperations, isBracket, spell, spellMiddle, text, oeText, aoText}
+use Rattle.syntax.specs.Term.{object, operations, meet, join, calls, joins, Term, base, call, oe, ao, two, Term≟, Choices, digitFrom, digit}
+use Rattle.syntax.specs.Term.{isBase, isCall, isCall2, isBracket, spell, spellMiddle, opening, parting, text, oeText, aoText}
 use Rattle.syntax.specs.Rule.{Rule, ruleVars}
 use Rattle.syntax.proofs.Closed.{In, Known, Ordered, text-more, rule-ordered}
 use Rattle.values.specs.Values.{variableOf}
@@ -130,7 +130,7 @@ module _ (σ ys : Choices) (few : length σ ≤ 8) (u : ℕ) where
       ∙ or-assoc (namesIn (σ ++ ys) a u) (namesIn (σ ++ ys) b u) (writes u r)
 
   written : (t : Term) → Known σ t → Names t
-  unfolding text namesIn writes begins skip spell spellMiddle
+  unfolding text namesIn writes begins skip spell spellMiddle opening parting
   written (base b) k r = writes-base u b r
   written (call f a) k r =
       ap (writes u) (append-assoc (spell (isCall f)) (text σ a ++ ascii ")") r)
@@ -139,9 +139,9 @@ module _ (σ ys : Choices) (few : length σ ≤ 8) (u : ℕ) where
       ∙ written a k (41 ∷ r)
   written (oe a) k r = let n = numbered a (k .0) in one a (digit σ a) (n .0) (n .1) r
   written (ao a) k r = let n = numbered a (k .0) in others a (written a (k .1)) (digit σ a) (n .0) (n .1) r
-  written (two operations a b) k r = pair (spell isOperations) 44 a b (λ s. refl) (λ s. refl) (written a (k .0)) (written b (k .1)) r
-  written (two meet a b) k r = pair (spell isBracket) 38 a b (λ s. refl) (λ s. refl) (written a (k .0)) (written b (k .1)) r
-  written (two join a b) k r = pair (spell isBracket) 43 a b (λ s. refl) (λ s. refl) (written a (k .0)) (written b (k .1)) r
+  written (two (calls operations) a b) k r = pair (spell (isCall2 operations)) 44 a b (λ s. refl) (λ s. refl) (written a (k .0)) (written b (k .1)) r
+  written (two (joins meet) a b) k r = pair (spell isBracket) 38 a b (λ s. refl) (λ s. refl) (written a (k .0)) (written b (k .1)) r
+  written (two (joins join) a b) k r = pair (spell isBracket) 43 a b (λ s. refl) (λ s. refl) (written a (k .0)) (written b (k .1)) r
 
 or-false : (b : Bool) → (b || false) ≡ b
 or-false true = refl

@@ -3,18 +3,19 @@
 use mathlib.Core.Path.{_≡_, refl, sym, ap, _∙_}
 use mathlib.Core.Bool.{cond, _&&_}
 use mathlib.Core.List.{List, [], _∷_}
-use Prim.Native.Nat.{ℕ, zero, suc, _/_, _%_, _<_, _≤_}
+use Prim.Native.Nat.{ℕ, zero, suc, _<_, _≤_}
 use native.Mathlib.Decide.{ℕ-discrete}
 use native.Mathlib.Omega.{arith}
 use lib.Dec.{eqb, leb, ltb}
 use lib.ListN.{length, getD}
 use borrow.Author.Tests.{eq-eqb, ne-eqb, le-leb, lt-ltb}
 use Rattle.syntax.specs.Term.{Base, bU, bR, bOP, bOBJ, bP, bS, bCR, bCP, bCU, Fn, user, roles, roles*, sessions, permissions}
-use Rattle.syntax.specs.Term.{permissions*, object, Op, operations, meet, join, Term, base, call, oe, ao, two, Term≟, Choices}
+use Rattle.syntax.specs.Term.{permissions*, object, operations, meet, join, Term, base, call, oe, ao, two, Term≟, Choices, Pair, calls, joins}
 use Rattle.syntax.specs.code.Arena.{baseOp, fnOp, twoOp, Holds, HoldsAll, hasTwo, Down, Tidy}
 use Rattle.syntax.specs.code.Reading.{Sought}
+use Rattle.syntax.specs.code.Nodes.{firstCall, oeOp, aoOp, firstPair, memberOp, firstEmpty, firstCounted, opAt, leftAt, rightAt}
 use Rattle.values.specs.Values.{variableOf}
-use Rattle.values.specs.code.Nodes.{baseAt, fnAt, opAt, placeIn, Variables}
+use Rattle.values.specs.code.Nodes.{baseAt, fnAt, pairAt, placeIn, Variables}
 use Rattle.values.proofs.ReadsLaws.{or-right}
 use Rattle.syntax.proofs.ArenaLaws.{base-small, fn-range, two-range, one-parts, both-parts, holds-once, holds-one, holds-op, opOf}
 
@@ -40,11 +41,11 @@ fn-at permissions = refl
 fn-at permissions* = refl
 fn-at object = refl
 
-op-at : (o : Op) → opAt (twoOp o) ≡ o
-unfolding opAt twoOp
-op-at operations = refl
-op-at meet = refl
-op-at join = refl
+pair-at : (o : Pair) → pairAt (twoOp o) ≡ o
+unfolding pairAt twoOp
+pair-at (calls operations) = refl
+pair-at (joins meet) = refl
+pair-at (joins join) = refl
 
 -- The term is made of what the node at its left holds, and of that at its right.
 pub record MadeOf (ns : List ℕ) (i : ℕ) (make : Term → Term) (t : Term) : Type 0 where
@@ -52,7 +53,7 @@ pub record MadeOf (ns : List ℕ) (i : ℕ) (make : Term → Term) (t : Term) : 
   pub is : t ≡ make inner
   pub holds : Holds ns i inner
 
-pub record MadeOfTwo (ns : List ℕ) (i j : ℕ) (o : Op) (t : Term) : Type 0 where
+pub record MadeOfTwo (ns : List ℕ) (i j : ℕ) (o : Pair) (t : Term) : Type 0 where
   pub first : Term
   pub second : Term
   pub is : t ≡ two o first second
@@ -60,7 +61,7 @@ pub record MadeOfTwo (ns : List ℕ) (i j : ℕ) (o : Op) (t : Term) : Type 0 wh
   pub holds₂ : Holds ns j second
 
 module _ (ns : List ℕ) (k : ℕ) where
-  pub is-base : (t : Term) → Holds ns k t → getD ns k 0 % 256 < 9 → t ≡ base (baseAt (getD ns k 0 % 256))
+  pub is-base : (t : Term) → Holds ns k t → opAt ns k < firstCall → t ≡ base (baseAt (opAt ns k))
   unfolding opOf
   is-base (base b) x h = ap base (sym (base-at b) ∙ ap baseAt (sym (holds-op ns k (base b) x)))
   is-base (call f a) x h = absurd (omega (arith, holds-op ns k (call f a) x, fn-range f .low))
@@ -68,8 +69,8 @@ module _ (ns : List ℕ) (k : ℕ) where
   is-base (ao a) x h = absurd (omega (arith, holds-op ns k (ao a) x))
   is-base (two o a b) x h = absurd (omega (arith, holds-op ns k (two o a b) x, two-range o .low))
 
-  pub is-call : (t : Term) → Holds ns k t → 9 ≤ getD ns k 0 % 256 → getD ns k 0 % 256 < 16
-      → MadeOf ns (getD ns k 0 / 256 % 4096) (call (fnAt (getD ns k 0 % 256))) t
+  pub is-call : (t : Term) → Holds ns k t → firstCall ≤ opAt ns k → opAt ns k < oeOp
+      → MadeOf ns (leftAt ns k) (call (fnAt (opAt ns k))) t
   unfolding opOf Holds
   is-call (base b) x h l = absurd (omega (arith, holds-op ns k (base b) x, base-small b))
   is-call (call f a) x h l = record {
@@ -81,7 +82,7 @@ module _ (ns : List ℕ) (k : ℕ) where
   is-call (ao a) x h l = absurd (omega (arith, holds-op ns k (ao a) x))
   is-call (two o a b) x h l = absurd (omega (arith, holds-op ns k (two o a b) x, two-range o .low))
 
-  pub is-one : (t : Term) → Holds ns k t → getD ns k 0 % 256 ≡ 16 → MadeOf ns (getD ns k 0 / 256 % 4096) oe t
+  pub is-one : (t : Term) → Holds ns k t → opAt ns k ≡ oeOp → MadeOf ns (leftAt ns k) oe t
   unfolding opOf Holds
   is-one (base b) x h = absurd (omega (arith, holds-op ns k (base b) x, base-small b))
   is-one (call f a) x h = absurd (omega (arith, holds-op ns k (call f a) x, fn-range f .high))
@@ -89,7 +90,7 @@ module _ (ns : List ℕ) (k : ℕ) where
   is-one (ao a) x h = absurd (omega (arith, holds-op ns k (ao a) x))
   is-one (two o a b) x h = absurd (omega (arith, holds-op ns k (two o a b) x, two-range o .low))
 
-  pub is-others : (t : Term) → Holds ns k t → getD ns k 0 % 256 ≡ 17 → MadeOf ns (getD ns k 0 / 256 % 4096) ao t
+  pub is-others : (t : Term) → Holds ns k t → opAt ns k ≡ aoOp → MadeOf ns (leftAt ns k) ao t
   unfolding opOf Holds
   is-others (base b) x h = absurd (omega (arith, holds-op ns k (base b) x, base-small b))
   is-others (call f a) x h = absurd (omega (arith, holds-op ns k (call f a) x, fn-range f .high))
@@ -97,8 +98,8 @@ module _ (ns : List ℕ) (k : ℕ) where
   is-others (ao a) x h = record { inner = a; is = refl; holds = rw (one-parts (x .1) (omega arith) .left) (x .2) }
   is-others (two o a b) x h = absurd (omega (arith, holds-op ns k (two o a b) x, two-range o .low))
 
-  pub is-two : (t : Term) → Holds ns k t → 18 ≤ getD ns k 0 % 256
-      → MadeOfTwo ns (getD ns k 0 / 256 % 4096) (getD ns k 0 / 1048576) (opAt (getD ns k 0 % 256)) t
+  pub is-two : (t : Term) → Holds ns k t → firstPair ≤ opAt ns k
+      → MadeOfTwo ns (leftAt ns k) (rightAt ns k) (pairAt (opAt ns k)) t
   unfolding opOf Holds
   is-two (base b) x h = absurd (omega (arith, holds-op ns k (base b) x, base-small b))
   is-two (call f a) x h = absurd (omega (arith, holds-op ns k (call f a) x, fn-range f .high))
@@ -109,13 +110,13 @@ module _ (ns : List ℕ) (k : ℕ) where
       record {
         first = a;
         second = b;
-        is = ap (λ (q : Op). two q a b) (sym (op-at o) ∙ ap opAt (sym (holds-op ns k (two o a b) x)));
+        is = ap (λ (q : Pair). two q a b) (sym (pair-at o) ∙ ap pairAt (sym (holds-op ns k (two o a b) x)));
         holds = rw (p .left) (x .3);
         holds₂ = rw (p .right) (x .4);
       }
 
   -- No term has a number above 20.
-  pub term-small : (t : Term) → Holds ns k t → getD ns k 0 % 256 < 21
+  pub term-small : (t : Term) → Holds ns k t → opAt ns k < memberOp
   unfolding opOf
   term-small (base b) x = omega (arith, holds-op ns k (base b) x, base-small b)
   term-small (call f a) x = omega (arith, holds-op ns k (call f a) x, fn-range f .high)
@@ -157,25 +158,25 @@ variable-place {ns} {n} {vs} {σ} d w k a h y = place-variable ns n d vs σ (w .
 
 -- What stands at a node's left and right stands below it.
 module _ {ns : List ℕ} {n : ℕ} (d : Tidy ns n) {k : ℕ} (h : k < n) where
-  pub left-below : 9 ≤ getD ns k 0 % 256 → getD ns k 0 / 256 % 4096 < k
+  pub left-below : firstCall ≤ opAt ns k → leftAt ns k < k
   unfolding Down
   left-below l = d .down k h .left l
 
-  pub right-below : 18 ≤ getD ns k 0 % 256 → getD ns k 0 % 256 < 24 → getD ns k 0 / 1048576 < k
+  pub right-below : firstPair ≤ opAt ns k → opAt ns k < firstEmpty → rightAt ns k < k
   unfolding Down hasTwo
-  right-below l m = d .down k h .right (rw (le-leb 18 (getD ns k 0 % 256) l, lt-ltb (getD ns k 0 % 256) 24 m))
+  right-below l m = d .down k h .right (rw (le-leb firstPair (opAt ns k) l, lt-ltb (opAt ns k) firstEmpty m))
 
-  pub right-below₂ : 32 ≤ getD ns k 0 % 256 → getD ns k 0 / 1048576 < k
+  pub right-below₂ : firstCounted ≤ opAt ns k → rightAt ns k < k
   unfolding Down hasTwo
-  right-below₂ l = d .down k h .right (or-right (leb 18 (getD ns k 0 % 256) && ltb (getD ns k 0 % 256) 24) (leb 32 (getD ns k 0 % 256)) (le-leb 32 (getD ns k 0 % 256) l))
+  right-below₂ l = d .down k h .right (or-right (leb firstPair (opAt ns k) && ltb (opAt ns k) firstEmpty) (leb firstCounted (opAt ns k)) (le-leb firstCounted (opAt ns k) l))
 
 -- So they are among the first n.
 module _ {ns : List ℕ} {n : ℕ} (d : Tidy ns n) {k : ℕ} (h : k < n) where
-  pub left-in : 9 ≤ getD ns k 0 % 256 → getD ns k 0 / 256 % 4096 < n
+  pub left-in : firstCall ≤ opAt ns k → leftAt ns k < n
   left-in l = omega (arith, left-below d h l)
 
-  pub right-in : 18 ≤ getD ns k 0 % 256 → getD ns k 0 % 256 < 24 → getD ns k 0 / 1048576 < n
+  pub right-in : firstPair ≤ opAt ns k → opAt ns k < firstEmpty → rightAt ns k < n
   right-in l m = omega (arith, right-below d h l m)
 
-  pub right-in₂ : 32 ≤ getD ns k 0 % 256 → getD ns k 0 / 1048576 < n
+  pub right-in₂ : firstCounted ≤ opAt ns k → rightAt ns k < n
   right-in₂ l = omega (arith, right-below₂ d h l)

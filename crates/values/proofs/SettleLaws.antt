@@ -4,7 +4,7 @@ use mathlib.Core.Path.{_≡_, sym, _∙_}
 use mathlib.Core.Bool.{true}
 use mathlib.Core.List.{List}
 use mathlib.Core.Logic.{⊎-elim}
-use Prim.Native.Nat.{ℕ, _+_, _/_, _%_, _<_, _≤_}
+use Prim.Native.Nat.{ℕ, _+_, _<_, _≤_}
 use native.Mathlib.Decide.{ℕ-discrete}
 use native.Mathlib.Nat.{eq-or-lt-of-le}
 use native.Mathlib.Omega.{arith}
@@ -14,6 +14,7 @@ use lib.Seq.{getD-set-same, getD-set-other}
 use Rattle.tables.specs.Tables.{Tables}
 use Rattle.syntax.specs.Term.{Term, base, call, oe, ao, two, Choices}
 use Rattle.syntax.specs.code.Arena.{Holds, Tidy}
+use Rattle.syntax.specs.code.Nodes.{firstCall, oeOp, firstPair, opAt, leftAt, rightAt}
 use Rattle.syntax.proofs.ArenaLaws.{base-small, fn-range, two-range, one-parts, both-parts, holds-op, holds-one, opOf}
 use Rattle.rules.proofs.NodeLaws.{lt-or-le}
 use Rattle.values.specs.Values.{value, variableOf}
@@ -27,22 +28,22 @@ use Rattle.values.proofs.LevelLaws.{level-below}
 
 -- A term names what the terms right below it name.
 module _ (ns : List ℕ) (σ : Choices) (k : ℕ) where
-  names-left : (a : Term) → Holds ns k a → 9 ≤ getD ns k 0 % 256 → (getD ns k 0 % 256 ≡ 16 → ⊥) → (b : Term) → Holds ns (getD ns k 0 / 256 % 4096) b
+  names-left : (a : Term) → Holds ns k a → firstCall ≤ opAt ns k → (opAt ns k ≡ oeOp → ⊥) → (b : Term) → Holds ns (leftAt ns k) b
       → (u : ℕ) → namesIn σ b u ≡ true → namesIn σ a u ≡ true
   unfolding Holds namesIn opOf
   names-left (base o) x l m b y u e = absurd (omega (arith, holds-op ns k (base o) x, base-small o))
   names-left (call f s) x l m b y u e =
-      let z : Holds ns (getD ns k 0 / 256 % 4096) s = rw (one-parts (x .1) (omega (arith, fn-range f .high)) .left) (x .2) in
-      rw (← holds-one ns (getD ns k 0 / 256 % 4096) b s y z) e
+      let z : Holds ns (leftAt ns k) s = rw (one-parts (x .1) (omega (arith, fn-range f .high)) .left) (x .2) in
+      rw (← holds-one ns (leftAt ns k) b s y z) e
   names-left (oe s) x l m b y u e = absurd (m (holds-op ns k (oe s) x))
   names-left (ao s) x l m b y u e =
-      let z : Holds ns (getD ns k 0 / 256 % 4096) s = rw (one-parts (x .1) (omega arith) .left) (x .2) in
-      or-right (eqb (variableOf σ s) u) (namesIn σ s u) (rw (← holds-one ns (getD ns k 0 / 256 % 4096) b s y z) e)
+      let z : Holds ns (leftAt ns k) s = rw (one-parts (x .1) (omega arith) .left) (x .2) in
+      or-right (eqb (variableOf σ s) u) (namesIn σ s u) (rw (← holds-one ns (leftAt ns k) b s y z) e)
   names-left (two o s t) x l m b y u e =
-      let z : Holds ns (getD ns k 0 / 256 % 4096) s = rw (both-parts (x .2) (omega (arith, two-range o .high)) .left) (x .3) in
-      or-left (namesIn σ s u) (namesIn σ t u) (rw (← holds-one ns (getD ns k 0 / 256 % 4096) b s y z) e)
+      let z : Holds ns (leftAt ns k) s = rw (both-parts (x .2) (omega (arith, two-range o .high)) .left) (x .3) in
+      or-left (namesIn σ s u) (namesIn σ t u) (rw (← holds-one ns (leftAt ns k) b s y z) e)
 
-  names-right : (a : Term) → Holds ns k a → 18 ≤ getD ns k 0 % 256 → (b : Term) → Holds ns (getD ns k 0 / 1048576) b
+  names-right : (a : Term) → Holds ns k a → firstPair ≤ opAt ns k → (b : Term) → Holds ns (rightAt ns k) b
       → (u : ℕ) → namesIn σ b u ≡ true → namesIn σ a u ≡ true
   unfolding Holds namesIn opOf
   names-right (base o) x l b y u e = absurd (omega (arith, holds-op ns k (base o) x, base-small o))
@@ -50,16 +51,16 @@ module _ (ns : List ℕ) (σ : Choices) (k : ℕ) where
   names-right (oe s) x l b y u e = absurd (omega (arith, holds-op ns k (oe s) x))
   names-right (ao s) x l b y u e = absurd (omega (arith, holds-op ns k (ao s) x))
   names-right (two o s t) x l b y u e =
-      let z : Holds ns (getD ns k 0 / 1048576) t = rw (both-parts (x .2) (omega (arith, two-range o .high)) .right) (x .4) in
-      or-right (namesIn σ s u) (namesIn σ t u) (rw (← holds-one ns (getD ns k 0 / 1048576) b t y z) e)
+      let z : Holds ns (rightAt ns k) t = rw (both-parts (x .2) (omega (arith, two-range o .high)) .right) (x .4) in
+      or-right (namesIn σ s u) (namesIn σ t u) (rw (← holds-one ns (rightAt ns k) b t y z) e)
 
 -- So a cache that has the values below node k up to its level feeds it.
 fed : {ts ns : List ℕ} {n : ℕ} {ks vs : List ℕ} {T : Tables} {σ : Choices} {order levels : List ℕ} (c cache : List ℕ) → Tidy ns n → World ts ns n ks vs T σ
     → Levels ns n vs order levels → (k : ℕ) → k < n → (a : Term) → Holds ns k a
     → ((i : ℕ) → i < n → i < k → getD levels i 0 ≤ getD levels k 0 → (b : Term) → Holds ns i b → getD cache i 0 ≡ value T σ c b) → Fed T σ c ns cache k
 fed {ts} {ns} {n} {ks} {vs} {T} {σ} {order} {levels} c cache d w lev k h a x right = record {
-  left = λ l m b y. below (getD ns k 0 / 256 % 4096) (left-below d h l) b y (names-left ns σ k a x l m b y);
-  right = λ l b y. below (getD ns k 0 / 1048576) (right-below d h l (omega (arith, term-small ns k a x))) b y (names-right ns σ k a x l b y);
+  left = λ l m b y. below (leftAt ns k) (left-below d h l) b y (names-left ns σ k a x l m b y);
+  right = λ l b y. below (rightAt ns k) (right-below d h l (omega (arith, term-small ns k a x))) b y (names-right ns σ k a x l b y);
 }
   where
     below : (i : ℕ) → i < k → (b : Term) → Holds ns i b → ((u : ℕ) → namesIn σ b u ≡ true → namesIn σ a u ≡ true) → getD cache i 0 ≡ value T σ c b

@@ -10,7 +10,7 @@ use Rattle.tables.specs.Tables.{Tables}
 use Rattle.functions.specs.Functions.{userOfSessions, userOfRoles, rolesOfUsers, rolesOfSessions, rolesOfPermissions, juniorsOfUsers}
 use Rattle.functions.specs.Functions.{juniorsOfSessions, seniorsOfPermissions, sessionsOfUsers, permissionsOfRoles, permissionsOfJuniors}
 use Rattle.functions.specs.Functions.{objectsOfPermissions, operationsOn}
-use Rattle.syntax.specs.Term.{Fn, user, roles, roles*, sessions, permissions, permissions*, object, Op, operations, meet, join, Term, base, call, oe, ao, two, Term≟, Choices}
+use Rattle.syntax.specs.Term.{Fn, user, roles, roles*, sessions, permissions, permissions*, object, Fn2, operations, Op, meet, join, Pair, calls, joins, Term, base, call, oe, ao, two, Term≟, Choices}
 use Rattle.rules.specs.Kind.{Sort, Sort≟, sU, sR, sOP, sOBJ, sP, sS, CR, CP, CU, Kind, element, set, collection, holds, baseKind, kind}
 use Rattle.values.specs.Items.{kindItems}
 
@@ -36,10 +36,17 @@ callValue T permissions k w = permissionsOfRoles T w
 callValue T permissions* k w = permissionsOfJuniors T w
 callValue T object k w = objectsOfPermissions T w
 
-unfoldable pub twoValue : Tables → Op → ℕ → ℕ → ℕ
-twoValue T operations v w = operationsOn T v w
-twoValue T meet v w = meetOf v w
-twoValue T join v w = joinOf v w
+unfoldable pub call2Value : Tables → Fn2 → ℕ → ℕ → ℕ
+call2Value T operations v w = operationsOn T v w
+
+-- "`(term&term)` (intersection), `(term+term)` (union)"
+unfoldable pub opValue : Op → ℕ → ℕ → ℕ
+opValue meet v w = meetOf v w
+opValue join v w = joinOf v w
+
+unfoldable pub twoValue : Tables → Pair → ℕ → ℕ → ℕ
+twoValue T (calls f) v w = call2Value T f v w
+twoValue T (joins o) v w = opValue o v w
 
 -- "Equal argument texts choose the same element": the variable (from 0) of OE and AO of the argument a, where σ has the arguments in order.
 unfoldable pub variableOf : Choices → Term → ℕ

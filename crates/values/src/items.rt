@@ -10,6 +10,7 @@ ghost use Rattle.values.specs.Items.{kindItems};
 ghost use Rattle.values.specs.Values.{ofSort, oneValue};
 ghost use Rattle.values.specs.Truth.{compared};
 ghost use Rattle.values.specs.code.Nodes.{baseAt, cmpAt, sortAt};
+ghost use Rattle.syntax.specs.code.Nodes.{firstCall};
 use rules::kinds::FIRST_COLLECTION;
 use rules::kinds::FIRST_SET;
 use rules::kinds::NO_KIND;
@@ -22,7 +23,7 @@ const COLLECTIONS: [usize; 3] = [384, 512, 448];
 
 // All items of `U R OP OBJ P S`, all positions of `CR CP CU`.
 pub fn base(t: &[u64], op: usize) -> u64
-    requires { ⌜ (length (now t) ≡ 704) × (op < 9) ⌝ }
+    requires { ⌜ (length (now t) ≡ 704) × (op < firstCall) ⌝ }
     ensures { λ r. ⌜ ((T : Tables) → now (t .entry) ≡ flat T → r ≡ kindItems T (baseKind (baseAt op))) ⌝ }
 {
     let at = COUNTS[op];

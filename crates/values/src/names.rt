@@ -1,4 +1,11 @@
 // What terms, and with them the sets of the variables, name, as words of variables.
+use syntax::nodes::AO;
+use syntax::nodes::FIRST_CALL;
+use syntax::nodes::INDEX_ROOM;
+use syntax::nodes::MEMBER;
+use syntax::nodes::OE;
+use syntax::nodes::OP_ROOM;
+use syntax::nodes::RIGHT_UNIT;
 use syntax::places::seek;
 ghost use Prim.Native.Nat.{ℕ, _<_, _≤_};
 ghost use lib.ListN.{length, getD};
@@ -12,25 +19,25 @@ pub fn named(nodes: &[u32], n: usize, vars: &[u32], k: usize) -> u64
     ensures { λ r. ⌜ NamesAt (now (nodes .entry)) n (now (vars .entry)) k r ⌝ }
 {
     let node = nodes[k];
-    let op = node % 256;
-    if op < 9 {
+    let op = node % OP_ROOM;
+    if op < FIRST_CALL {
         return 0;
     }
-    if 20 < op {
+    if MEMBER <= op {
         return 0;
     }
-    let left = node / 256 % 4096;
-    if op == 16 {
+    let left = node / OP_ROOM % INDEX_ROOM;
+    if op == OE {
         return words::item(seek(vars, vars.len(), left));
     }
     let a = named(nodes, n, vars, left as usize);
-    if op < 16 {
+    if op < OE {
         return a;
     }
-    if op == 17 {
+    if op == AO {
         return words::join(words::item(seek(vars, vars.len(), left)), a);
     }
-    let right = (node / 1048576) as usize;
+    let right = (node / RIGHT_UNIT) as usize;
     let b = named(nodes, n, vars, right);
     words::join(a, b)
 }

@@ -1,6 +1,13 @@
 // The values of the nodes' terms under a choice, level by level, in a cache.
 use crate::calls;
 use crate::items;
+use syntax::nodes::AO;
+use syntax::nodes::FIRST_CALL;
+use syntax::nodes::INDEX_ROOM;
+use syntax::nodes::MEMBER;
+use syntax::nodes::OE;
+use syntax::nodes::OP_ROOM;
+use syntax::nodes::RIGHT_UNIT;
 use syntax::places::seek;
 ghost use Prim.Native.Nat.{ℕ, _<_, _≤_};
 ghost use lib.ListN.{length};
@@ -23,27 +30,27 @@ fn step(
     ensures { λ r. ⌜ StepAt (now (t .entry)) (now (nodes .entry)) n (now (kinds .entry)) (now (vars .entry)) (now (choice .entry)) k (now (cache .entry)) r ⌝ }
 {
     let node = nodes[k];
-    let op = node % 256;
-    if op < 9 {
+    let op = node % OP_ROOM;
+    if op < FIRST_CALL {
         return items::base(t, op as usize);
     }
-    if 20 < op {
+    if MEMBER <= op {
         return 0;
     }
-    let left = (node / 256 % 4096) as usize;
-    if op == 16 {
+    let left = (node / OP_ROOM % INDEX_ROOM) as usize;
+    if op == OE {
         let x = items::chosen(choice, seek(vars, vars.len(), left as u32));
         return items::one(t, kinds[left], x);
     }
     let a = cache[left];
-    if op < 16 {
+    if op < OE {
         return calls::call(t, op, kinds[left], a);
     }
-    if op == 17 {
+    if op == AO {
         let x = items::chosen(choice, seek(vars, vars.len(), left as u32));
         return words::less(a, words::item(x));
     }
-    let right = (node / 1048576) as usize;
+    let right = (node / RIGHT_UNIT) as usize;
     calls::two(t, op, a, cache[right])
 }
 

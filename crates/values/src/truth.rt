@@ -1,5 +1,15 @@
 // Whether a node's rule is true, where a cache has the values of the terms.
 use crate::items;
+use syntax::nodes::ALSO;
+use syntax::nodes::FIRST_COUNTED;
+use syntax::nodes::FIRST_NUMBERED;
+use syntax::nodes::INDEX_ROOM;
+use syntax::nodes::IS;
+use syntax::nodes::IS_EMPTY;
+use syntax::nodes::MEMBER;
+use syntax::nodes::OP_ROOM;
+use syntax::nodes::RIGHT_UNIT;
+use syntax::nodes::WHEN;
 ghost use mathlib.Core.Path.{_≡_};
 ghost use Prim.Native.Nat.{_<_, _≤_};
 ghost use lib.ListN.{length};
@@ -11,10 +21,10 @@ ghost use Rattle.values.specs.code.Cache.{TestAt, ClauseAt, TruthAt};
 fn related(op: u32, a: u64, b: u64) -> bool
     ensures { λ r. ⌜ r ≡ relatedAt op a b ⌝ }
 {
-    if op == 21 {
+    if op == MEMBER {
         return words::meet(a, b) != 0;
     }
-    if op == 22 {
+    if op == IS {
         return a == b;
     }
     a != b
@@ -24,7 +34,7 @@ fn related(op: u32, a: u64, b: u64) -> bool
 fn empty(op: u32, a: u64) -> bool
     ensures { λ r. ⌜ r ≡ emptyAt op a ⌝ }
 {
-    if op == 24 { a == 0 } else { a != 0 }
+    if op == IS_EMPTY { a == 0 } else { a != 0 }
 }
 
 fn test(nodes: &[u32], n: usize, cache: &[u64], k: usize) -> bool
@@ -32,28 +42,28 @@ fn test(nodes: &[u32], n: usize, cache: &[u64], k: usize) -> bool
     ensures { λ r. ⌜ TestAt (now (nodes .entry)) n (now (cache .entry)) k r ⌝ }
 {
     let node = nodes[k];
-    let op = node % 256;
-    if op < 21 {
+    let op = node % OP_ROOM;
+    if op < MEMBER {
         return false;
     }
-    if 37 < op {
+    if WHEN <= op {
         return false;
     }
-    let left = (node / 256 % 4096) as usize;
-    let right = (node / 1048576) as usize;
+    let left = (node / OP_ROOM % INDEX_ROOM) as usize;
+    let right = (node / RIGHT_UNIT) as usize;
     let a = cache[left];
-    if op < 24 {
+    if op < IS_EMPTY {
         return related(op, a, cache[right]);
     }
-    if op < 26 {
+    if op < FIRST_NUMBERED {
         return empty(op, a);
     }
     let x = words::size(a);
-    if op < 32 {
-        return items::compare((op - 26) as usize, x, right);
+    if op < FIRST_COUNTED {
+        return items::compare((op - FIRST_NUMBERED) as usize, x, right);
     }
     let y = words::size(cache[right]);
-    items::compare((op - 32) as usize, x, y)
+    items::compare((op - FIRST_COUNTED) as usize, x, y)
 }
 
 // `=>` is false only where its first test is true and its second false.
@@ -62,11 +72,11 @@ fn clause(nodes: &[u32], n: usize, cache: &[u64], k: usize) -> bool
     ensures { λ r. ⌜ ClauseAt (now (nodes .entry)) n (now (cache .entry)) k r ⌝ }
 {
     let node = nodes[k];
-    if node % 256 != 38 {
+    if node % OP_ROOM != WHEN {
         return test(nodes, n, cache, k);
     }
-    let left = (node / 256 % 4096) as usize;
-    let right = (node / 1048576) as usize;
+    let left = (node / OP_ROOM % INDEX_ROOM) as usize;
+    let right = (node / RIGHT_UNIT) as usize;
     if test(nodes, n, cache, left) {
         return test(nodes, n, cache, right);
     }
@@ -79,10 +89,10 @@ pub fn truth(nodes: &[u32], n: usize, cache: &[u64], k: usize) -> bool
     ensures { λ r. ⌜ TruthAt (now (nodes .entry)) n (now (cache .entry)) k r ⌝ }
 {
     let mut at = k;
-    while nodes[at] % 256 == 39 {
-        let left = (nodes[at] / 256 % 4096) as usize;
+    while nodes[at] % OP_ROOM == ALSO {
+        let left = (nodes[at] / OP_ROOM % INDEX_ROOM) as usize;
         if clause(nodes, n, cache, left) {
-            at = (nodes[at] / 1048576) as usize;
+            at = (nodes[at] / RIGHT_UNIT) as usize;
         } else {
             return false;
         }

@@ -7,17 +7,18 @@ use lib.Dec.{eqb}
 use lib.ListN.{getD}
 use Rattle.syntax.specs.Bytes.{Bytes, ascii}
 use Rattle.syntax.specs.Term.{bU, bR, bOP, bOBJ, bP, bS, bCR, bCP, bCU, user, roles, roles*, sessions, permissions, permissions*, object}
-use Rattle.syntax.specs.Term.{isBase, isCall, isOE, isAO, isOperations, isBracket, spell, isMeet, isJoin, spellMiddle}
+use Rattle.syntax.specs.Term.{isBase, isCall, isOE, isAO, calls, joins, operations, meet, join, opening, parting, spell}
 use Rattle.syntax.specs.Rule.{is, isnt, isIn, isSign, spellBetween, lt, le, gt, ge, eq, ne, spellCmp}
+use Rattle.syntax.specs.code.Nodes.{firstPair}
 
--- By the operation's number; for `operations`, with two terms, the comma.
+-- By the operation's number; of those that make one term of two what parts the two.
 unfoldable pub signs : List Bytes
 signs =
     spell (isBase bU) ∷ spell (isBase bR) ∷ spell (isBase bOP) ∷ spell (isBase bOBJ) ∷ spell (isBase bP) ∷ spell (isBase bS)
     ∷ spell (isBase bCR) ∷ spell (isBase bCP) ∷ spell (isBase bCU)
     ∷ spell (isCall user) ∷ spell (isCall roles) ∷ spell (isCall roles*) ∷ spell (isCall sessions) ∷ spell (isCall permissions)
     ∷ spell (isCall permissions*) ∷ spell (isCall object) ∷ spell isOE ∷ spell isAO
-    ∷ ascii "," ∷ spellMiddle isMeet ∷ spellMiddle isJoin
+    ∷ parting (calls operations) ∷ parting (joins meet) ∷ parting (joins join)
     ∷ spellBetween isIn ∷ spellBetween (isSign is) ∷ spellBetween (isSign isnt) ∷ spellBetween (isSign is) ∷ spellBetween (isSign isnt) ∷ []
 
 abbrev pub signOf : ℕ → Bytes
@@ -31,4 +32,4 @@ cmpSignOf c = getD cmpSigns c []
 
 -- What stands before the first of two terms.
 abbrev pub openOf : ℕ → Bytes
-openOf op = cond (eqb op 18) (spell isOperations) (spell isBracket)
+openOf op = cond (eqb op firstPair) (spell (opening (calls operations))) (spell (opening (joins meet)))

@@ -10,6 +10,7 @@ use Rattle.syntax.specs.Term.{Choices}
 use Rattle.syntax.specs.Rule.{Rule, ruleVars, formula}
 use Rattle.syntax.specs.code.Arena.{hasTwo, HoldsRule}
 use Rattle.syntax.specs.code.Reading.{mk, Knows}
+use Rattle.syntax.specs.code.Nodes.{firstCall, oeOp, aoOp, firstNumbered}
 use Rattle.rules.specs.code.Thing.{Thing, HoldsThing, thingText}
 
 -- How many bytes an operation adds to what it stands on, by its number.
@@ -26,14 +27,14 @@ extra o = getD extraTable o 0
 
 -- The length of an operation's text, by those of its parts; m is the number of a count that is compared with one.
 unfoldable pub plainLength : ℕ → ℕ → ℕ → ℕ → ℕ
-plainLength o a b m = cond (hasTwo o) (extra o + a + b) (cond (ltb o 26) (extra o + a) (extra o + a + cond (ltb m 10) 1 2))
+plainLength o a b m = cond (hasTwo o) (extra o + a + b) (cond (ltb o firstNumbered) (extra o + a) (extra o + a + cond (ltb m 10) 1 2))
 
 -- With OE as `v1` and AO as `(X-{v1})`, where the choice is known.
 unfoldable pub knownLength : ℕ → ℕ → ℕ → ℕ → ℕ
-knownLength o a b m = cond (eqb o 16) 2 (cond (eqb o 17) (7 + a) (plainLength o a b m))
+knownLength o a b m = cond (eqb o oeOp) 2 (cond (eqb o aoOp) (7 + a) (plainLength o a b m))
 
 unfoldable pub nodeLength : ℕ → Bool → ℕ → ℕ → ℕ → ℕ
-nodeLength o known a b m = cond (ltb o 9) (extra o) (cond known (knownLength o a b m) (plainLength o a b m))
+nodeLength o known a b m = cond (ltb o firstCall) (extra o) (cond known (knownLength o a b m) (plainLength o a b m))
 
 -- No length above this number is told apart from it.
 abbrev pub capped : ℕ → ℕ

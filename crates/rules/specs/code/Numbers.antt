@@ -10,6 +10,7 @@ use lib.ListN.{getD}
 use Rattle.syntax.specs.Term.{Term, user, roles, roles*, sessions, permissions, permissions*, object}
 use Rattle.syntax.specs.Rule.{Test, Clause, Rule}
 use Rattle.syntax.specs.code.Arena.{Holds, HoldsTest, HoldsClause, HoldsRule}
+use Rattle.syntax.specs.code.Nodes.{firstCall, firstPair, firstJoin, memberOp, firstAlike, firstEmpty, firstCounted, whenOp}
 use Rattle.rules.specs.Kind.{sU, sR, sOP, sOBJ, sP, sS, CR, CP, CU, Kind, element, set, collection, callKind, oneKind, othersKind}
 use Rattle.rules.specs.Kind.{kind, testKinds, clauseKinds, ruleKinds}
 
@@ -26,16 +27,6 @@ noKind = 15
 -- The number of a test, a clause or a rule whose kinds fit.
 abbrev pub kindsFit : ℕ
 kindsFit = 16
-
--- Those of kinds that an operation names.
-abbrev pub objectKind : ℕ
-objectKind = 3
-
-abbrev pub rolesKind : ℕ
-rolesKind = 7
-
-abbrev pub operationsKind : ℕ
-operationsKind = 8
 
 unfoldable pub kindList : List (Option Kind)
 kindList =
@@ -66,16 +57,24 @@ oneTable =
 
 -- The kind's number of an operation's term, by those of its arguments; of a test, a clause, a rule `kindsFit` where they fit.
 unfoldable pub oneNumber : ℕ → ℕ → ℕ
-oneNumber o a = cond (ltb a noKind) (getD oneTable (15 * (o - 9) + a) 0) noKind
+oneNumber o a = cond (ltb a noKind) (getD oneTable (15 * (o - firstCall) + a) 0) noKind
 
 -- An element counts as the set of itself.
 unfoldable pub setNumber : ℕ → ℕ
 setNumber a = cond (ltb a firstSet) (a + firstSet) a
 
+-- The calls of two terms, a row for each: the kind of the first as a set, that of the second, that of the call.
+unfoldable pub pairTable : List ℕ
+pairTable = 7 ∷ 3 ∷ 8 ∷ []
+
+unfoldable pub call2Number : ℕ → ℕ → ℕ → ℕ
+call2Number o a b =
+    cond (eqb (setNumber a) (getD pairTable (3 * (o - firstPair)) 0)) (cond (eqb b (getD pairTable (3 * (o - firstPair) + 1) 0)) (getD pairTable (3 * (o - firstPair) + 2) 0) noKind) noKind
+
 unfoldable pub twoNumber : ℕ → ℕ → ℕ → ℕ
 twoNumber o a b =
-    cond (eqb o 18)
-    (cond (eqb (setNumber a) rolesKind) (cond (eqb b objectKind) operationsKind noKind) noKind)
+    cond (ltb o firstJoin)
+    (call2Number o a b)
     (cond (eqb (setNumber a) (setNumber b)) (setNumber a) noKind)
 
 unfoldable pub countableNumber : ℕ → Bool
@@ -83,19 +82,19 @@ countableNumber a = cond (ltb a firstSet) false (ltb a noKind)
 
 unfoldable pub fitsNumber : ℕ → ℕ → ℕ → Bool
 fitsNumber o a b =
-    cond (ltb o 22)
+    cond (ltb o firstAlike)
     (cond (ltb a firstSet) (eqb b (a + firstSet)) false)
-    (cond (ltb o 24)
+    (cond (ltb o firstEmpty)
     (cond (ltb a noKind) (eqb a b) false)
-    (cond (ltb o 32)
+    (cond (ltb o firstCounted)
     (countableNumber a)
-    (cond (ltb o 38)
+    (cond (ltb o whenOp)
     (cond (countableNumber a) (countableNumber b) false)
     (cond (eqb a kindsFit) (eqb b kindsFit) false))))
 
 unfoldable pub nodeNumber : ℕ → ℕ → ℕ → ℕ
 nodeNumber o a b =
-    cond (ltb o 9) (o + firstSet) (cond (ltb o 18) (oneNumber o a) (cond (ltb o 21) (twoNumber o a b) (cond (fitsNumber o a b) kindsFit noKind)))
+    cond (ltb o firstCall) (o + firstSet) (cond (ltb o firstPair) (oneNumber o a) (cond (ltb o memberOp) (twoNumber o a b) (cond (fitsNumber o a b) kindsFit noKind)))
 
 -- x is the number of what node k holds.
 pub record KindAt (ns : List ℕ) (k x : ℕ) : Type 0 where

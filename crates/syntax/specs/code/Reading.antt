@@ -4,20 +4,23 @@ use mathlib.Core.Path.{_≡_}
 use mathlib.Core.Bool.{Bool, true, false, cond}
 use mathlib.Core.List.{List, [], _∷_}
 use mathlib.Core.Option.{Option, none, some}
-use Prim.Native.Nat.{ℕ, _+_, _*_, _-_, _<_, _≤_}
+use Prim.Native.Nat.{ℕ, _+_, _-_, _<_, _≤_}
 use lib.Dec.{eqb, ltb}
 use lib.ListN.{length, getD, drop}
 use Rattle.syntax.specs.Bytes.{Bytes, ascii, Read, fail, got, Reader, _>>=_, _>>_, give, skip, begins, scan, either}
-use Rattle.syntax.specs.Term.{Base, Fn, Op, operations, meet, join, Term, oe, ao, two, Choices, Head, isBase, isCall, isOE, isAO}
-use Rattle.syntax.specs.Term.{isOperations, isBracket, isChoice, Middle, isMeet, isJoin, isLess, spellMiddle, middles, known, closed, readTerm}
+use Rattle.syntax.specs.Term.{Base, Fn, operations, meet, join, Pair, calls, joins, Term, oe, ao, two, Choices, Head, isBase, isCall, isOE, isAO}
+use Rattle.syntax.specs.Term.{isCall2, isBracket, isChoice, Middle, isLess, spellMiddle, parting, middles, known, closed, readTerm}
 use Rattle.syntax.specs.Rule.{Between, isIn, isSign, Cmp, Test, Clause, Rule, last, also, sized, spellCmp, cmps, spellBetween, betweens, readCount, readSecond}
-use Rattle.syntax.specs.code.Arena.{baseOp, fnOp, oeOp, aoOp, twoOp, memberOp, alikeOp, cmpNumber, One, Holds, HoldsAll, HoldsClause, HoldsRule, Low, Tidy}
+use Rattle.syntax.specs.code.Arena.{baseOp, fnOp, twoOp, alikeOp, cmpNumber, One, Holds, HoldsAll, HoldsClause, HoldsRule, Low, Tidy}
 use Rattle.syntax.specs.declared.names.Spelled.{Spelled}
 use Rattle.syntax.specs.declared.names.Spelled.the-variants.{Unknown, Name}
 use Rattle.syntax.specs.declared.arena.Place.{Place}
 use Rattle.syntax.specs.declared.arena.Place.the-variants.{Nothing, Got}
+use Rattle.syntax.specs.declared.tests.Clauses.{Clauses}
+use Rattle.syntax.specs.declared.tests.Clauses.the-variants.{Nothing as NoClause, Several}
 use Rattle.syntax.specs.declared.Whole.{Whole}
 use Rattle.syntax.specs.declared.Whole.the-variants.{Nothing as NoRoot, Root}
+use Rattle.syntax.specs.code.Nodes.{oeOp, aoOp, firstPair, memberOp, opsEnd, bracketHead, choiceHead, nodeOf, indexRoom}
 
 -- Names.
 
@@ -37,15 +40,15 @@ pub data Named {A : Type 0} (number : A → ℕ) (s : Bytes) (at : ℕ) : Spelle
   noName : {r : Read A} → r ≡ fail → Named number s at Unknown r
   someName : {o e : ℕ} {r : Read A} → Signed number s at o e r → Named number s at (Name o e) r
 
--- The numbers of the beginnings of a term: those of the operations, then 19 the bracket and 20 a choice.
+-- The numbers of the beginnings of a term: that of the operation, or one of their own.
 unfoldable pub headOp : Head → ℕ
 headOp (isBase b) = baseOp b
 headOp (isCall f) = fnOp f
 headOp isOE = oeOp
 headOp isAO = aoOp
-headOp isOperations = 18
-headOp isBracket = 19
-headOp isChoice = 20
+headOp (isCall2 operations) = firstPair
+headOp isBracket = bracketHead
+headOp isChoice = choiceHead
 
 unfoldable pub betweenOp : Between → ℕ
 betweenOp isIn = memberOp
@@ -54,10 +57,13 @@ betweenOp (isSign g) = alikeOp g
 abbrev pub itself : ℕ → ℕ
 itself m = m
 
--- The digit in front, or 100.
+-- The digit in front, or noDigit, with which no number is written.
+abbrev pub noDigit : ℕ
+noDigit = 100
+
 unfoldable pub digitOf : Bytes → ℕ
-digitOf [] = 100
-digitOf (c ∷ s) = cond (ltb c 48) 100 (cond (ltb 57 c) 100 (c - 48))
+digitOf [] = noDigit
+digitOf (c ∷ s) = cond (ltb c 48) noDigit (cond (ltb 57 c) noDigit (c - 48))
 
 -- The choice at `at` is that of index i, whose node is v.
 pub record Choice (s : Bytes) (at : ℕ) (vars : List ℕ) (v e : ℕ) : Type 0 where
@@ -98,10 +104,10 @@ pub record Sought (ns : List ℕ) (n v r : ℕ) : Type 0 where
 pub record Fresh (a : Arena) (op i j : ℕ) : Type 0 where
   pub room : a .n < length (a .nodes)
   pub tidy : Tidy (a .nodes) (a .n)
-  pub known : op < 40
-  pub left : i < 4096
-  pub right : j < 4096
-  pub low : Low (op + 256 * i + 1048576 * j) (a .n)
+  pub known : op < opsEnd
+  pub left : i < indexRoom
+  pub right : j < indexRoom
+  pub low : Low (nodeOf op i j) (a .n)
 
 -- b is a with the node v in it, at k.
 pub record Interned (a : Arena) (v : ℕ) (b : Arena) (k : ℕ) : Type 0 where
@@ -153,7 +159,7 @@ pub record Makes (op : ℕ) (make : Term → Term) : Type 0 where
 
 -- What stands after the first term in a bracket: what makes two terms one, or the choice that is taken away.
 pub data Joint : Type 0 where
-  pair : Op → Joint
+  pair : Pair → Joint
   away : Joint
 
 unfoldable pub jointOp : Joint → ℕ
@@ -161,14 +167,12 @@ jointOp (pair o) = twoOp o
 jointOp away = aoOp
 
 unfoldable pub spellJoint : Joint → Bytes
-spellJoint (pair operations) = ascii ","
-spellJoint (pair meet) = spellMiddle isMeet
-spellJoint (pair join) = spellMiddle isJoin
+spellJoint (pair o) = parting o
 spellJoint away = spellMiddle isLess
 
--- 18 is `operations(`, and any other number the bracket.
+-- Behind a call of two terms the comma, and behind the bracket a sign.
 unfoldable pub joints : ℕ → List Joint
-joints op = cond (eqb op 18) (pair operations ∷ []) (pair meet ∷ pair join ∷ away ∷ [])
+joints op = cond (eqb op firstPair) (pair (calls operations) ∷ []) (pair (joins meet) ∷ pair (joins join) ∷ away ∷ [])
 
 unfoldable pub choice : Choices → Reader Term
 choice σ = do a ← known σ; give (oe a)
@@ -220,9 +224,9 @@ pub record Collected (s : Bytes) (at : ℕ) (a b : Arena) (list : List ℕ) (c e
   pub stays : Stays a b
   pub tidy : Tidy (b .nodes) (b .n)
 
-pub data Collects (s : Bytes) (at : ℕ) (a : Arena) (ns list : List ℕ) : Place → Read Rule → Type 0 where
-  noClause : {r : Read Rule} → r ≡ fail → Collects s at a ns list Nothing r
-  someClauses : {c e n : ℕ} {r : Read Rule} → Collected s at a (mk ns n) list c e r → Collects s at a ns list (Got c e n) r
+pub data Collects (s : Bytes) (at : ℕ) (a : Arena) (ns list : List ℕ) : Clauses → Read Rule → Type 0 where
+  noClause : {r : Read Rule} → r ≡ fail → Collects s at a ns list NoClause r
+  someClauses : {c e n : ℕ} {r : Read Rule} → Collected s at a (mk ns n) list c e r → Collects s at a ns list (Several c e n) r
 
 -- The clauses of a list may be joined: there is room for a node between each two.
 pub record Joinable (a : Arena) (list : List ℕ) (c next : ℕ) : Type 0 where

@@ -3,12 +3,13 @@
 use mathlib.Core.Path.{_≡_}
 use mathlib.Core.Bool.{Bool}
 use mathlib.Core.List.{List}
-use Prim.Native.Nat.{ℕ, _+_, _/_, _%_, _<_, _≤_}
+use Prim.Native.Nat.{ℕ, _+_, _<_, _≤_}
 use lib.ListN.{length, getD}
 use Rattle.tables.specs.Tables.{Tables}
 use Rattle.syntax.specs.Term.{Term, Choices}
 use Rattle.syntax.specs.Rule.{Test, Clause, Rule}
 use Rattle.syntax.specs.code.Arena.{Holds, HoldsTest, HoldsClause, HoldsRule}
+use Rattle.syntax.specs.code.Nodes.{firstCall, oeOp, firstPair, opAt, leftAt, rightAt}
 use Rattle.values.specs.Values.{value}
 use Rattle.values.specs.Truth.{testTrue, clauseTrue, ruleTrue}
 use Rattle.values.specs.code.Nodes.{World, ValueAt}
@@ -16,9 +17,9 @@ use Rattle.values.specs.code.Levels.{Levels, Linked, Following}
 
 -- The cache has, under the choice c, the values of the terms at node k's left and right, where its operation is of them.
 pub record Fed (T : Tables) (σ : Choices) (c ns cache : List ℕ) (k : ℕ) : Type 0 where
-  pub left : 9 ≤ getD ns k 0 % 256 → (getD ns k 0 % 256 ≡ 16 → ⊥) → (a : Term) → Holds ns (getD ns k 0 / 256 % 4096) a
-      → getD cache (getD ns k 0 / 256 % 4096) 0 ≡ value T σ c a
-  pub right : 18 ≤ getD ns k 0 % 256 → (a : Term) → Holds ns (getD ns k 0 / 1048576) a → getD cache (getD ns k 0 / 1048576) 0 ≡ value T σ c a
+  pub left : firstCall ≤ opAt ns k → (opAt ns k ≡ oeOp → ⊥) → (a : Term) → Holds ns (leftAt ns k) a
+      → getD cache (leftAt ns k) 0 ≡ value T σ c a
+  pub right : firstPair ≤ opAt ns k → (a : Term) → Holds ns (rightAt ns k) a → getD cache (rightAt ns k) 0 ≡ value T σ c a
 
 -- So r is the value of node k's term where the cache has what stands right below it.
 abbrev pub StepAt : List ℕ → List ℕ → ℕ → List ℕ → List ℕ → List ℕ → ℕ → List ℕ → ℕ → Type 0

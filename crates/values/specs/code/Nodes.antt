@@ -9,8 +9,9 @@ use lib.ListN.{length, getD}
 use Rattle.tables.specs.Tables.{Tables}
 use Rattle.tables.specs.Flat.{Fits, flat}
 use Rattle.syntax.specs.Term.{Base, bU, bR, bOP, bOBJ, bP, bS, bCR, bCP, bCU, Fn, user, roles, roles*, sessions, permissions}
-use Rattle.syntax.specs.Term.{permissions*, object, Op, operations, meet, join, Term, Choices}
+use Rattle.syntax.specs.Term.{permissions*, object, operations, meet, join, Pair, calls, joins, Term, Choices}
 use Rattle.syntax.specs.Rule.{Cmp, lt, le, gt, ge, eq, ne}
+use Rattle.syntax.specs.code.Nodes.{firstCall, firstPair, memberOp, firstAlike, firstEmpty}
 use Rattle.syntax.specs.code.Arena.{Holds, Tidy}
 use Rattle.syntax.specs.code.Reading.{mk, Knows}
 use Rattle.rules.specs.Kind.{Sort, sU, sR, sOP, sOBJ, sP, sS}
@@ -19,15 +20,15 @@ use Rattle.words.specs.Words.{has, meetOf}
 use Rattle.values.specs.Values.{value}
 use Rattle.values.specs.Sets.{namesIn, names}
 
--- The base, the function, the operator, the comparison and the sort of a number.
+-- The base, the function, what makes one term of two, the comparison and the sort of a number.
 unfoldable pub baseAt : ℕ → Base
 baseAt o = getD (bU ∷ bR ∷ bOP ∷ bOBJ ∷ bP ∷ bS ∷ bCR ∷ bCP ∷ bCU ∷ []) o bU
 
 unfoldable pub fnAt : ℕ → Fn
-fnAt o = getD (user ∷ roles ∷ roles* ∷ sessions ∷ permissions ∷ permissions* ∷ object ∷ []) (o - 9) user
+fnAt o = getD (user ∷ roles ∷ roles* ∷ sessions ∷ permissions ∷ permissions* ∷ object ∷ []) (o - firstCall) user
 
-unfoldable pub opAt : ℕ → Op
-opAt o = getD (operations ∷ meet ∷ join ∷ []) (o - 18) operations
+unfoldable pub pairAt : ℕ → Pair
+pairAt o = getD (calls operations ∷ joins meet ∷ joins join ∷ []) (o - firstPair) (calls operations)
 
 unfoldable pub cmpAt : ℕ → Cmp
 cmpAt d = getD (lt ∷ le ∷ gt ∷ ge ∷ eq ∷ ne ∷ []) d lt
@@ -70,9 +71,9 @@ NamesAt ns n vs k r = (σ : Choices) → Variables ns n vs σ → (t : Term) →
 unfoldable pub Named : ℕ → List ℕ → Choices → Type 0
 Named n words σ = (v u : ℕ) → v < n → u < 64 → has (getD words v 0) u ≡ names σ v u
 
--- The tests 21 to 23 of two values, `@`, `=`, `!=`; and 24, 25 of one, `={}` and `!={}`.
+-- The tests of two values, `@`, `=`, `!=`; and those of one, `={}` and `!={}`.
 unfoldable pub relatedAt : ℕ → ℕ → ℕ → Bool
-relatedAt o a b = cond (eqb o 21) (not (eqb (meetOf a b) 0)) (cond (eqb o 22) (eqb a b) (not (eqb a b)))
+relatedAt o a b = cond (eqb o memberOp) (not (eqb (meetOf a b) 0)) (cond (eqb o firstAlike) (eqb a b) (not (eqb a b)))
 
 unfoldable pub emptyAt : ℕ → ℕ → Bool
-emptyAt o a = cond (eqb o 24) (eqb a 0) (not (eqb a 0))
+emptyAt o a = cond (eqb o firstEmpty) (eqb a 0) (not (eqb a 0))

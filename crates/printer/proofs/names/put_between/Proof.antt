@@ -1,9 +1,11 @@
 -- `put_between` puts what stands between two things: each test is one line of the table of signs.
 -- Assumes nothing.
 use mathlib.Core.Path.{refl}
+use Prim.Native.Nat.{_+_}
 use borrow.Author.Needs.{needs}
-use Rattle.syntax.specs.Term.{spellMiddle}
+use Rattle.syntax.specs.Term.{spellMiddle, parting}
 use Rattle.syntax.specs.Rule.{spellBetween}
+use Rattle.syntax.specs.code.Nodes.{firstPair, firstJoin, memberOp, firstAlike, firstEmpty}
 use Rattle.printer.specs.code.Signs.{signs}
 use Rattle.printer.proofs.PrintedLaws.{puts-at, above, only}
 use Rattle.printer.proofs.names.put_between.Statement.{statement}
@@ -19,7 +21,7 @@ same-length : tie.Need-same-length
 same-length c = search needs
 
 returns : tie.Need-returns
-unfolding signs spellMiddle spellBetween
+unfolding signs parting spellMiddle spellBetween
 returns c = puts-at signs (c .before .before .before .before .before .if1 .taken) refl (c .before .before .put .ensures)
 
 slice-aggregate-put-2 : tie.Need-slice-aggregate-put-2
@@ -32,7 +34,7 @@ same-length-2 : tie.Need-same-length-2
 same-length-2 c = search needs
 
 returns-2 : tie.Need-returns-2
-unfolding signs spellMiddle spellBetween
+unfolding signs parting spellMiddle spellBetween
 returns-2 c = puts-at signs (c .before .before .before .before .before .if2 .taken) refl (c .before .before .put2 .ensures)
 
 slice-aggregate-put-3 : tie.Need-slice-aggregate-put-3
@@ -45,7 +47,7 @@ same-length-3 : tie.Need-same-length-3
 same-length-3 c = search needs
 
 returns-3 : tie.Need-returns-3
-unfolding signs spellMiddle spellBetween
+unfolding signs parting spellMiddle spellBetween
 returns-3 c = puts-at signs (c .before .before .before .before .before .if3 .taken) refl (c .before .before .put3 .ensures)
 
 slice-aggregate-put-4 : tie.Need-slice-aggregate-put-4
@@ -58,7 +60,7 @@ same-length-4 : tie.Need-same-length-4
 same-length-4 c = search needs
 
 returns-4 : tie.Need-returns-4
-unfolding signs spellMiddle spellBetween
+unfolding signs parting spellMiddle spellBetween
 returns-4 c = puts-at signs (c .before .before .before .before .before .if4 .taken) refl (c .before .before .put4 .ensures)
 
 slice-aggregate-put-5 : tie.Need-slice-aggregate-put-5
@@ -71,7 +73,7 @@ same-length-5 : tie.Need-same-length-5
 same-length-5 c = search needs
 
 returns-5 : tie.Need-returns-5
-unfolding signs spellMiddle spellBetween
+unfolding signs parting spellMiddle spellBetween
 returns-5 c = puts-at signs (c .before .before .before .before .before .if5 .taken) refl (c .before .before .put5 .ensures)
 
 slice-aggregate-put-6 : tie.Need-slice-aggregate-put-6
@@ -84,7 +86,7 @@ same-length-6 : tie.Need-same-length-6
 same-length-6 c = search needs
 
 returns-6 : tie.Need-returns-6
-unfolding signs spellMiddle spellBetween
+unfolding signs parting spellMiddle spellBetween
 returns-6 c = puts-at signs (c .before .before .before .before .before .if6 .taken) refl (c .before .before .put6 .ensures)
 
 slice-aggregate-put-7 : tie.Need-slice-aggregate-put-7
@@ -97,7 +99,7 @@ same-length-7 : tie.Need-same-length-7
 same-length-7 c = search needs
 
 returns-7 : tie.Need-returns-7
-unfolding signs spellMiddle spellBetween
+unfolding signs parting spellMiddle spellBetween
 returns-7 c = puts-at signs (c .before .before .before .before .before .if7 .taken) refl (c .before .before .put7 .ensures)
 
 slice-aggregate-put-8 : tie.Need-slice-aggregate-put-8
@@ -110,8 +112,8 @@ same-length-8 : tie.Need-same-length-8
 same-length-8 c = search needs
 
 returns-8 : tie.Need-returns-8
-unfolding signs spellMiddle spellBetween
-returns-8 c = puts-at signs (only {a = 25} (c .before .before .before .before .before .before .before .before .before .before .before .before .before .pre .1) (above {a = 24} (above {a = 23} (above {a = 22} (above {a = 21} (above {a = 20} (above {a = 19} (above {a = 18} (c .before .before .before .before .before .before .before .before .before .before .before .before .before .pre .0) (c .before .before .before .before .before .before .before .before .before .before .before .if1 .left)) (c .before .before .before .before .before .before .before .before .before .before .if2 .left)) (c .before .before .before .before .before .before .before .before .before .if3 .left)) (c .before .before .before .before .before .before .before .before .if4 .left)) (c .before .before .before .before .before .before .before .if5 .left)) (c .before .before .before .before .before .before .if6 .left)) (c .before .before .before .before .before .if7 .left))) refl (c .before .before .put8 .ensures)
+unfolding signs parting spellMiddle spellBetween
+returns-8 c = puts-at signs (only {a = firstEmpty + 1} (c .before .before .before .before .before .before .before .before .before .before .before .before .before .pre .1) (above {a = firstEmpty} (above {a = firstAlike + 1} (above {a = firstAlike} (above {a = memberOp} (above {a = firstJoin + 1} (above {a = firstJoin} (above {a = firstPair} (c .before .before .before .before .before .before .before .before .before .before .before .before .before .pre .0) (c .before .before .before .before .before .before .before .before .before .before .before .if1 .left)) (c .before .before .before .before .before .before .before .before .before .before .if2 .left)) (c .before .before .before .before .before .before .before .before .before .if3 .left)) (c .before .before .before .before .before .before .before .before .if4 .left)) (c .before .before .before .before .before .before .before .if5 .left)) (c .before .before .before .before .before .before .if6 .left)) (c .before .before .before .before .before .if7 .left))) refl (c .before .before .put8 .ensures)
 
 pub put-between-spec : {M : Type 1} → statement M
 put-between-spec =

@@ -1,8 +1,10 @@
 -- `put_call` puts the name of each call, of OE and of AO: each test is one line of the table of signs.
 -- Assumes nothing.
 use mathlib.Core.Path.{refl}
+use Prim.Native.Nat.{_+_}
 use borrow.Author.Needs.{needs}
 use Rattle.syntax.specs.Term.{spell}
+use Rattle.syntax.specs.code.Nodes.{firstCall, oeOp, aoOp}
 use Rattle.printer.specs.code.Signs.{signs}
 use Rattle.printer.proofs.PrintedLaws.{puts-at, above, only}
 use Rattle.printer.proofs.names.put_call.Statement.{statement}
@@ -123,7 +125,7 @@ same-length-9 c = search needs
 
 returns-9 : tie.Need-returns-9
 unfolding signs spell
-returns-9 c = puts-at signs (only {a = 17} (c .before .before .before .before .before .before .before .before .before .before .before .before .before .before .pre .1) (above {a = 16} (above {a = 15} (above {a = 14} (above {a = 13} (above {a = 12} (above {a = 11} (above {a = 10} (above {a = 9} (c .before .before .before .before .before .before .before .before .before .before .before .before .before .before .pre .0) (c .before .before .before .before .before .before .before .before .before .before .before .before .if1 .left)) (c .before .before .before .before .before .before .before .before .before .before .before .if2 .left)) (c .before .before .before .before .before .before .before .before .before .before .if3 .left)) (c .before .before .before .before .before .before .before .before .before .if4 .left)) (c .before .before .before .before .before .before .before .before .if5 .left)) (c .before .before .before .before .before .before .before .if6 .left)) (c .before .before .before .before .before .before .if7 .left)) (c .before .before .before .before .before .if8 .left))) refl (c .before .before .put9 .ensures)
+returns-9 c = puts-at signs (only {a = aoOp} (c .before .before .before .before .before .before .before .before .before .before .before .before .before .before .pre .1) (above {a = oeOp} (above {a = firstCall + 6} (above {a = firstCall + 5} (above {a = firstCall + 4} (above {a = firstCall + 3} (above {a = firstCall + 2} (above {a = firstCall + 1} (above {a = firstCall} (c .before .before .before .before .before .before .before .before .before .before .before .before .before .before .pre .0) (c .before .before .before .before .before .before .before .before .before .before .before .before .if1 .left)) (c .before .before .before .before .before .before .before .before .before .before .before .if2 .left)) (c .before .before .before .before .before .before .before .before .before .before .if3 .left)) (c .before .before .before .before .before .before .before .before .before .if4 .left)) (c .before .before .before .before .before .before .before .before .if5 .left)) (c .before .before .before .before .before .before .before .if6 .left)) (c .before .before .before .before .before .before .if7 .left)) (c .before .before .before .before .before .if8 .left))) refl (c .before .before .put9 .ensures)
 
 pub put-call-spec : {M : Type 1} → statement M
 put-call-spec =

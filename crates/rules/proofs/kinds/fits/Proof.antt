@@ -3,6 +3,7 @@
 use borrow.Author.Tests.{lt-ltb, le-ltb, eq-eqb, ne-eqb}
 use Rattle.rules.specs.code.Numbers.{firstSet, noKind, kindsFit, fitsNumber}
 use borrow.Author.Needs.{needs}
+use Rattle.syntax.specs.code.Nodes.{firstAlike, firstEmpty, firstCounted, whenOp}
 use Rattle.rules.proofs.kinds.fits.Statement.{statement}
 use Rattle.rules.proofs.kinds.fits.Tie as tie
 
@@ -11,26 +12,26 @@ add-result c = search needs
 
 returns : tie.Need-returns
 unfolding fitsNumber
-returns c = rw (lt-ltb (c .before .before .args .op) 22 (c .before .if1 .taken), lt-ltb (c .before .before .args .a) firstSet (c .if2 .taken))
+returns c = rw (lt-ltb (c .before .before .args .op) firstAlike (c .before .if1 .taken), lt-ltb (c .before .before .args .a) firstSet (c .if2 .taken))
 
 returns-2 : tie.Need-returns-2
 unfolding fitsNumber
-returns-2 c = rw (lt-ltb (c .before .before .args .op) 22 (c .before .if1 .taken), le-ltb (c .before .before .args .a) firstSet (c .if2 .left))
+returns-2 c = rw (lt-ltb (c .before .before .args .op) firstAlike (c .before .if1 .taken), le-ltb (c .before .before .args .a) firstSet (c .if2 .left))
 
 returns-3 : tie.Need-returns-3
 unfolding fitsNumber
-returns-3 c = rw (le-ltb (c .before .before .before .args .op) 22 (c .before .before .if1 .left), lt-ltb (c .before .before .before .args .op) 24 (c .before .if3 .taken), lt-ltb (c .before .before .before .args .a) noKind (c .if4 .taken))
+returns-3 c = rw (le-ltb (c .before .before .before .args .op) firstAlike (c .before .before .if1 .left), lt-ltb (c .before .before .before .args .op) firstEmpty (c .before .if3 .taken), lt-ltb (c .before .before .before .args .a) noKind (c .if4 .taken))
 
 returns-4 : tie.Need-returns-4
 unfolding fitsNumber
-returns-4 c = rw (le-ltb (c .before .before .before .args .op) 22 (c .before .before .if1 .left), lt-ltb (c .before .before .before .args .op) 24 (c .before .if3 .taken), le-ltb (c .before .before .before .args .a) noKind (c .if4 .left))
+returns-4 c = rw (le-ltb (c .before .before .before .args .op) firstAlike (c .before .before .if1 .left), lt-ltb (c .before .before .before .args .op) firstEmpty (c .before .if3 .taken), le-ltb (c .before .before .before .args .a) noKind (c .if4 .left))
 
 countable-requires : tie.Need-countable-requires
 countable-requires c κs = search needs
 
 returns-5 : tie.Need-returns-5
 unfolding fitsNumber
-returns-5 c = rw (le-ltb (c .before .before .before .before .args .op) 22 (c .before .before .before .if1 .left), le-ltb (c .before .before .before .before .args .op) 24 (c .before .before .if3 .left), lt-ltb (c .before .before .before .before .args .op) 32 (c .before .if5 .taken)) (c .countable .ensures)
+returns-5 c = rw (le-ltb (c .before .before .before .before .args .op) firstAlike (c .before .before .before .if1 .left), le-ltb (c .before .before .before .before .args .op) firstEmpty (c .before .before .if3 .left), lt-ltb (c .before .before .before .before .args .op) firstCounted (c .before .if5 .taken)) (c .countable .ensures)
 
 countable-requires-2 : tie.Need-countable-requires-2
 countable-requires-2 c κs = search needs
@@ -40,19 +41,19 @@ countable-requires-3 c κs = search needs
 
 returns-6 : tie.Need-returns-6
 unfolding fitsNumber
-returns-6 c = rw (le-ltb (c .before .before .before .before .before .before .before .args .op) 22 (c .before .before .before .before .before .before .if1 .left), le-ltb (c .before .before .before .before .before .before .before .args .op) 24 (c .before .before .before .before .before .if3 .left), le-ltb (c .before .before .before .before .before .before .before .args .op) 32 (c .before .before .before .before .if5 .left), lt-ltb (c .before .before .before .before .before .before .before .args .op) 38 (c .before .before .before .if6 .taken), ← c .before .before .countable2 .ensures, c .before .if7 .taken) (c .countable3 .ensures)
+returns-6 c = rw (le-ltb (c .before .before .before .before .before .before .before .args .op) firstAlike (c .before .before .before .before .before .before .if1 .left), le-ltb (c .before .before .before .before .before .before .before .args .op) firstEmpty (c .before .before .before .before .before .if3 .left), le-ltb (c .before .before .before .before .before .before .before .args .op) firstCounted (c .before .before .before .before .if5 .left), lt-ltb (c .before .before .before .before .before .before .before .args .op) whenOp (c .before .before .before .if6 .taken), ← c .before .before .countable2 .ensures, c .before .if7 .taken) (c .countable3 .ensures)
 
 returns-7 : tie.Need-returns-7
 unfolding fitsNumber
-returns-7 c = rw (le-ltb (c .before .before .before .before .before .before .args .op) 22 (c .before .before .before .before .before .if1 .left), le-ltb (c .before .before .before .before .before .before .args .op) 24 (c .before .before .before .before .if3 .left), le-ltb (c .before .before .before .before .before .before .args .op) 32 (c .before .before .before .if5 .left), lt-ltb (c .before .before .before .before .before .before .args .op) 38 (c .before .before .if6 .taken), ← c .before .countable2 .ensures, c .if7 .left)
+returns-7 c = rw (le-ltb (c .before .before .before .before .before .before .args .op) firstAlike (c .before .before .before .before .before .if1 .left), le-ltb (c .before .before .before .before .before .before .args .op) firstEmpty (c .before .before .before .before .if3 .left), le-ltb (c .before .before .before .before .before .before .args .op) firstCounted (c .before .before .before .if5 .left), lt-ltb (c .before .before .before .before .before .before .args .op) whenOp (c .before .before .if6 .taken), ← c .before .countable2 .ensures, c .if7 .left)
 
 returns-8 : tie.Need-returns-8
 unfolding fitsNumber
-returns-8 c = rw (le-ltb (c .before .before .before .before .before .args .op) 22 (c .before .before .before .before .if1 .left), le-ltb (c .before .before .before .before .before .args .op) 24 (c .before .before .before .if3 .left), le-ltb (c .before .before .before .before .before .args .op) 32 (c .before .before .if5 .left), le-ltb (c .before .before .before .before .before .args .op) 38 (c .before .if6 .left), eq-eqb (c .before .before .before .before .before .args .a) kindsFit (c .if8 .taken))
+returns-8 c = rw (le-ltb (c .before .before .before .before .before .args .op) firstAlike (c .before .before .before .before .if1 .left), le-ltb (c .before .before .before .before .before .args .op) firstEmpty (c .before .before .before .if3 .left), le-ltb (c .before .before .before .before .before .args .op) firstCounted (c .before .before .if5 .left), le-ltb (c .before .before .before .before .before .args .op) whenOp (c .before .if6 .left), eq-eqb (c .before .before .before .before .before .args .a) kindsFit (c .if8 .taken))
 
 returns-9 : tie.Need-returns-9
 unfolding fitsNumber
-returns-9 c = rw (le-ltb (c .before .before .before .before .before .args .op) 22 (c .before .before .before .before .if1 .left), le-ltb (c .before .before .before .before .before .args .op) 24 (c .before .before .before .if3 .left), le-ltb (c .before .before .before .before .before .args .op) 32 (c .before .before .if5 .left), le-ltb (c .before .before .before .before .before .args .op) 38 (c .before .if6 .left), ne-eqb (c .before .before .before .before .before .args .a) kindsFit (c .if8 .left))
+returns-9 c = rw (le-ltb (c .before .before .before .before .before .args .op) firstAlike (c .before .before .before .before .if1 .left), le-ltb (c .before .before .before .before .before .args .op) firstEmpty (c .before .before .before .if3 .left), le-ltb (c .before .before .before .before .before .args .op) firstCounted (c .before .before .if5 .left), le-ltb (c .before .before .before .before .before .args .op) whenOp (c .before .if6 .left), ne-eqb (c .before .before .before .before .before .args .a) kindsFit (c .if8 .left))
 
 pub fits-spec : {M : Type 1} → statement M
 fits-spec =

@@ -8,7 +8,7 @@ use lib.ListN.{length, length-set}
 use denote.Ref.{now}
 use Rattle.rules.specs.code.Numbers.{nodeNumber, Kinded}
 use Rattle.rules.proofs.KindLaws.{kind-step, kind-none}
-use Rattle.rules.proofs.NodeLaws.{opOf}
+use Rattle.syntax.specs.code.Nodes.{opAt}
 use Rattle.rules.proofs.kinds.kinds.Statement.{statement}
 use Rattle.rules.proofs.kinds.kinds.Tie as tie
 
@@ -26,9 +26,6 @@ mul-v c = search needs
 
 shared-slice-read-v : tie.Need-shared-slice-read-v Inv-loop μ-loop
 shared-slice-read-v c = search needs
-
-cast-op : tie.Need-cast-op Inv-loop μ-loop
-cast-op c = search needs
 
 cast-left : tie.Need-cast-left Inv-loop μ-loop
 cast-left c = search needs
@@ -60,7 +57,7 @@ loop-again c =
     let l = c .before .before .before .before .before .before .before .loop in (
       omega arith,
       length-set (l .kinds) (l .k) (c .node-kind .result) ∙ l .inv .1,
-      kind-step ns (l .kinds) (l .k) (l .inv .2) (c .node-kind .ensures ∙ ap₂ (nodeNumber (opOf ns (l .k))) (c .before .before .before .kind-at .ensures) (c .before .kind-at2 .ensures)) (omega arith),
+      kind-step ns (l .kinds) (l .k) (l .inv .2) (c .node-kind .ensures ∙ ap₂ (nodeNumber (opAt ns (l .k))) (c .before .before .before .kind-at .ensures) (c .before .kind-at2 .ensures)) (omega arith),
     )
 
 same-length : tie.Need-same-length Inv-loop μ-loop
@@ -80,7 +77,6 @@ kinds-spec =
     loop-holds
     mul-v
     shared-slice-read-v
-    cast-op
     cast-left
     cast-right
     kind-at-requires

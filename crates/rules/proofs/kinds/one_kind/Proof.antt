@@ -12,6 +12,9 @@ sub-result c = search needs
 mul-result : tie.Need-mul-result
 mul-result c = search needs
 
+cast-result : tie.Need-cast-result
+cast-result c = search needs
+
 add-result : tie.Need-add-result
 add-result c = search needs
 
@@ -28,4 +31,4 @@ returns-2 c = rw (le-ltb (c .before .args .a) noKind (c .if1 .left))
 
 pub one-kind-spec : {M : Type 1} → statement M
 one-kind-spec =
-    tie.close (tie.spec sub-result mul-result add-result array-read-result returns returns-2)
+    tie.close (tie.spec sub-result mul-result cast-result add-result array-read-result returns returns-2)

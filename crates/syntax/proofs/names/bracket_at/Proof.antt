@@ -5,7 +5,7 @@ use mathlib.Core.List.{List}
 use denote.Ref.{now}
 use lib.ListN.{drop}
 use borrow.Author.Needs.{needs}
-use Rattle.syntax.specs.Term.{Head, isOperations, isBracket, isChoice, spell, bracketHeads}
+use Rattle.syntax.specs.Term.{Head, isBracket, isChoice, spell, bracketHeads, isCall2, operations}
 use Rattle.syntax.specs.code.Arena.{baseOp, fnOp}
 use Rattle.syntax.specs.code.Reading.{headOp}
 use Rattle.syntax.proofs.NameLaws.{From, from-all, past, here, nowhere}
@@ -20,7 +20,7 @@ start1 c = c .before .before .before .before
 
 from1 : (c : tie.Else1) → At (start1 c) (drop 1 bracketHeads)
 unfolding bracketHeads spell
-from1 c = past (isOperations) (drop 1 bracketHeads) (from-all bracketHeads (start1 c .pre)) (c .before .stands .ensures) (c .if1 .left)
+from1 c = past (isCall2 operations) (drop 1 bracketHeads) (from-all bracketHeads (start1 c .pre)) (c .before .stands .ensures) (c .if1 .left)
 
 abbrev start2 : tie.Else2 → tie.Start
 start2 c = start1 (c .before .before .before)
@@ -47,7 +47,7 @@ add-t9 c = search needs
 
 returns : tie.Need-returns
 unfolding bracketHeads spell headOp baseOp fnOp
-returns c = here (isOperations) (drop 1 bracketHeads) (from-all bracketHeads (c .before .before .before .before .pre)) (c .before .stands .ensures) (c .if1 .taken) (omega arith)
+returns c = here (isCall2 operations) (drop 1 bracketHeads) (from-all bracketHeads (c .before .before .before .before .pre)) (c .before .stands .ensures) (c .if1 .taken) (omega arith)
 
 slice-aggregate-stands-2 : tie.Need-slice-aggregate-stands-2
 slice-aggregate-stands-2 c = search needs

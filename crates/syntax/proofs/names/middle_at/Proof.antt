@@ -2,7 +2,7 @@
 -- Assumes nothing.
 use mathlib.Core.List.{[], _∷_}
 use native.Mathlib.Omega.{arith}
-use Rattle.syntax.specs.Term.{operations, meet, join, spellMiddle}
+use Rattle.syntax.specs.Term.{operations, meet, join, spellMiddle, calls, joins, parting}
 use Rattle.syntax.specs.code.Arena.{twoOp}
 use Rattle.syntax.specs.code.Reading.{pair, away, jointOp, spellJoint}
 use Rattle.syntax.proofs.NameLaws.{from-these, past, here, nowhere}
@@ -21,12 +21,12 @@ add-t12 : tie.Need-add-t12
 add-t12 c = search needs
 
 returns : tie.Need-returns
-unfolding spellJoint jointOp twoOp
-returns c = here (pair operations) [] (from-these (joints-comma _ (c .before .before .before .if1 .taken)) (c .before .before .before .before .before .pre)) (c .before .stands .ensures) (c .if2 .taken) (omega arith)
+unfolding spellJoint parting jointOp twoOp
+returns c = here (pair (calls operations)) [] (from-these (joints-comma _ (c .before .before .before .if1 .taken)) (c .before .before .before .before .before .pre)) (c .before .stands .ensures) (c .if2 .taken) (omega arith)
 
 returns-2 : tie.Need-returns-2
-unfolding spellJoint
-returns-2 c = nowhere (past (pair operations) [] (from-these (joints-comma _ (c .before .before .before .if1 .taken)) (c .before .before .before .before .before .pre)) (c .before .stands .ensures) (c .if2 .left))
+unfolding spellJoint parting
+returns-2 c = nowhere (past (pair (calls operations)) [] (from-these (joints-comma _ (c .before .before .before .if1 .taken)) (c .before .before .before .before .before .pre)) (c .before .stands .ensures) (c .if2 .left))
 
 slice-aggregate-stands-2 : tie.Need-slice-aggregate-stands-2
 slice-aggregate-stands-2 c = search needs
@@ -38,8 +38,8 @@ add-t16 : tie.Need-add-t16
 add-t16 c = search needs
 
 returns-3 : tie.Need-returns-3
-unfolding spellJoint spellMiddle jointOp twoOp
-returns-3 c = here (pair meet) (pair join ∷ away ∷ []) (from-these (joints-sign _ (c .before .before .before .if1 .left)) (c .before .before .before .before .before .pre)) (c .before .stands2 .ensures) (c .if3 .taken) (omega arith)
+unfolding spellJoint parting spellMiddle jointOp twoOp
+returns-3 c = here (pair (joins meet)) (pair (joins join) ∷ away ∷ []) (from-these (joints-sign _ (c .before .before .before .if1 .left)) (c .before .before .before .before .before .pre)) (c .before .stands2 .ensures) (c .if3 .taken) (omega arith)
 
 slice-aggregate-stands-3 : tie.Need-slice-aggregate-stands-3
 slice-aggregate-stands-3 c = search needs
@@ -51,10 +51,10 @@ add-t20 : tie.Need-add-t20
 add-t20 c = search needs
 
 returns-4 : tie.Need-returns-4
-unfolding spellJoint spellMiddle jointOp twoOp
+unfolding spellJoint parting spellMiddle jointOp twoOp
 returns-4 c =
-    let f = past (pair meet) (pair join ∷ away ∷ []) (from-these (joints-sign _ (c .before .before .before .before .before .before .if1 .left)) (c .before .before .before .before .before .before .before .before .pre)) (c .before .before .before .before .stands2 .ensures) (c .before .before .before .if3 .left) in
-    here (pair join) (away ∷ []) f (c .before .stands3 .ensures) (c .if4 .taken) (omega arith)
+    let f = past (pair (joins meet)) (pair (joins join) ∷ away ∷ []) (from-these (joints-sign _ (c .before .before .before .before .before .before .if1 .left)) (c .before .before .before .before .before .before .before .before .pre)) (c .before .before .before .before .stands2 .ensures) (c .before .before .before .if3 .left) in
+    here (pair (joins join)) (away ∷ []) f (c .before .stands3 .ensures) (c .if4 .taken) (omega arith)
 
 slice-aggregate-stands-4 : tie.Need-slice-aggregate-stands-4
 slice-aggregate-stands-4 c = search needs
@@ -66,17 +66,17 @@ add-t24 : tie.Need-add-t24
 add-t24 c = search needs
 
 returns-5 : tie.Need-returns-5
-unfolding spellJoint spellMiddle jointOp
+unfolding spellJoint parting spellMiddle jointOp
 returns-5 c =
-    let f = past (pair meet) (pair join ∷ away ∷ []) (from-these (joints-sign _ (c .before .before .before .before .before .before .before .before .before .if1 .left)) (c .before .before .before .before .before .before .before .before .before .before .before .pre)) (c .before .before .before .before .before .before .before .stands2 .ensures) (c .before .before .before .before .before .before .if3 .left) in
-    let f′ = past (pair join) (away ∷ []) f (c .before .before .before .before .stands3 .ensures) (c .before .before .before .if4 .left) in
+    let f = past (pair (joins meet)) (pair (joins join) ∷ away ∷ []) (from-these (joints-sign _ (c .before .before .before .before .before .before .before .before .before .if1 .left)) (c .before .before .before .before .before .before .before .before .before .before .before .pre)) (c .before .before .before .before .before .before .before .stands2 .ensures) (c .before .before .before .before .before .before .if3 .left) in
+    let f′ = past (pair (joins join)) (away ∷ []) f (c .before .before .before .before .stands3 .ensures) (c .before .before .before .if4 .left) in
     here away [] f′ (c .before .stands4 .ensures) (c .if5 .taken) (omega arith)
 
 returns-6 : tie.Need-returns-6
-unfolding spellJoint spellMiddle
+unfolding spellJoint parting spellMiddle
 returns-6 c =
-    let f = past (pair meet) (pair join ∷ away ∷ []) (from-these (joints-sign _ (c .before .before .before .before .before .before .before .before .before .if1 .left)) (c .before .before .before .before .before .before .before .before .before .before .before .pre)) (c .before .before .before .before .before .before .before .stands2 .ensures) (c .before .before .before .before .before .before .if3 .left) in
-    let f′ = past (pair join) (away ∷ []) f (c .before .before .before .before .stands3 .ensures) (c .before .before .before .if4 .left) in
+    let f = past (pair (joins meet)) (pair (joins join) ∷ away ∷ []) (from-these (joints-sign _ (c .before .before .before .before .before .before .before .before .before .if1 .left)) (c .before .before .before .before .before .before .before .before .before .before .before .pre)) (c .before .before .before .before .before .before .before .stands2 .ensures) (c .before .before .before .before .before .before .if3 .left) in
+    let f′ = past (pair (joins join)) (away ∷ []) f (c .before .before .before .before .stands3 .ensures) (c .before .before .before .if4 .left) in
     nowhere (past away [] f′ (c .before .stands4 .ensures) (c .if5 .left))
 
 pub middle-at-spec : {M : Type 1} → statement M

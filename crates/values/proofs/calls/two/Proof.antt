@@ -1,10 +1,12 @@
 -- `values::calls::two` meets its contract: each arm is the operator of its number.
 -- Assumes nothing.
 use mathlib.Core.Path.{_≡_}
+use Prim.Native.Nat.{_+_}
 use native.Mathlib.Omega.{arith}
-use Rattle.values.specs.Values.{twoValue}
-use Rattle.values.specs.code.Nodes.{opAt}
+use Rattle.values.specs.Values.{call2Value, opValue, twoValue}
+use Rattle.values.specs.code.Nodes.{pairAt}
 use borrow.Author.Needs.{needs}
+use Rattle.syntax.specs.code.Nodes.{firstJoin}
 use Rattle.values.proofs.calls.two.Statement.{statement}
 use Rattle.values.proofs.calls.two.Tie as tie
 
@@ -12,23 +14,23 @@ operations-on-requires : tie.Need-operations-on-requires
 operations-on-requires c κs = search needs
 
 returns : tie.Need-returns
-unfolding opAt twoValue
+unfolding pairAt twoValue call2Value opValue
 returns c = λ T f e. rw (c .before .if1 .taken) (c .operations-on .ensures T f e)
 
 meet-requires : tie.Need-meet-requires
 meet-requires c κs = search needs
 
 returns-2 : tie.Need-returns-2
-unfolding opAt twoValue
+unfolding pairAt twoValue call2Value opValue
 returns-2 c = λ T f e. rw (c .before .if2 .taken) (c .meet .ensures)
 
 join-requires : tie.Need-join-requires
 join-requires c κs = search needs
 
 returns-3 : tie.Need-returns-3
-unfolding opAt twoValue
+unfolding pairAt twoValue call2Value opValue
 returns-3 c = λ T f e.
-    let last : c .before .before .before .before .args .op ≡ 20 = omega (arith, c .before .before .before .before .pre .1, c .before .before .before .before .pre .2, c .before .before .if1 .left, c .before .if2 .left) in
+    let last : c .before .before .before .before .args .op ≡ (firstJoin + 1) = omega (arith, c .before .before .before .before .pre .1, c .before .before .before .before .pre .2, c .before .before .if1 .left, c .before .if2 .left) in
     rw last (c .join .ensures)
 
 pub two-spec : {M : Type 1} → statement M

@@ -5,7 +5,7 @@ use lib.ListN.{getD}
 use borrow.Author.Needs.{needs}
 use Rattle.values.proofs.NodeLaws.{term-small, left-below, right-below, placed}
 use Rattle.values.proofs.NamesLaws.{names-base, names-one, names-call, names-others, names-two}
-use Prim.Native.Nat.{ℕ, _<_, _%_, _≤_}
+use Prim.Native.Nat.{ℕ, _<_, _≤_}
 use borrow.Fn.Kinds.{In}
 use borrow.Fn.PlainCycle.{Measures, is, falls, and}
 use Rattle.values.proofs.names.named.Reads as named
@@ -15,6 +15,7 @@ use Rattle.syntax.proofs.places.seek.Reads as seek-reads
 use Rattle.words.proofs.item.Reads as item-reads
 use Rattle.words.proofs.join.Reads as join-reads
 use Rattle.values.proofs.names.+named.{statement}
+use Rattle.syntax.specs.code.Nodes.{firstPair, firstEmpty, opAt}
 use Rattle.values.proofs.names.+named.Tie.{close}
 
 abbrev μ-named : Measures 2 named-kinds.ps ℕ
@@ -101,9 +102,9 @@ named-cast-right t c = omega (arith, c .before .before .before .before .before .
 named-named-requires-2 : (t : ℕ) → named-lts.Need-named-requires-2 (called t) (named-at t) named.Post
 named-named-requires-2 t c κs =
     let S = c .before .before .before .before .before .before .before .before .before in
-    let o : ℕ = getD (S .args .nodes .now) (S .args .k) 0 % 256 in
-    let low : 18 ≤ o = omega (arith, c .before .before .before .if3 .left, c .before .if4 .left, c .if5 .left) in
-    let high : o < 24 = omega (arith, c .before .before .before .before .if2 .left) in
+    let o : ℕ = opAt (S .args .nodes .now) (S .args .k) in
+    let low : firstPair ≤ o = omega (arith, c .before .before .before .if3 .left, c .before .if4 .left, c .if5 .left) in
+    let high : o < firstEmpty = omega (arith, c .before .before .before .before .if2 .left) in
     let b = right-below (S .pre .1 .0) (S .pre .1 .1) low high in
     (omega (arith, S .pre .0, b), (S .pre .1 .0, omega (arith, S .pre .1 .1, b)))
 
@@ -113,7 +114,7 @@ named-join-requires-2 t c κs = search needs
 named-returns-6 : (t : ℕ) → named-lts.Need-returns-6 (called t) (named-at t) named.Post
 named-returns-6 t c = λ σ w t′ x u l.
     let S = c .before .before .before .before .before .before .before .before .before .before .before in
-    let low : 18 ≤ getD (S .args .nodes .now) (S .args .k) 0 % 256 = omega (arith, c .before .before .before .before .before .if3 .left, c .before .before .before .if4 .left, c .before .before .if5 .left) in
+    let low : firstPair ≤ opAt (S .args .nodes .now) (S .args .k) = omega (arith, c .before .before .before .before .before .if3 .left, c .before .before .before .if4 .left, c .before .before .if5 .left) in
     names-two (S .pre .1 .0) w (S .args .k) (S .pre .1 .1) t′ x u l low (c .before .before .before .before .named .result) (c .before .named2 .result) (c .join2 .result)
     (λ a y. c .before .before .before .before .named .ensures σ w a y u l) (λ a y. c .before .named2 .ensures σ w a y u l) (c .join2 .ensures)
 

@@ -1,11 +1,12 @@
 -- `values::terms::step` meets its contract: each arm is a range of numbers.
 -- Assumes nothing.
 use native.Mathlib.Omega.{arith}
-use Prim.Native.Nat.{_%_, _≤_}
+use Prim.Native.Nat.{_≤_}
 use lib.ListN.{getD}
 use Rattle.values.proofs.NodeLaws.{term-small, left-in, right-in, placed}
 use Rattle.values.proofs.ValueLaws.{value-base, value-one, value-call, value-others, value-two}
 use borrow.Author.Needs.{needs}
+use Rattle.syntax.specs.code.Nodes.{firstPair, opAt}
 use Rattle.values.proofs.terms.step.Statement.{statement}
 use Rattle.values.proofs.terms.step.Tie as tie
 
@@ -102,13 +103,13 @@ cast-right c = omega (arith, c .before .before .before .before .before .before .
 mul-two : tie.Need-mul-two
 mul-two c =
     let R = c .before .before .before .before .before .before .before .before .before .before .before .before .before .pre .0 in
-    let low : 18 ≤ getD (c .before .before .before .before .before .before .before .before .before .before .before .before .before .args .nodes .now) (c .before .before .before .before .before .before .before .before .before .before .before .before .before .args .k) 0 % 256 = omega (arith, c .before .before .before .if3 .left, c .before .if4 .left, c .if5 .left) in
+    let low : firstPair ≤ opAt (c .before .before .before .before .before .before .before .before .before .before .before .before .before .args .nodes .now) (c .before .before .before .before .before .before .before .before .before .before .before .before .before .args .k) = omega (arith, c .before .before .before .if3 .left, c .before .if4 .left, c .if5 .left) in
     omega (arith, right-in (R .tidy) (R .below) low (omega (arith, c .before .before .before .before .if2 .left)), R .tidy .fits, R .tidy .size)
 
 shared-slice-read-two : tie.Need-shared-slice-read-two
 shared-slice-read-two c =
     let P = c .before .before .before .before .before .before .before .before .before .before .before .before .before .before .pre in
-    let low : 18 ≤ getD (c .before .before .before .before .before .before .before .before .before .before .before .before .before .before .args .nodes .now) (c .before .before .before .before .before .before .before .before .before .before .before .before .before .before .args .k) 0 % 256 = omega (arith, c .before .before .before .before .if3 .left, c .before .before .if4 .left, c .before .if5 .left) in
+    let low : firstPair ≤ opAt (c .before .before .before .before .before .before .before .before .before .before .before .before .before .before .args .nodes .now) (c .before .before .before .before .before .before .before .before .before .before .before .before .before .before .args .k) = omega (arith, c .before .before .before .before .if3 .left, c .before .before .if4 .left, c .before .if5 .left) in
     let in-left = left-in (P .0 .tidy) (P .0 .below) (omega (arith, low)) in
     omega (arith, right-in (P .0 .tidy) (P .0 .below) low (omega (arith, c .before .before .before .before .before .if2 .left)), P .1)
 
@@ -119,7 +120,7 @@ returns-6 : tie.Need-returns-6
 returns-6 c = λ T σ w a x F.
     let S = c .before .before .before .before .before .before .before .before .before .before .before .before .before .before .before in
     let R = S .pre .0 in
-    let low : 18 ≤ getD (S .args .nodes .now) (S .args .k) 0 % 256 = omega (arith, c .before .before .before .before .before .if3 .left, c .before .before .before .if4 .left, c .before .before .if5 .left) in
+    let low : firstPair ≤ opAt (S .args .nodes .now) (S .args .k) = omega (arith, c .before .before .before .before .before .if3 .left, c .before .before .before .if4 .left, c .before .before .if5 .left) in
     value-two (R .tidy) (R .kinded) w (S .args .choice .now) (S .args .k) (R .below) a x _ _ (c .two .result) low
     (F .left (c .before .before .before .before .before .before .before .if1 .left) (c .before .before .before .before .before .if3 .left)) (F .right low) (c .two .ensures T (w .fits) (w .words))
 
