@@ -14,7 +14,7 @@ use Rattle.answers.specs.Written.{numberIn, lengthIn, Answers}
 use Rattle.answers.specs.declared.Refusal.{Refusal}
 use Rattle.answers.specs.declared.Refusal.the-variants.{CutShort, Overfull, NotEntered, BadMark, NoSuchItem, Miscounted}
 use Rattle.answers.specs.declared.Refusal.the-variants.{Rank, Overreach, Twin, LeftOver, RuleLength, Deep, NotARule}
-use Rattle.answers.specs.declared.Refusal.the-variants.{Unkind, Choices, NoRulesFormula, ShortSheet, Disordered}
+use Rattle.answers.specs.declared.Refusal.the-variants.{KindMismatch, Choices, NoRulesFormula, ShortSheet, NotAnOrder}
 use Rattle.answers.specs.declared.Written.{Written}
 use Rattle.answers.specs.declared.Written.the-variants.{Refused, Wrote}
 
@@ -22,7 +22,7 @@ use Rattle.answers.specs.declared.Written.the-variants.{Refused, Wrote}
 listed : List Refusal
 listed =
     CutShort ∷ CutShort ∷ Overfull ∷ NotEntered ∷ BadMark ∷ NoSuchItem ∷ Miscounted ∷ Rank ∷ Overreach ∷ Twin ∷ LeftOver
-    ∷ RuleLength ∷ Deep ∷ NotARule ∷ Unkind ∷ Choices ∷ NoRulesFormula ∷ ShortSheet ∷ Disordered ∷ []
+    ∷ RuleLength ∷ Deep ∷ NotARule ∷ KindMismatch ∷ Choices ∷ NoRulesFormula ∷ ShortSheet ∷ NotAnOrder ∷ []
 
 -- One line for each refusal: its number is from 1 to 18, and its place in the list.
 record Numbered (r : Refusal) : Type 0 where
@@ -45,11 +45,11 @@ numbered LeftOver = record { some = omega arith; few = omega arith; back = refl 
 numbered RuleLength = record { some = omega arith; few = omega arith; back = refl }
 numbered Deep = record { some = omega arith; few = omega arith; back = refl }
 numbered NotARule = record { some = omega arith; few = omega arith; back = refl }
-numbered Unkind = record { some = omega arith; few = omega arith; back = refl }
+numbered KindMismatch = record { some = omega arith; few = omega arith; back = refl }
 numbered Choices = record { some = omega arith; few = omega arith; back = refl }
 numbered NoRulesFormula = record { some = omega arith; few = omega arith; back = refl }
 numbered ShortSheet = record { some = omega arith; few = omega arith; back = refl }
-numbered Disordered = record { some = omega arith; few = omega arith; back = refl }
+numbered NotAnOrder = record { some = omega arith; few = omega arith; back = refl }
 
 pub number-some : (r : Refusal) → 1 ≤ numberOf r
 number-some r = numbered r .some

@@ -4,7 +4,7 @@ use Prim.Native.Nat.{ℕ}
 use Rattle.answers.specs.declared.Refusal.{Refusal}
 use Rattle.answers.specs.declared.Refusal.the-variants.{CutShort, Overfull, NotEntered, BadMark, NoSuchItem, Miscounted}
 use Rattle.answers.specs.declared.Refusal.the-variants.{Rank, Overreach, Twin, LeftOver, RuleLength, Deep, NotARule}
-use Rattle.answers.specs.declared.Refusal.the-variants.{Unkind, Choices, NoRulesFormula, ShortSheet, Disordered}
+use Rattle.answers.specs.declared.Refusal.the-variants.{KindMismatch, Choices, NoRulesFormula, ShortSheet, NotAnOrder}
 
 -- "No.", with the table's word and condition beside each.
 abbrev pub numberOf : Refusal → ℕ
@@ -21,8 +21,8 @@ numberOf LeftOver = 10  -- left over: bytes after section 9
 numberOf RuleLength = 11  -- rule length: 0 or above 256 bytes
 numberOf Deep = 12  -- deep: the bracket surplus passes 32
 numberOf NotARule = 13  -- not a rule: outside the grammar
-numberOf Unkind = 14  -- kind: kinds do not fit
+numberOf KindMismatch = 14  -- kind: kinds do not fit
 numberOf Choices = 15  -- choices: more than 8 variables
 numberOf NoRulesFormula = 16  -- no rule's formula: no accepted rule has this formula
 numberOf ShortSheet = 17  -- short sheet: lent output shorter than L
-numberOf Disordered = 18  -- order: not an order of the rule's variables
+numberOf NotAnOrder = 18  -- order: not an order of the rule's variables

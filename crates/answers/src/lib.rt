@@ -23,11 +23,11 @@ pub enum Refusal {
     RuleLength,
     Deep,
     NotARule,
-    Unkind,
+    KindMismatch,
     Choices,
     NoRulesFormula,
     ShortSheet,
-    Disordered,
+    NotAnOrder,
 }
 
 // What a call that writes to a lent output says: a refusal, or the number of bytes written.
@@ -54,11 +54,11 @@ pub fn number(refusal: Refusal) -> u32
         Refusal::RuleLength => 11,
         Refusal::Deep => 12,
         Refusal::NotARule => 13,
-        Refusal::Unkind => 14,
+        Refusal::KindMismatch => 14,
         Refusal::Choices => 15,
         Refusal::NoRulesFormula => 16,
         Refusal::ShortSheet => 17,
-        Refusal::Disordered => 18,
+        Refusal::NotAnOrder => 18,
     }
 }
 

@@ -19,11 +19,11 @@ use Rattle.syntax.proofs.Closed.{formula-in}
 use Rattle.syntax.specs.code.Reading.{Rooted}
 use Rattle.syntax.proofs.BytesLaws.{same-own, same-gives}
 use Rattle.rules.specs.declared.Checked.{Checked}
-use Rattle.rules.specs.declared.Checked.the-variants.{Refused as TurnedBack, Accepted as Taken}
+use Rattle.rules.specs.declared.Checked.the-variants.{Refused as RuleRefused, Accepted as Taken}
 use Rattle.rules.specs.Accept.{refusal}
 use Rattle.rules.specs.code.Parsed.{checkedOf}
 use Rattle.rules.specs.code.Parsed.{Parses}
-use Rattle.printer.specs.code.Printed.{Prints, Ready, formulaIn}
+use Rattle.printer.specs.code.Printed.{Prints, Printable, formulaIn}
 use Rattle.printer.proofs.PrintedLaws.{puts-front}
 use Rattle.printer.proofs.RuleTextLaws.{all-length}
 use Rattle.answers.specs.declared.Written.{Written}
@@ -42,7 +42,7 @@ answers-as n e p = rw e p
 -- Rule to formula.
 
 module _ {s ns ks vs : List ℕ} {o : Checked} {n root count : ℕ} (p : Parses s ns ks vs o n root count) where
-  refused-of : {r : Refusal} → o ≡ TurnedBack r → refusal s ≡ some r
+  refused-of : {r : Refusal} → o ≡ RuleRefused r → refusal s ≡ some r
   refused-of {r} e = go (refusal s) refl
     where
       go : (q : Option Refusal) → refusal s ≡ q → refusal s ≡ some r
@@ -57,9 +57,9 @@ module _ {s ns ks vs : List ℕ} {o : Checked} {n root count : ℕ} (p : Parses 
       go (some x) h = let z : _≡_ {A = ℕ} 0 1 = cc (p .outcome, ap checkedOf h) in absurd (omega arith)
 
   -- 11 to 15.
-  pub reduce-turned : {r : Refusal} (m : ℕ) (old : Bytes) → o ≡ TurnedBack r → Answers (lent m (reduced s)) old old (Refused r)
+  pub reduce-rejected : {r : Refusal} (m : ℕ) (old : Bytes) → o ≡ RuleRefused r → Answers (lent m (reduced s)) old old (Refused r)
   unfolding reduced
-  reduce-turned m old e = answers-refusal (reduced s) m old (rw (refused-of e, reduced))
+  reduce-rejected m old e = answers-refusal (reduced s) m old (rw (refused-of e, reduced))
 
   -- Where it is accepted its tree may be written.
   pub reduce-few : o ≡ Taken → count ≤ length vs
@@ -67,7 +67,7 @@ module _ {s ns ks vs : List ℕ} {o : Checked} {n root count : ℕ} (p : Parses 
       let t = p .accepted (accepted-of e) in
       omega (arith, t .counted, all-length ns (take count vs) (ruleVars [] (t .tree)) (t .knows .holds), length-take count vs)
 
-  pub reduce-ready : o ≡ Taken → Ready ns root (take count vs)
+  pub reduce-ready : o ≡ Taken → Printable ns root (take count vs)
   reduce-ready e =
       let t = p .accepted (accepted-of e) in
       record { n = n; tidy = t .tidy; node = t .within; below = t .knows .below; few = simp length-take (omega (arith, t .few)) }
@@ -128,7 +128,7 @@ rebuild-same {c} f {zeros} {sheet} {w} {k} p q d =
 pub rebuild-gives : {f c old new : Bytes} {w : Written} → RuleOf f c → Answers (lent (length old) (wrote c)) old new w → RebuildAnswers f old new w
 rebuild-gives {c = c} p q = record { answer = wrote c; rebuilds = gives p; answers = q }
 
-pub rebuild-ready : {s ns : List ℕ} {k n : ℕ} {o : Option Rule} → Rooted s ns k n o → Ready ns k []
+pub rebuild-ready : {s ns : List ℕ} {k n : ℕ} {o : Option Rule} → Rooted s ns k n o → Printable ns k []
 rebuild-ready {n = n} t = record { n = n; tidy = t .tidy; node = t .within; below = λ i h. absurd (omega arith); few = omega arith }
 
 pub rebuild-text : {s ns text zeros : List ℕ} {k n l : ℕ} {o : Option Rule} (t : Rooted s ns k n o) → Prints ns [] (HoldsRule ns k) ruleText zeros text l

@@ -37,7 +37,7 @@ const SESSIONS: usize = 2;
 const PERMISSIONS: usize = 5;
 
 // The union of the rows of w's items in section k.
-fn forth(t: &[u64], k: usize, w: u64) -> u64
+fn image(t: &[u64], k: usize, w: u64) -> u64
     requires { ⌜ (length (now t) ≡ 704) × (k < 11) ⌝ }
     ensures { λ r. ⌜ ((T : Tables) → now (t .entry) ≡ flat T → r ≡ imageOf (getD (sections T) k []) w) ⌝ }
 {
@@ -46,7 +46,7 @@ fn forth(t: &[u64], k: usize, w: u64) -> u64
 }
 
 // The items whose row in section k meets w; only as many rows as count n says are looked at.
-fn back(t: &[u64], k: usize, n: usize, w: u64) -> u64
+fn preimage(t: &[u64], k: usize, n: usize, w: u64) -> u64
     requires { ⌜ (length (now t) ≡ 704) × (k < 11) × (n < 9) ⌝ }
     ensures { λ r. ⌜ ((T : Tables) → now (t .entry) ≡ flat T → getD (counts T) n 0 ≡ length (getD (sections T) k []) → r ≡ preimageOf (getD (sections T) k []) w) ⌝ }
 {
@@ -59,35 +59,35 @@ pub fn user_of_sessions(t: &[u64], w: u64) -> u64
     requires { ⌜ length (now t) ≡ 704 ⌝ }
     ensures { λ r. ⌜ ((T : Tables) → Fits T → now (t .entry) ≡ flat T → r ≡ userOfSessions T w) ⌝ }
 {
-    forth(t, SU, w)
+    image(t, SU, w)
 }
 
 pub fn user_of_roles(t: &[u64], w: u64) -> u64
     requires { ⌜ length (now t) ≡ 704 ⌝ }
     ensures { λ r. ⌜ ((T : Tables) → Fits T → now (t .entry) ≡ flat T → r ≡ userOfRoles T w) ⌝ }
 {
-    back(t, UA, USERS, w)
+    preimage(t, UA, USERS, w)
 }
 
 pub fn roles_of_users(t: &[u64], w: u64) -> u64
     requires { ⌜ length (now t) ≡ 704 ⌝ }
     ensures { λ r. ⌜ ((T : Tables) → Fits T → now (t .entry) ≡ flat T → r ≡ rolesOfUsers T w) ⌝ }
 {
-    forth(t, UA, w)
+    image(t, UA, w)
 }
 
 pub fn roles_of_sessions(t: &[u64], w: u64) -> u64
     requires { ⌜ length (now t) ≡ 704 ⌝ }
     ensures { λ r. ⌜ ((T : Tables) → Fits T → now (t .entry) ≡ flat T → r ≡ rolesOfSessions T w) ⌝ }
 {
-    forth(t, SA, w)
+    image(t, SA, w)
 }
 
 pub fn roles_of_permissions(t: &[u64], w: u64) -> u64
     requires { ⌜ length (now t) ≡ 704 ⌝ }
     ensures { λ r. ⌜ ((T : Tables) → Fits T → now (t .entry) ≡ flat T → r ≡ rolesOfPermissions T w) ⌝ }
 {
-    forth(t, PA, w)
+    image(t, PA, w)
 }
 
 // `roles*` of users and of sessions goes down to juniors, of permissions up to seniors.
@@ -95,38 +95,38 @@ pub fn juniors_of_users(t: &[u64], w: u64) -> u64
     requires { ⌜ length (now t) ≡ 704 ⌝ }
     ensures { λ r. ⌜ ((T : Tables) → Fits T → now (t .entry) ≡ flat T → r ≡ juniorsOfUsers T w) ⌝ }
 {
-    let own = forth(t, UA, w);
-    forth(t, DOM, own)
+    let own = image(t, UA, w);
+    image(t, DOM, own)
 }
 
 pub fn juniors_of_sessions(t: &[u64], w: u64) -> u64
     requires { ⌜ length (now t) ≡ 704 ⌝ }
     ensures { λ r. ⌜ ((T : Tables) → Fits T → now (t .entry) ≡ flat T → r ≡ juniorsOfSessions T w) ⌝ }
 {
-    let active = forth(t, SA, w);
-    forth(t, DOM, active)
+    let active = image(t, SA, w);
+    image(t, DOM, active)
 }
 
 pub fn seniors_of_permissions(t: &[u64], w: u64) -> u64
     requires { ⌜ length (now t) ≡ 704 ⌝ }
     ensures { λ r. ⌜ ((T : Tables) → Fits T → now (t .entry) ≡ flat T → r ≡ seniorsOfPermissions T w) ⌝ }
 {
-    let holders = forth(t, PA, w);
-    back(t, DOM, ROLES, holders)
+    let holders = image(t, PA, w);
+    preimage(t, DOM, ROLES, holders)
 }
 
 pub fn sessions_of_users(t: &[u64], w: u64) -> u64
     requires { ⌜ length (now t) ≡ 704 ⌝ }
     ensures { λ r. ⌜ ((T : Tables) → Fits T → now (t .entry) ≡ flat T → r ≡ sessionsOfUsers T w) ⌝ }
 {
-    back(t, SU, SESSIONS, w)
+    preimage(t, SU, SESSIONS, w)
 }
 
 pub fn permissions_of_roles(t: &[u64], w: u64) -> u64
     requires { ⌜ length (now t) ≡ 704 ⌝ }
     ensures { λ r. ⌜ ((T : Tables) → Fits T → now (t .entry) ≡ flat T → r ≡ permissionsOfRoles T w) ⌝ }
 {
-    back(t, PA, PERMISSIONS, w)
+    preimage(t, PA, PERMISSIONS, w)
 }
 
 // `permissions*`: those of the roles and of their juniors.
@@ -134,15 +134,15 @@ pub fn permissions_of_juniors(t: &[u64], w: u64) -> u64
     requires { ⌜ length (now t) ≡ 704 ⌝ }
     ensures { λ r. ⌜ ((T : Tables) → Fits T → now (t .entry) ≡ flat T → r ≡ permissionsOfJuniors T w) ⌝ }
 {
-    let down = forth(t, DOM, w);
-    back(t, PA, PERMISSIONS, down)
+    let down = image(t, DOM, w);
+    preimage(t, PA, PERMISSIONS, down)
 }
 
 pub fn objects_of_permissions(t: &[u64], w: u64) -> u64
     requires { ⌜ length (now t) ≡ 704 ⌝ }
     ensures { λ r. ⌜ ((T : Tables) → Fits T → now (t .entry) ≡ flat T → r ≡ objectsOfPermissions T w) ⌝ }
 {
-    forth(t, OBJ, w)
+    image(t, OBJ, w)
 }
 
 // The operations of the permissions that a role of w holds and that are on an object of o.
@@ -150,7 +150,7 @@ pub fn operations_on(t: &[u64], w: u64, o: u64) -> u64
     requires { ⌜ length (now t) ≡ 704 ⌝ }
     ensures { λ r. ⌜ ((T : Tables) → Fits T → now (t .entry) ≡ flat T → r ≡ operationsOn T w o) ⌝ }
 {
-    let held = back(t, PA, PERMISSIONS, w);
-    let on = back(t, OBJ, PERMISSIONS, o);
-    forth(t, OPS, words::meet(held, on))
+    let held = preimage(t, PA, PERMISSIONS, w);
+    let on = preimage(t, OBJ, PERMISSIONS, o);
+    image(t, OPS, words::meet(held, on))
 }

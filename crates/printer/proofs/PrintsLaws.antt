@@ -16,7 +16,7 @@ use Rattle.syntax.specs.code.Arena.{Holds, HoldsAll, Down, hasTwo}
 use Rattle.syntax.specs.code.Reading.{Sought}
 use Rattle.syntax.specs.code.Nodes.{firstCall, oeOp, aoOp, firstPair, memberOp, firstEmpty, firstCounted, opAt, leftAt, rightAt}
 use Rattle.printer.specs.code.Signs.{signOf, openOf}
-use Rattle.printer.specs.code.Printed.{Puts, Prints, Ready}
+use Rattle.printer.specs.code.Printed.{Puts, Prints, Printable}
 use Rattle.syntax.proofs.ArenaLaws.{base-small, fn-range, two-range, opOf, holds-op}
 use Rattle.printer.proofs.PrintedLaws.{puts-as, puts-then, puts-room, room-then, room-none, puts-none}
 use Rattle.printer.proofs.TextLaws.{Shown, text-leaf, text-call, text-new, text-choice, text-others, text-two}
@@ -57,24 +57,24 @@ module _ {A : Type 0} {ns vs : List ℕ} {H : A → Type 0} {f : Choices → A �
   prints-never old h = record { room = room-none old; shows = λ σ a y x. absurd (h a x) }
 
 -- The nodes below a node are ready too.
-module _ {ns vs : List ℕ} {k : ℕ} (r : Ready ns k vs) where
+module _ {ns vs : List ℕ} {k : ℕ} (r : Printable ns k vs) where
   pub ready-size : k < length ns
   ready-size = omega (arith, r .node, r .tidy .fits)
 
-  pub ready-left : {l : ℕ} → l ≡ leftAt ns k → firstCall ≤ opAt ns k → Ready ns l vs × (l < k)
+  pub ready-left : {l : ℕ} → l ≡ leftAt ns k → firstCall ≤ opAt ns k → Printable ns l vs × (l < k)
   unfolding Down
   ready-left {l} e h =
       let w : l < k = rw e (r .tidy .down k (r .node) .left h) in
       (record { n = r .n; tidy = r .tidy; node = omega (arith, r .node); below = r .below; few = r .few }, w)
 
-  pub ready-right : {l : ℕ} → l ≡ rightAt ns k → hasTwo (opAt ns k) ≡ true → Ready ns l vs × (l < k)
+  pub ready-right : {l : ℕ} → l ≡ rightAt ns k → hasTwo (opAt ns k) ≡ true → Printable ns l vs × (l < k)
   unfolding Down
   ready-right {l} e h =
       let w : l < k = rw e (r .tidy .down k (r .node) .right h) in
       (record { n = r .n; tidy = r .tidy; node = omega (arith, r .node); below = r .below; few = r .few }, w)
 
 -- The writer of terms, by the operation of its node.
-module _ {ns vs : List ℕ} {k : ℕ} (w : Ready ns k vs) {op : ℕ} (e : op ≡ opAt ns k) {old new : Bytes} {r : ℕ} where
+module _ {ns vs : List ℕ} {k : ℕ} (w : Printable ns k vs) {op : ℕ} (e : op ≡ opAt ns k) {old new : Bytes} {r : ℕ} where
   pub term-leaf : op < firstCall → Puts (signOf op) old new r → Prints ns vs (Holds ns k) text old new r
   term-leaf h p =
       record {

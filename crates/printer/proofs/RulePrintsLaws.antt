@@ -15,7 +15,7 @@ use Rattle.syntax.specs.code.Printing.{quantifiersAfter}
 use Rattle.syntax.specs.code.Arena.{Holds, HoldsTest, HoldsClause, HoldsRule}
 use Rattle.syntax.specs.code.Nodes.{memberOp, firstEmpty, firstNumbered, firstCounted, whenOp, alsoOp, opAt, leftAt, rightAt}
 use Rattle.printer.specs.code.Signs.{signOf, cmpSignOf}
-use Rattle.printer.specs.code.Printed.{Prints, Ready, quantifier, quantifiersFrom, Any}
+use Rattle.printer.specs.code.Printed.{Prints, Printable, quantifier, quantifiersFrom, Any}
 use Rattle.printer.proofs.PrintedLaws.{puts-as, puts-then, room-then, room-none, puts-empty}
 use Rattle.printer.proofs.PrintsLaws.{prints-as}
 use Rattle.printer.proofs.RuleTextLaws.{test-compared, test-empty, test-number, test-count, clause-plain, clause-when, rule-last}
@@ -28,7 +28,7 @@ Both H K p = H (p .0) × K (p .1)
 abbrev counted : Choices → Term → Bytes
 counted σ a = ascii "|" ++ (text σ a ++ ascii "|")
 
-module _ {ns vs : List ℕ} {k : ℕ} (w : Ready ns k vs) {op : ℕ} (e : op ≡ opAt ns k) {old new : Bytes} {r : ℕ} where
+module _ {ns vs : List ℕ} {k : ℕ} (w : Printable ns k vs) {op : ℕ} (e : op ≡ opAt ns k) {old new : Bytes} {r : ℕ} where
   module _ {l : ℕ} (q : l ≡ leftAt ns k) where
     pub prints-empty : firstEmpty ≤ op → op < firstNumbered → Prints ns vs (Holds ns l) (λ σ a. (text σ a ++ signOf op) ++ ascii "{}") old new r → Prints ns vs (HoldsTest ns k) testText old new r
     prints-empty h g p = prints-as (λ σ t y x. test-empty ns k σ t (omega arith) (omega arith) x) (rw e at (rw q at p))
@@ -62,7 +62,7 @@ module _ {ns vs : List ℕ} {k : ℕ} (w : Ready ns k vs) {op : ℕ} (e : op ≡
 
 -- Quantifiers.
 
-pub ready-choice : {ns vs : List ℕ} {k d : ℕ} → Ready ns k vs → d < length vs → Ready ns (getD vs d 0) (take d vs)
+pub ready-choice : {ns vs : List ℕ} {k d : ℕ} → Printable ns k vs → d < length vs → Printable ns (getD vs d 0) (take d vs)
 ready-choice {ns} {vs} {k} {d} w h =
     let l : length (take d vs) ≡ d = length-take-le d vs (omega arith) in
     record {

@@ -14,7 +14,7 @@ use Rattle.syntax.specs.code.Arena.{baseOp, fnOp, twoOp, One, Holds, HoldsAll, 
 use Rattle.syntax.specs.code.Reading.{Sought}
 use Rattle.syntax.specs.code.Nodes.{firstCall, oeOp, aoOp, firstPair, memberOp, opAt, leftAt, rightAt, opRoom}
 use Rattle.printer.specs.code.Signs.{signs, signOf, openOf}
-use Rattle.printer.specs.code.Printed.{Ready}
+use Rattle.printer.specs.code.Printed.{Printable}
 use Rattle.syntax.proofs.ArenaLaws.{base-small, fn-range, two-range, one-parts, both-parts, opOf, holds-op, holds-once, holds-one}
 
 base-sign : (b : Base) → signOf (baseOp b) ≡ spell (isBase b)
@@ -170,7 +170,7 @@ module _ (ns : List ℕ) (n i : ℕ) (apart : Apart ns n) (h : i < n) (a : Term)
       go (no p) e = e ∙ ap some (omega arith)
 
 -- The same of a node that was sought among those of the choices.
-module _ {ns vs : List ℕ} {i d : ℕ} (r : Ready ns i vs) (s : Sought vs (length vs) i d) (σ : Choices) (y : HoldsAll ns vs σ) (a : Term) (x : Holds ns i a) where
+module _ {ns vs : List ℕ} {i d : ℕ} (r : Printable ns i vs) (s : Sought vs (length vs) i d) (σ : Choices) (y : HoldsAll ns vs σ) (a : Term) (x : Holds ns i a) where
   pub choice-none : length vs ≤ d → digit σ a ≡ none
   choice-none l = digit-none ns (r .n) i (r .tidy .apart) (r .node) a x 49 vs σ y (r .below) (λ e h. s .before e (omega arith))
 

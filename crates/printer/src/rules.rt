@@ -8,7 +8,7 @@ ghost use Rattle.syntax.specs.Bytes.{ascii};
 ghost use Rattle.syntax.specs.Term.{text};
 ghost use Rattle.syntax.specs.Rule.{testText, clauseText, ruleText};
 ghost use Rattle.syntax.specs.code.Arena.{Holds, HoldsTest, HoldsClause, HoldsRule};
-ghost use Rattle.printer.specs.code.Printed.{Prints, Ready, quantifier, quantifiersFrom, formulaIn, Any};
+ghost use Rattle.printer.specs.code.Printed.{Prints, Printable, quantifier, quantifiersFrom, formulaIn, Any};
 ghost use Rattle.syntax.specs.code.Nodes.{memberOp, firstEmpty, firstNumbered, whenOp, opAt};
 use crate::names::put_bound;
 use crate::names::put_cmp;
@@ -28,7 +28,7 @@ use syntax::nodes::WHEN;
 
 // Two terms with a sign between them.
 fn write_compared(nodes: &[u32], k: usize, vars: &[u32], out: &mut [u8]) -> usize
-    requires { ⌜ Ready (now nodes) k (now vars) ⌝ }
+    requires { ⌜ Printable (now nodes) k (now vars) ⌝ }
     requires { ⌜ (memberOp ≤ opAt (now nodes) k) × (opAt (now nodes) k < firstEmpty) ⌝ }
     ensures { λ r. ⌜ Prints (now (nodes .entry)) (now (vars .entry)) (HoldsTest (now (nodes .entry)) k) testText (now (out .entry)) (now (out .exit)) r ⌝ }
 {
@@ -40,7 +40,7 @@ fn write_compared(nodes: &[u32], k: usize, vars: &[u32], out: &mut [u8]) -> usiz
 
 // A term compared with the empty set.
 fn write_empty(nodes: &[u32], k: usize, vars: &[u32], out: &mut [u8]) -> usize
-    requires { ⌜ Ready (now nodes) k (now vars) ⌝ }
+    requires { ⌜ Printable (now nodes) k (now vars) ⌝ }
     requires { ⌜ (firstEmpty ≤ opAt (now nodes) k) × (opAt (now nodes) k < firstNumbered) ⌝ }
     ensures { λ r. ⌜ Prints (now (nodes .entry)) (now (vars .entry)) (HoldsTest (now (nodes .entry)) k) testText (now (out .entry)) (now (out .exit)) r ⌝ }
 {
@@ -52,7 +52,7 @@ fn write_empty(nodes: &[u32], k: usize, vars: &[u32], out: &mut [u8]) -> usize
 
 // The count of a term.
 fn write_count(nodes: &[u32], i: usize, vars: &[u32], out: &mut [u8]) -> usize
-    requires { ⌜ Ready (now nodes) i (now vars) ⌝ }
+    requires { ⌜ Printable (now nodes) i (now vars) ⌝ }
     ensures { λ r. ⌜ Prints (now (nodes .entry)) (now (vars .entry)) (Holds (now (nodes .entry)) i) (λ σ a. ascii "|" ++ (text σ a ++ ascii "|")) (now (out .entry)) (now (out .exit)) r ⌝ }
 {
     let mut at = put(out, b"|");
@@ -62,7 +62,7 @@ fn write_count(nodes: &[u32], i: usize, vars: &[u32], out: &mut [u8]) -> usize
 
 // A count compared with a number or a count.
 fn write_sized(nodes: &[u32], k: usize, vars: &[u32], out: &mut [u8]) -> usize
-    requires { ⌜ Ready (now nodes) k (now vars) ⌝ }
+    requires { ⌜ Printable (now nodes) k (now vars) ⌝ }
     requires { ⌜ (firstNumbered ≤ opAt (now nodes) k) × (opAt (now nodes) k < whenOp) ⌝ }
     ensures { λ r. ⌜ Prints (now (nodes .entry)) (now (vars .entry)) (HoldsTest (now (nodes .entry)) k) testText (now (out .entry)) (now (out .exit)) r ⌝ }
 {
@@ -78,7 +78,7 @@ fn write_sized(nodes: &[u32], k: usize, vars: &[u32], out: &mut [u8]) -> usize
 
 // The test at node `k`.
 fn write_test(nodes: &[u32], k: usize, vars: &[u32], out: &mut [u8]) -> usize
-    requires { ⌜ Ready (now nodes) k (now vars) ⌝ }
+    requires { ⌜ Printable (now nodes) k (now vars) ⌝ }
     ensures { λ r. ⌜ Prints (now (nodes .entry)) (now (vars .entry)) (HoldsTest (now (nodes .entry)) k) testText (now (out .entry)) (now (out .exit)) r ⌝ }
 {
     let op = op_at(nodes, k);
@@ -99,7 +99,7 @@ fn write_test(nodes: &[u32], k: usize, vars: &[u32], out: &mut [u8]) -> usize
 
 // The clause at node `k`: a test, or two with `=>` between them.
 fn write_clause(nodes: &[u32], k: usize, vars: &[u32], out: &mut [u8]) -> usize
-    requires { ⌜ Ready (now nodes) k (now vars) ⌝ }
+    requires { ⌜ Printable (now nodes) k (now vars) ⌝ }
     ensures { λ r. ⌜ Prints (now (nodes .entry)) (now (vars .entry)) (HoldsClause (now (nodes .entry)) k) clauseText (now (out .entry)) (now (out .exit)) r ⌝ }
 {
     if op_at(nodes, k) != WHEN {
@@ -112,7 +112,7 @@ fn write_clause(nodes: &[u32], k: usize, vars: &[u32], out: &mut [u8]) -> usize
 
 // The rule at node `k`: a clause, or a clause, `^` and a rule.
 pub fn write_rule(nodes: &[u32], k: usize, vars: &[u32], out: &mut [u8]) -> usize
-    requires { ⌜ Ready (now nodes) k (now vars) ⌝ }
+    requires { ⌜ Printable (now nodes) k (now vars) ⌝ }
     ensures { λ r. ⌜ Prints (now (nodes .entry)) (now (vars .entry)) (HoldsRule (now (nodes .entry)) k) ruleText (now (out .entry)) (now (out .exit)) r ⌝ }
 {
     if op_at(nodes, k) != ALSO {
@@ -126,7 +126,7 @@ pub fn write_rule(nodes: &[u32], k: usize, vars: &[u32], out: &mut [u8]) -> usiz
 // The quantifier of the choice of index `d`, whose set names only choices before it.
 fn write_quantifier(nodes: &[u32], vars: &[u32], d: usize, out: &mut [u8]) -> usize
     requires { ⌜ (d < length (now vars)) × (d < 8) ⌝ }
-    requires { ⌜ Ready (now nodes) (getD (now vars) d 0) (take d (now vars)) ⌝ }
+    requires { ⌜ Printable (now nodes) (getD (now vars) d 0) (take d (now vars)) ⌝ }
     ensures { λ r. ⌜ Prints (now (nodes .entry)) (take d (now (vars .entry))) (Holds (now (nodes .entry)) (getD (now (vars .entry)) d 0)) quantifier (now (out .entry)) (now (out .exit)) r ⌝ }
 {
     let mut at = put_bound(out, d);
@@ -137,7 +137,7 @@ fn write_quantifier(nodes: &[u32], vars: &[u32], d: usize, out: &mut [u8]) -> us
 
 // The quantifiers from index `d` on, each straight after the one before it: the rest of the sheet is lent, from its middle.
 fn write_quantifiers(nodes: &[u32], k: usize, vars: &[u32], d: usize, out: &mut [u8]) -> usize
-    requires { ⌜ Ready (now nodes) k (now vars) ⌝ }
+    requires { ⌜ Printable (now nodes) k (now vars) ⌝ }
     ensures { λ r. ⌜ Prints (now (nodes .entry)) (now (vars .entry)) Any (λ σ u. quantifiersFrom d σ) (now (out .entry)) (now (out .exit)) r ⌝ }
 {
     if vars.len() <= d {
@@ -149,7 +149,7 @@ fn write_quantifiers(nodes: &[u32], k: usize, vars: &[u32], d: usize, out: &mut 
 
 // The formula of the rule at node `k`, whose choices are `vars`.
 pub fn write_formula(nodes: &[u32], k: usize, vars: &[u32], out: &mut [u8]) -> usize
-    requires { ⌜ Ready (now nodes) k (now vars) ⌝ }
+    requires { ⌜ Printable (now nodes) k (now vars) ⌝ }
     ensures { λ r. ⌜ Prints (now (nodes .entry)) (now (vars .entry)) (HoldsRule (now (nodes .entry)) k) formulaIn (now (out .entry)) (now (out .exit)) r ⌝ }
 {
     let mut at = write_quantifiers(nodes, k, vars, 0, out);

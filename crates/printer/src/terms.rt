@@ -8,7 +8,7 @@ ghost use lib.ListN.{length, getD};
 ghost use Rattle.syntax.specs.Bytes.{ascii};
 ghost use Rattle.syntax.specs.Term.{text, aoText};
 ghost use Rattle.syntax.specs.code.Arena.{Holds};
-ghost use Rattle.printer.specs.code.Printed.{Prints, Ready};
+ghost use Rattle.printer.specs.code.Printed.{Prints, Printable};
 ghost use Rattle.printer.specs.code.Signs.{signOf};
 ghost use Rattle.syntax.specs.code.Nodes.{firstCall, firstPair, memberOp, opAt};
 use crate::names::put_choice;
@@ -27,7 +27,7 @@ use syntax::places::seek;
 
 // The term at node `k`. A full sheet ends it at once: terms that stand in many places would take long.
 pub fn write_term(nodes: &[u32], k: usize, vars: &[u32], out: &mut [u8]) -> usize
-    requires { ⌜ Ready (now nodes) k (now vars) ⌝ }
+    requires { ⌜ Printable (now nodes) k (now vars) ⌝ }
     ensures { λ r. ⌜ Prints (now (nodes .entry)) (now (vars .entry)) (Holds (now (nodes .entry)) k) text (now (out .entry)) (now (out .exit)) r ⌝ }
 {
     if out.len() == 0 {
@@ -48,7 +48,7 @@ pub fn write_term(nodes: &[u32], k: usize, vars: &[u32], out: &mut [u8]) -> usiz
 
 // A call, an OE or an AO: by the choice's variable where it is known.
 fn write_one(nodes: &[u32], k: usize, vars: &[u32], out: &mut [u8]) -> usize
-    requires { ⌜ Ready (now nodes) k (now vars) ⌝ }
+    requires { ⌜ Printable (now nodes) k (now vars) ⌝ }
     requires { ⌜ (firstCall ≤ opAt (now nodes) k) × (opAt (now nodes) k < firstPair) ⌝ }
     ensures { λ r. ⌜ Prints (now (nodes .entry)) (now (vars .entry)) (Holds (now (nodes .entry)) k) text (now (out .entry)) (now (out .exit)) r ⌝ }
 {
@@ -69,7 +69,7 @@ fn write_one(nodes: &[u32], k: usize, vars: &[u32], out: &mut [u8]) -> usize
 
 // A name, the term at node `i` and the closing bracket.
 fn write_call(nodes: &[u32], op: u32, i: usize, vars: &[u32], out: &mut [u8]) -> usize
-    requires { ⌜ Ready (now nodes) i (now vars) ⌝ }
+    requires { ⌜ Printable (now nodes) i (now vars) ⌝ }
     requires { ⌜ (firstCall ≤ op) × (op < firstPair) ⌝ }
     ensures { λ r. ⌜ Prints (now (nodes .entry)) (now (vars .entry)) (Holds (now (nodes .entry)) i) (λ σ a. signOf op ++ (text σ a ++ ascii ")")) (now (out .entry)) (now (out .exit)) r ⌝ }
 {
@@ -80,7 +80,7 @@ fn write_call(nodes: &[u32], op: u32, i: usize, vars: &[u32], out: &mut [u8]) ->
 
 // The term at node `i` without its choice of index `d`: `(X-{v})`.
 fn write_others(nodes: &[u32], i: usize, vars: &[u32], d: usize, out: &mut [u8]) -> usize
-    requires { ⌜ Ready (now nodes) i (now vars) ⌝ }
+    requires { ⌜ Printable (now nodes) i (now vars) ⌝ }
     requires { ⌜ d < 8 ⌝ }
     ensures { λ r. ⌜ Prints (now (nodes .entry)) (now (vars .entry)) (Holds (now (nodes .entry)) i) (λ σ a. aoText (some (49 + d)) (text σ a)) (now (out .entry)) (now (out .exit)) r ⌝ }
 {
@@ -93,7 +93,7 @@ fn write_others(nodes: &[u32], i: usize, vars: &[u32], d: usize, out: &mut [u8])
 
 // Two terms in brackets.
 fn write_two(nodes: &[u32], k: usize, vars: &[u32], out: &mut [u8]) -> usize
-    requires { ⌜ Ready (now nodes) k (now vars) ⌝ }
+    requires { ⌜ Printable (now nodes) k (now vars) ⌝ }
     requires { ⌜ (firstPair ≤ opAt (now nodes) k) × (opAt (now nodes) k < memberOp) ⌝ }
     ensures { λ r. ⌜ Prints (now (nodes .entry)) (now (vars .entry)) (Holds (now (nodes .entry)) k) text (now (out .entry)) (now (out .exit)) r ⌝ }
 {

@@ -10,11 +10,11 @@ use native.Mathlib.Omega.{arith}
 use borrow.Author.Tests.{lt-ltb, le-ltb, eq-eqb, ne-eqb}
 use lib.ListN.{length, take, drop, getD, set, drop-of-length-le}
 use lib.Seq.{take-suc, take-all, drop-cons}
-use Rattle.texts.specs.code.Written.{Written}
-use Rattle.texts.proofs.WrittenLaws.{none-written, written-byte, written-length}
+use Rattle.texts.specs.code.Overwritten.{Overwritten}
+use Rattle.texts.proofs.OverwrittenLaws.{none-written, written-byte, written-length}
 use Rattle.protocol.specs.declared.Taken.{Taken}
 use Rattle.protocol.specs.declared.Taken.the-variants.{Malformed, Took}
-use Rattle.protocol.specs.Hex.{hexDigit, hexValue, hexOf, fieldOf, onto, pairs, bytesOf}
+use Rattle.protocol.specs.Hex.{hexDigit, hexValue, hexOf, fieldOf, onto, pairs, fromHex}
 use Rattle.protocol.specs.code.Taken.{Bytes, no-bytes, some-bytes}
 
 -- Writing
@@ -26,7 +26,7 @@ hex-snoc (y ∷ s) x = ap (λ (l : List ℕ). hexDigit (y / 16) ∷ hexDigit (y 
 
 -- The digits of the first i bytes of b were written.
 pub record Hexed (b old out : List ℕ) (i at : ℕ) : Type 0 where
-  pub made : Written (hexOf (take i b)) old out at
+  pub made : Overwritten (hexOf (take i b)) old out at
 
 pub hexed-none : (b old : List ℕ) → Hexed b old old 0 0
 unfolding hexOf
@@ -40,7 +40,7 @@ hexed-next {b} {i = i} {at = at} r h l =
     let e : at + 2 ≡ at + 1 + 1 = omega arith in
     record { made = rw (t, e) (written-byte _ (written-byte _ (r .made) (omega arith)) l) }
 
-pub hexed-all : {b old out : List ℕ} {i at : ℕ} → Hexed b old out i at → length b ≤ i → Written (hexOf b) old out at
+pub hexed-all : {b old out : List ℕ} {i at : ℕ} → Hexed b old out i at → length b ≤ i → Overwritten (hexOf b) old out at
 hexed-all {b} {i = i} r l = rw (take-all i b l) at (r .made)
 
 -- Reading
@@ -53,7 +53,7 @@ front w (some s) = some (w ++ s)
 -- The field up to `at` gave the n bytes that were written over the beginning of old.
 pub record Paired (field old out : List ℕ) (n at : ℕ) : Type 0 where
   pub bytes : List ℕ
-  pub made : Written bytes old out n
+  pub made : Overwritten bytes old out n
   pub rest : pairs field ≡ front bytes (pairs (drop at field))
 
 pub paired-none : (field old : List ℕ) → Paired field old old 0 0
@@ -103,35 +103,35 @@ module _ {field old out : List ℕ} {n at : ℕ} (p : Paired field old out n at)
 
 -- Whole fields
 
-pub empty-field : (s old new : List ℕ) → length s ≡ 0 → Bytes (bytesOf s) old new Malformed
-unfolding bytesOf
+pub empty-field : (s old new : List ℕ) → length s ≡ 0 → Bytes (fromHex s) old new Malformed
+unfolding fromHex
 empty-field [] old new h = no-bytes refl
 empty-field (x ∷ s) old new h = absurd (omega arith)
 
-pub dash-field : (s old : List ℕ) → length s ≡ 1 → getD s 0 0 ≡ 45 → Bytes (bytesOf s) old old (Took 0)
-unfolding bytesOf
+pub dash-field : (s old : List ℕ) → length s ≡ 1 → getD s 0 0 ≡ 45 → Bytes (fromHex s) old old (Took 0)
+unfolding fromHex
 dash-field [] old h e = absurd (omega arith)
 dash-field (x ∷ []) old h e = some-bytes {w = []} (rw (eq-eqb x 45 e)) (none-written old)
 dash-field (x ∷ y ∷ s) old h e = absurd (omega arith)
 
-pub short-field : (s old new : List ℕ) → length s ≡ 1 → (getD s 0 0 ≡ 45 → ⊥) → Bytes (bytesOf s) old new Malformed
-unfolding bytesOf
+pub short-field : (s old new : List ℕ) → length s ≡ 1 → (getD s 0 0 ≡ 45 → ⊥) → Bytes (fromHex s) old new Malformed
+unfolding fromHex
 short-field [] old new h n = absurd (omega arith)
 short-field (x ∷ []) old new h n = no-bytes (rw (ne-eqb x 45 n))
 short-field (x ∷ y ∷ s) old new h n = absurd (omega arith)
 
-pub long-field : (s : List ℕ) {old new : List ℕ} {r : Taken} → (length s ≡ 0 → ⊥) → (length s ≡ 1 → ⊥) → Bytes (pairs s) old new r → Bytes (bytesOf s) old new r
-unfolding bytesOf
+pub long-field : (s : List ℕ) {old new : List ℕ} {r : Taken} → (length s ≡ 0 → ⊥) → (length s ≡ 1 → ⊥) → Bytes (pairs s) old new r → Bytes (fromHex s) old new r
+unfolding fromHex
 long-field [] z o p = absurd (z refl)
 long-field (x ∷ []) z o p = absurd (o refl)
 long-field (x ∷ y ∷ s) z o p = p
 
-pub dash-written : (b old : List ℕ) → length b ≡ 0 → 2 * length b < length old → Written (fieldOf b) old (set old 0 45) 1
+pub dash-written : (b old : List ℕ) → length b ≡ 0 → 2 * length b < length old → Overwritten (fieldOf b) old (set old 0 45) 1
 unfolding fieldOf
 dash-written [] old h l = written-byte 45 (none-written old) (omega arith)
 dash-written (x ∷ b) old h l = absurd (omega arith)
 
-pub hex-written : (b : List ℕ) {old new : List ℕ} {n : ℕ} → (length b ≡ 0 → ⊥) → Written (hexOf b) old new n → Written (fieldOf b) old new n
+pub hex-written : (b : List ℕ) {old new : List ℕ} {n : ℕ} → (length b ≡ 0 → ⊥) → Overwritten (hexOf b) old new n → Overwritten (fieldOf b) old new n
 unfolding fieldOf
 hex-written [] h w = absurd (h refl)
 hex-written (x ∷ b) h w = w

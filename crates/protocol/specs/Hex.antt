@@ -43,7 +43,7 @@ ifDash true = some []
 ifDash false = none
 
 -- The bytes of a field; an empty field is none.
-unfoldable pub bytesOf : List ℕ → Option (List ℕ)
-bytesOf [] = none
-bytesOf (a ∷ []) = ifDash (eqb a 45)
-bytesOf (a ∷ b ∷ s) = pairs (a ∷ b ∷ s)
+unfoldable pub fromHex : List ℕ → Option (List ℕ)
+fromHex [] = none
+fromHex (a ∷ []) = ifDash (eqb a 45)
+fromHex (a ∷ b ∷ s) = pairs (a ∷ b ∷ s)

@@ -3,8 +3,8 @@
 ghost use mathlib.Core.Path.{_≡_};
 ghost use Prim.Native.Nat.{_≤_, _<_, _+_, _*_};
 ghost use lib.ListN.{length};
-ghost use Rattle.texts.specs.code.Written.{Written};
-ghost use Rattle.protocol.specs.Hex.{hexDigit, hexValue, hexOf, fieldOf, pairs, bytesOf};
+ghost use Rattle.texts.specs.code.Overwritten.{Overwritten};
+ghost use Rattle.protocol.specs.Hex.{hexDigit, hexValue, hexOf, fieldOf, pairs, fromHex};
 ghost use Rattle.protocol.specs.Numbers.{lengthOf};
 ghost use Rattle.protocol.specs.code.Taken.{Bytes, took};
 
@@ -17,7 +17,7 @@ pub enum Taken {
 // Writes the bytes that a field stands for.
 pub fn read_bytes(field: &[u8], out: &mut [u8]) -> Taken
     requires { ⌜ length (now field) ≤ 2 * length (now out) ⌝ }
-    ensures { λ r. ⌜ Bytes (bytesOf (now (field .entry))) (now (out .entry)) (now (out .exit)) r ⌝ }
+    ensures { λ r. ⌜ Bytes (fromHex (now (field .entry))) (now (out .entry)) (now (out .exit)) r ⌝ }
 {
     if field.len() == 0 {
         return Taken::Malformed;
@@ -77,7 +77,7 @@ fn value(c: u8) -> u8
 // Writes the field of the bytes b.
 pub fn write_bytes(b: &[u8], out: &mut [u8]) -> usize
     requires { ⌜ 2 * length (now b) < length (now out) ⌝ }
-    ensures { λ r. ⌜ Written (fieldOf (now (b .entry))) (now (out .entry)) (now (out .exit)) r ⌝ }
+    ensures { λ r. ⌜ Overwritten (fieldOf (now (b .entry))) (now (out .entry)) (now (out .exit)) r ⌝ }
 {
     if b.len() == 0 {
         out[0] = b'-';
@@ -88,7 +88,7 @@ pub fn write_bytes(b: &[u8], out: &mut [u8]) -> usize
 
 fn write_pairs(b: &[u8], out: &mut [u8]) -> usize
     requires { ⌜ 2 * length (now b) ≤ length (now out) ⌝ }
-    ensures { λ r. ⌜ Written (hexOf (now (b .entry))) (now (out .entry)) (now (out .exit)) r ⌝ }
+    ensures { λ r. ⌜ Overwritten (hexOf (now (b .entry))) (now (out .entry)) (now (out .exit)) r ⌝ }
 {
     let mut i = 0;
     let mut at = 0;

@@ -36,7 +36,7 @@ use Rattle.formulas.specs.Formulas.{formulaOf, reduced}
 use Rattle.formulas.specs.code.Rebuilding.{kept, rebuilt, rebuiltAnswer}
 use Rattle.formulas.proofs.RebuildLaws.{none-true, rebuilt-answer}
 use Rattle.walks.specs.Choices.{nothingChosen, each, ifBreaks, sumTo}
-use Rattle.walks.specs.Walk.{walk, walkFirst, firstTo, bytesOf}
+use Rattle.walks.specs.Walk.{walk, walkFirst, firstTo, choiceBytes}
 use Rattle.walks.specs.Order.{variablesOf, isSmall, count, isOnce, isFree, isAfter, isOrder}
 use Rattle.walks.specs.Share.{shareOf}
 use Rattle.walks.proofs.OrderLaws.{order-admissible}
@@ -94,7 +94,7 @@ module _ (ρ : Rule) (order : Bytes) where
         outcome = outcomeOf full breaking;
         full = full;
         breaking = breaking;
-        first = bytesOf (walkFirst 64 (inSet tablesT (ruleVars [] ρ)) (breaks tablesT (ruleVars [] ρ) ρ) (variablesOf order) nothingChosen);
+        first = choiceBytes (walkFirst 64 (inSet tablesT (ruleVars [] ρ)) (breaks tablesT (ruleVars [] ρ) ρ) (variablesOf order) nothingChosen);
         share = shareOf full breaking;
       }
 

@@ -9,15 +9,15 @@ use native.Mathlib.Omega.{arith}
 use lib.ListN.{length, drop, take-append-drop}
 use Rattle.answers.specs.Answer.{refused, wrote, lent}
 use Rattle.answers.specs.declared.Refusal.{Refusal}
-use Rattle.answers.specs.declared.Refusal.the-variants.{Disordered}
+use Rattle.answers.specs.declared.Refusal.the-variants.{NotAnOrder}
 use Rattle.answers.proofs.AnswerLaws.{lent-refused, lent-fits, lent-short, lent-wrote}
 use Rattle.tables.specs.Tables.{Tables}
-use Rattle.tables.specs.Reading.{turned}
+use Rattle.tables.specs.Reading.{rejected}
 use Rattle.syntax.specs.Bytes.{Bytes}
 use Rattle.syntax.specs.Rule.{Rule}
 use Rattle.verdicts.specs.Verdict.{judged}
 use Rattle.verdicts.specs.Report.{Admitted, Met, badTables, badRule, badOrder, good}
-use Rattle.verdicts.proofs.JudgedLaws.{tables-turned, rule-turned, order-turned, judged-turned, met, written-length}
+use Rattle.verdicts.proofs.JudgedLaws.{tables-rejected, rule-rejected, order-rejected, judged-rejected, met, written-length}
 use Rattle.verdicts.proofs.ReportLaws.{judged-reports}
 use Rattle.rcl2000.specs.Calls.{Judges, Reported, JudgeRefuses, tablesRefused, judgedRefused, orderRefused, verdictLonger}
 use Rattle.rcl2000.proofs.CallLaws.{Short, lent-room, sees-wrote}
@@ -35,13 +35,13 @@ module _ (tables rule order : Bytes) where
 
       there : Met tables rule order → lent n (judged tables rule order) ≡ refused e → JudgeRefuses tables rule order n e
       there (badTables d t) q =
-          let s = same (judged-turned tables rule order d (tables-turned tables rule order d t)) q in
-          tablesRefused (t ∙ ap turned s)
+          let s = same (judged-rejected tables rule order d (tables-rejected tables rule order d t)) q in
+          tablesRefused (t ∙ ap rejected s)
       there (badRule T d t r) q =
-          let s = same (judged-turned tables rule order d (rule-turned tables rule order T d t r)) q in
+          let s = same (judged-rejected tables rule order d (rule-rejected tables rule order T d t r)) q in
           judgedRefused t (r ∙ ap some s)
       there (badOrder T ρ t r h bad) q =
-          let s = same (judged-turned tables rule order Disordered (order-turned tables rule order T ρ t r h bad)) q in
+          let s = same (judged-rejected tables rule order NotAnOrder (order-rejected tables rule order T ρ t r h bad)) q in
           rw (← s) (orderRefused t r h bad)
       there (good T ρ a) q =
           let (b, is, told) = judged-reports a in
@@ -52,9 +52,9 @@ module _ (tables rule order : Bytes) where
       refuse d is = ap (lent n) is ∙ lent-refused n d
 
       back : {e : Refusal} → JudgeRefuses tables rule order n e → lent n (judged tables rule order) ≡ refused e
-      back {e} (tablesRefused t) = refuse e (judged-turned tables rule order e (tables-turned tables rule order e t))
-      back {e} (judgedRefused {T} t r) = refuse e (judged-turned tables rule order e (rule-turned tables rule order T e t r))
-      back (orderRefused {T} {ρ} t r h bad) = refuse Disordered (judged-turned tables rule order Disordered (order-turned tables rule order T ρ t r h bad))
+      back {e} (tablesRefused t) = refuse e (judged-rejected tables rule order e (tables-rejected tables rule order e t))
+      back {e} (judgedRefused {T} t r) = refuse e (judged-rejected tables rule order e (rule-rejected tables rule order T e t r))
+      back (orderRefused {T} {ρ} t r h bad) = refuse NotAnOrder (judged-rejected tables rule order NotAnOrder (order-rejected tables rule order T ρ t r h bad))
       back (verdictLonger a l) =
           let (b, is, told) = judged-reports a in
           ap (lent n) is ∙ lent-short n b (omega (arith, told .long))
@@ -78,7 +78,7 @@ written-admitted {tables} {rule} {order} n b q = go (met tables rule order)
     never {d} is = let z : _≡_ {A = ℕ} 0 1 = cc (sym (lent-refused n d) ∙ ap (lent n) (sym is) ∙ q) in absurd (omega arith)
 
     go : Met tables rule order → (T : Tables) × (ρ : Rule) × Admitted tables rule order T ρ × (26 ≤ n)
-    go (badTables d t) = never (judged-turned tables rule order d (tables-turned tables rule order d t))
-    go (badRule T d t r) = never (judged-turned tables rule order d (rule-turned tables rule order T d t r))
-    go (badOrder T ρ t r h bad) = never (judged-turned tables rule order Disordered (order-turned tables rule order T ρ t r h bad))
+    go (badTables d t) = never (judged-rejected tables rule order d (tables-rejected tables rule order d t))
+    go (badRule T d t r) = never (judged-rejected tables rule order d (rule-rejected tables rule order T d t r))
+    go (badOrder T ρ t r h bad) = never (judged-rejected tables rule order NotAnOrder (order-rejected tables rule order T ρ t r h bad))
     go (good T ρ a) = (T, ρ, a, omega (arith, lent-room n (judged tables rule order) b q, written-length tables rule order b (lent-wrote n (judged tables rule order) b q)))

@@ -7,9 +7,9 @@ use lib.ListN.{length, take, drop}
 use Rattle.answers.specs.Refusal.{numberOf}
 use Rattle.answers.specs.Answer.{Answer, lent, reply, outputAfter}
 use Rattle.answers.specs.declared.Refusal.{Refusal}
-use Rattle.answers.specs.declared.Refusal.the-variants.{NoRulesFormula, ShortSheet, Disordered}
+use Rattle.answers.specs.declared.Refusal.the-variants.{NoRulesFormula, ShortSheet, NotAnOrder}
 use Rattle.tables.specs.Tables.{Tables}
-use Rattle.tables.specs.Reading.{turned, taken, tablesOf}
+use Rattle.tables.specs.Reading.{rejected, taken, tablesOf}
 use Rattle.syntax.specs.Bytes.{Bytes}
 use Rattle.syntax.specs.Rule.{Rule, ruleOf}
 use Rattle.rules.specs.Accept.{refusal}
@@ -69,10 +69,10 @@ pub data RebuildRefuses (f : Bytes) (n : ℕ) : Refusal → Type 0 where
 
 -- "Judging checks tables, rule, order"; "There 17 follows 18", and "L is 26".
 pub data JudgeRefuses (tables rule order : Bytes) (n : ℕ) : Refusal → Type 0 where
-  tablesRefused : {e : Refusal} → tablesOf tables ≡ turned e → JudgeRefuses tables rule order n e
+  tablesRefused : {e : Refusal} → tablesOf tables ≡ rejected e → JudgeRefuses tables rule order n e
   judgedRefused : {T : Tables} {e : Refusal} → tablesOf tables ≡ taken T → refusal rule ≡ some e → JudgeRefuses tables rule order n e
   orderRefused : {T : Tables} {ρ : Rule} → tablesOf tables ≡ taken T → refusal rule ≡ none → ruleOf rule ≡ some ρ → (OrderOf ρ order → ⊥)
-      → JudgeRefuses tables rule order n Disordered
+      → JudgeRefuses tables rule order n NotAnOrder
   verdictLonger : {T : Tables} {ρ : Rule} → Admitted tables rule order T ρ → n < 26 → JudgeRefuses tables rule order n ShortSheet
 
 -- "any sheet long enough" for the formula of a rule.

@@ -5,7 +5,7 @@ use mathlib.Core.List.{List, [], _∷_, _++_}
 use Prim.Native.Nat.{ℕ, _-_}
 use lib.ListN.{length, replicate}
 use Rattle.answers.specs.Answer.{Answer, refused, wrote}
-use Rattle.answers.specs.declared.Refusal.the-variants.{NoRulesFormula, Disordered}
+use Rattle.answers.specs.declared.Refusal.the-variants.{NoRulesFormula, NotAnOrder}
 use Rattle.syntax.specs.Bytes.{Bytes, ascii}
 use Rattle.formulas.specs.Formulas.{reduced, Rebuilds}
 use Rattle.verdicts.specs.Verdict.{judged}
@@ -62,7 +62,7 @@ table =
     ∷ gives ruleC (1 ∷ []) (verdict 2 2 2 (0 ∷ []) 100)  -- G: C gives 2, 2
     ∷ gives (ascii "OE(U)=OE(U)") (1 ∷ []) (verdict 0 2 0 [] 0)  -- H: gives 2, 0
     ∷ gives (ascii "|(roles(OE(S))&OE(CR))|<=1") (1 ∷ 2 ∷ []) (verdict 1 0 0 [] 255)  -- I: line 2 gives 0, 0
-    ∷ gives ruleB (2 ∷ 1 ∷ 3 ∷ []) (refused Disordered)  -- J: order 2 1 3 for B is 18
+    ∷ gives ruleB (2 ∷ 1 ∷ 3 ∷ []) (refused NotAnOrder)  -- J: order 2 1 3 for B is 18
     ∷ isNone (ascii "[v1@U]:U=U")  -- K: are 16
     ∷ isNone (ascii "[v1@U][v2@U]:v1=v2")
     ∷ gives ruleD [] (verdict 0 1 0 [] 0)  -- line 3 of the day sheet

@@ -12,7 +12,7 @@ use lib.ListN.{length}
 use borrow.Author.Tests.{lt-ltb, le-ltb, le-leb, lt-leb}
 use Rattle.answers.specs.Refusal.{numberOf}
 use Rattle.answers.specs.declared.Refusal.{Refusal}
-use Rattle.answers.specs.declared.Refusal.the-variants.{RuleLength, Deep, NotARule, Unkind, Choices}
+use Rattle.answers.specs.declared.Refusal.the-variants.{RuleLength, Deep, NotARule, KindMismatch, Choices}
 use Rattle.syntax.specs.Bytes.{Bytes}
 use Rattle.syntax.specs.Rule.{Rule, ruleVars, ruleOf}
 use Rattle.rules.specs.Accept.{deep, treeRefusal, refusal}
@@ -45,9 +45,9 @@ module _ (s : Bytes) (lo : 0 < length s) (hi : length s ≤ 256) where
     refuse-tree e = rw (lt-ltb 0 (length s) lo, le-leb (length s) 256 hi, d, e, refusal)
 
 module _ (ρ : Rule) where
-  pub tree-unkind : ruleKinds ρ ≡ false → treeRefusal ρ ≡ some Unkind
+  pub tree-mismatch : ruleKinds ρ ≡ false → treeRefusal ρ ≡ some KindMismatch
   unfolding treeRefusal
-  tree-unkind k = rw (k, treeRefusal)
+  tree-mismatch k = rw (k, treeRefusal)
 
   pub tree-choices : ruleKinds ρ ≡ true → 8 < length (ruleVars [] ρ) → treeRefusal ρ ≡ some Choices
   unfolding treeRefusal
@@ -64,7 +64,7 @@ module _ (ρ : Rule) where
       where
         go : (b : Bool) → ruleKinds ρ ≡ b → ruleKinds ρ ≡ true
         go true k = k
-        go false k = cc (tree-unkind k, e)
+        go false k = cc (tree-mismatch k, e)
 
     pub tree-few : length (ruleVars [] ρ) ≤ 8
     tree-few = go (decLt 8 (length (ruleVars [] ρ)))
@@ -106,8 +106,8 @@ tree-early : (ρ : Rule) (r : Refusal) → treeRefusal ρ ≡ some r → Early r
 unfolding treeRefusal
 tree-early ρ r e = go (ruleKinds ρ) (leb (length (ruleVars [] ρ)) 8) e
   where
-    go : (k b : Bool) → _≡_ {A = Option Refusal} (elim k [ false ↦ some Unkind | true ↦ elim b [ false ↦ some Choices | true ↦ none ] ]) (some r) → Early r
-    go false b q = let p : Unkind ≡ r = cc in rw (← p) (lit≤ tt, lit≤ tt)
+    go : (k b : Bool) → _≡_ {A = Option Refusal} (elim k [ false ↦ some KindMismatch | true ↦ elim b [ false ↦ some Choices | true ↦ none ] ]) (some r) → Early r
+    go false b q = let p : KindMismatch ≡ r = cc in rw (← p) (lit≤ tt, lit≤ tt)
     go true false q = let p : Choices ≡ r = cc in rw (← p) (lit≤ tt, lit≤ tt)
     go true true q = let z : _≡_ {A = ℕ} 0 1 = cc in absurd (omega arith)
 

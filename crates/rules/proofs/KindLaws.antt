@@ -182,12 +182,12 @@ abbrev pub stepNumber : List ℕ → List ℕ → ℕ → ℕ
 stepNumber ns ks k = nodeNumber (opAt ns k) (getD ks (leftAt ns k) noKind) (getD ks (rightAt ns k) noKind)
 
 -- The operation o makes a term of one argument, whose kind f gives.
-record Makes (o : ℕ) (f : Kind → Option Kind) : Type 0 where
+record MakesKind (o : ℕ) (f : Kind → Option Kind) : Type 0 where
   low : firstCall ≤ o
   high : o < firstPair
   is : getD oneArgument (o - firstCall) (λ _. none) ≡ f
 
-fn-makes : (f : Fn) → Makes (fnOp f) (callKind f)
+fn-makes : (f : Fn) → MakesKind (fnOp f) (callKind f)
 unfolding fnOp oneArgument
 fn-makes user = record { low = lit≤ tt; high = lit< tt; is = refl }
 fn-makes roles = record { low = lit≤ tt; high = lit< tt; is = refl }
@@ -197,11 +197,11 @@ fn-makes permissions = record { low = lit≤ tt; high = lit< tt; is = refl }
 fn-makes permissions* = record { low = lit≤ tt; high = lit< tt; is = refl }
 fn-makes object = record { low = lit≤ tt; high = lit< tt; is = refl }
 
-oe-makes : Makes oeOp oneKind
+oe-makes : MakesKind oeOp oneKind
 unfolding oneArgument
 oe-makes = record { low = lit≤ tt; high = lit< tt; is = refl }
 
-ao-makes : Makes aoOp othersKind
+ao-makes : MakesKind aoOp othersKind
 unfolding oneArgument
 ao-makes = record { low = lit≤ tt; high = lit< tt; is = refl }
 
@@ -217,7 +217,7 @@ base-numbers bCR x y = record { small = lit< tt; is = refl }
 base-numbers bCP x y = record { small = lit< tt; is = refl }
 base-numbers bCU x y = record { small = lit< tt; is = refl }
 
-one-numbers : {o : ℕ} {f : Kind → Option Kind} → Makes o f → (x y : ℕ) → x < kindsFit → Numbers (nodeNumber o x y) (with (kindOf x) f)
+one-numbers : {o : ℕ} {f : Kind → Option Kind} → MakesKind o f → (x y : ℕ) → x < kindsFit → Numbers (nodeNumber o x y) (with (kindOf x) f)
 unfolding nodeNumber
 one-numbers {o} {f} m x y h =
     rw (le-ltb o firstCall (m .low), lt-ltb o firstPair (m .high)) (subst (λ (g : Kind → Option Kind). Numbers (oneNumber o x) (with (kindOf x) g)) (m .is) (one-law o x (m .low) (m .high) h))
@@ -260,7 +260,7 @@ module _ (ns ks : List ℕ) (k : ℕ) (below : Kinded ns k ks) where
       let w = below .at j h .term b x in
       rw p (record { small = w .0; is = w .1 })
 
-  one-step : {o i : ℕ} {f : Kind → Option Kind} (a : Term) → Makes o f → One ns k o i → Holds ns i a → Numbers (stepNumber ns ks k) (with (kind a) f)
+  one-step : {o i : ℕ} {f : Kind → Option Kind} (a : Term) → MakesKind o f → One ns k o i → Holds ns i a → Numbers (stepNumber ns ks k) (with (kind a) f)
   one-step {o} {i} {f} a m x y =
       let p = one-parts x (omega arith) in
       let w = at-left a p (x .below) y in

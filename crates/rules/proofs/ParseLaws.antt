@@ -12,7 +12,7 @@ use lib.ListN.{length, getD, take}
 use lib.Seq.{getD-take, length-take-le}
 use borrow.Author.Tests.{eq-eqb, ne-eqb}
 use Rattle.answers.specs.declared.Refusal.{Refusal}
-use Rattle.answers.specs.declared.Refusal.the-variants.{RuleLength, Unkind, Choices}
+use Rattle.answers.specs.declared.Refusal.the-variants.{RuleLength, KindMismatch, Choices}
 use Rattle.syntax.specs.Bytes.{Bytes}
 use Rattle.syntax.specs.Rule.{Rule, ruleText, ruleVars, formula, ruleOf}
 use Rattle.syntax.specs.code.Arena.{HoldsRule}
@@ -23,17 +23,17 @@ use Rattle.syntax.proofs.RuleLaws.{rule-text}
 use Rattle.syntax.proofs.Length.{formula-short}
 use Rattle.rules.specs.declared.Checked.{Checked}
 use Rattle.rules.specs.declared.Checked.the-variants.{Refused, Accepted}
-use Rattle.rules.specs.declared.Weighed.{Weighed}
-use Rattle.rules.specs.declared.Weighed.the-variants.{Unfit, Variables}
+use Rattle.rules.specs.declared.TreeCheck.{TreeCheck}
+use Rattle.rules.specs.declared.TreeCheck.the-variants.{Unfit, Variables}
 use Rattle.rules.specs.declared.Found.{Found}
-use Rattle.rules.specs.declared.Found.the-variants.{Turned, Rule as Tree}
+use Rattle.rules.specs.declared.Found.the-variants.{Rejected, Rule as Tree}
 use Rattle.rules.specs.Kind.{ruleKinds}
 use Rattle.rules.specs.Accept.{deep, treeRefusal, refusal}
 use Rattle.rules.specs.code.Numbers.{noKind, kindsFit, Kinded}
 use Rattle.rules.specs.code.Variables.{VarsOf}
 use Rattle.rules.specs.code.Lengths.{LengthsOf, FormulaLength}
-use Rattle.rules.specs.code.Parsed.{RuleAt, Fitted, Weighs, unfit, fit, Finds, turned, found, Blank, Parses}
-use Rattle.rules.proofs.AcceptLaws.{refuse-long, refuse-tree, tree-unkind, tree-choices, tree-fits}
+use Rattle.rules.specs.code.Parsed.{RuleAt, Fitted, ChecksTree, unfit, fit, Finds, rejected, found, Blank, Parses}
+use Rattle.rules.proofs.AcceptLaws.{refuse-long, refuse-tree, tree-mismatch, tree-choices, tree-fits}
 use Rattle.rules.proofs.NodeLaws.{lt-or-le}
 use Rattle.rules.proofs.VariableLaws.{listed-count}
 
@@ -42,15 +42,15 @@ module _ {ns : List ℕ} {n root : ℕ} {ks : List ℕ} {x : ℕ} (kinds : Kinde
   rule-kinds : (ρ : Rule) → HoldsRule ns root ρ → eqb x kindsFit ≡ ruleKinds ρ
   rule-kinds ρ h = rw at (kinds .at root within .rule ρ h)
 
-  pub weigh-unkind : {vs : List ℕ} → (x ≡ kindsFit → ⊥) → Weighs ns n root ks vs (Unfit Unkind)
-  weigh-unkind e = unfit (λ ρ h. tree-unkind ρ (sym (rule-kinds ρ h) ∙ ne-eqb x kindsFit e))
+  pub check-tree-mismatch : {vs : List ℕ} → (x ≡ kindsFit → ⊥) → ChecksTree ns n root ks vs (Unfit KindMismatch)
+  check-tree-mismatch e = unfit (λ ρ h. tree-mismatch ρ (sym (rule-kinds ρ h) ∙ ne-eqb x kindsFit e))
 
   module _ {vs : List ℕ} {c : ℕ} (e : x ≡ kindsFit) (vars : VarsOf ns n root vs c) where
-    pub weigh-choices : 8 < c → Weighs ns n root ks vs (Unfit Choices)
-    weigh-choices many = unfit (λ ρ h. tree-choices ρ (sym (rule-kinds ρ h) ∙ eq-eqb x kindsFit e) (vars .listed ρ h .more many))
+    pub check-tree-choices : 8 < c → ChecksTree ns n root ks vs (Unfit Choices)
+    check-tree-choices many = unfit (λ ρ h. tree-choices ρ (sym (rule-kinds ρ h) ∙ eq-eqb x kindsFit e) (vars .listed ρ h .more many))
 
-    pub weigh-fit : c ≤ 8 → Weighs ns n root ks vs (Variables c)
-    weigh-fit few = fit go
+    pub check-tree-fit : c ≤ 8 → ChecksTree ns n root ks vs (Variables c)
+    check-tree-fit few = fit go
       where
         go : (ρ : Rule) → HoldsRule ns root ρ → Fitted ns n ks vs c ρ
         go ρ h =
@@ -67,11 +67,11 @@ module _ {ns : List ℕ} {n root : ℕ} {ks : List ℕ} {x : ℕ} (kinds : Kinde
 
 -- What an answer says.
 
-pub as-unfit : {ns : List ℕ} {n root : ℕ} {ks vs : List ℕ} {w : Weighed} {r : Refusal} → Weighs ns n root ks vs w → w ≡ Unfit r → (ρ : Rule) → HoldsRule ns root ρ → treeRefusal ρ ≡ some r
+pub as-unfit : {ns : List ℕ} {n root : ℕ} {ks vs : List ℕ} {w : TreeCheck} {r : Refusal} → ChecksTree ns n root ks vs w → w ≡ Unfit r → (ρ : Rule) → HoldsRule ns root ρ → treeRefusal ρ ≡ some r
 as-unfit {r = r} (unfit {r = r′} f) q ρ h = let e : r′ ≡ r = cc in f ρ h ∙ ap some e
 as-unfit (fit f) q ρ h = let z : _≡_ {A = ℕ} 0 1 = cc in absurd (omega arith)
 
-pub as-fit : {ns : List ℕ} {n root : ℕ} {ks vs : List ℕ} {w : Weighed} {c : ℕ} → Weighs ns n root ks vs w → w ≡ Variables c → (ρ : Rule) → HoldsRule ns root ρ → Fitted ns n ks vs c ρ
+pub as-fit : {ns : List ℕ} {n root : ℕ} {ks vs : List ℕ} {w : TreeCheck} {c : ℕ} → ChecksTree ns n root ks vs w → w ≡ Variables c → (ρ : Rule) → HoldsRule ns root ρ → Fitted ns n ks vs c ρ
 as-fit (unfit f) q ρ h = let z : _≡_ {A = ℕ} 0 1 = cc in absurd (omega arith)
 as-fit {c = c} (fit {count = c′} f) q ρ h = let e : c′ ≡ c = cc in rw e at (f ρ h)
 
@@ -87,9 +87,9 @@ as-root {k = k} {n = n} (someRule {k = k′} {n = n′} f) q =
     rw e at (rw g at f)
 
 -- The checks on a text whose tree was read.
-module _ {s ns : List ℕ} {n root : ℕ} {ks vs : List ℕ} {w : Weighed} (lo : 0 < length s) (hi : length s ≤ 256) (d : deep 0 0 s ≡ false) (t : Rooted s ns root n (ruleOf s)) (x : Weighs ns n root ks vs w) where
-  pub find-unfit : {r : Refusal} → w ≡ Unfit r → Finds s ns ks vs (Turned r)
-  find-unfit q = turned (refuse-tree s lo hi d (t .is) ∙ as-unfit x q (t .rule) (t .holds))
+module _ {s ns : List ℕ} {n root : ℕ} {ks vs : List ℕ} {w : TreeCheck} (lo : 0 < length s) (hi : length s ≤ 256) (d : deep 0 0 s ≡ false) (t : Rooted s ns root n (ruleOf s)) (x : ChecksTree ns n root ks vs w) where
+  pub find-unfit : {r : Refusal} → w ≡ Unfit r → Finds s ns ks vs (Rejected r)
+  find-unfit q = rejected (refuse-tree s lo hi d (t .is) ∙ as-unfit x q (t .rule) (t .holds))
 
   pub find-rule : {c : ℕ} → w ≡ Variables c → Finds s ns ks vs (Tree n root c)
   find-rule q =
@@ -109,15 +109,15 @@ module _ {s ns : List ℕ} {n root : ℕ} {ks vs : List ℕ} {w : Weighed} (lo :
 
 -- A parsed text.
 
-pub parse-turned : {s ns ks vs ns₀ ks₀ vs₀ : List ℕ} {f : Found} {r : Refusal} {o : Checked} {n root count : ℕ} → Finds s ns₀ ks₀ vs₀ f → f ≡ Turned r → o ≡ Refused r
+pub parse-rejected : {s ns ks vs ns₀ ks₀ vs₀ : List ℕ} {f : Found} {r : Refusal} {o : Checked} {n root count : ℕ} → Finds s ns₀ ks₀ vs₀ f → f ≡ Rejected r → o ≡ Refused r
     → Blank ns n root ks vs count → Parses s ns ks vs o n root count
-parse-turned {r = r} (turned {r = r′} e) q h b =
+parse-rejected {r = r} (rejected {r = r′} e) q h b =
     let g : r′ ≡ r = cc in
     record { outcome = h ∙ rw (e, g); accepted = λ z. let y : _≡_ {A = ℕ} 0 1 = cc in absurd (omega arith); refused = λ _ _. b }
-parse-turned (found e a) q h b = let z : _≡_ {A = ℕ} 0 1 = cc in absurd (omega arith)
+parse-rejected (found e a) q h b = let z : _≡_ {A = ℕ} 0 1 = cc in absurd (omega arith)
 
 pub parse-found : {s ns ks vs : List ℕ} {f : Found} {n root count : ℕ} → Finds s ns ks vs f → f ≡ Tree n root count → Parses s ns ks vs Accepted n root count
-parse-found (turned e) q = let z : _≡_ {A = ℕ} 0 1 = cc in absurd (omega arith)
+parse-found (rejected e) q = let z : _≡_ {A = ℕ} 0 1 = cc in absurd (omega arith)
 parse-found {n = n} {root = root} {count = count} (found {n = n′} {root = root′} {count = count′} e a) q =
     let g : n′ ≡ n = cc in
     let h : root′ ≡ root = cc in

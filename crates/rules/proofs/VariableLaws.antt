@@ -17,7 +17,7 @@ use Rattle.syntax.specs.Term.{Term, Term≟, Choices, digitFrom, digit}
 use Rattle.syntax.specs.Rule.{add}
 use Rattle.syntax.specs.code.Arena.{Holds, HoldsAll, Apart}
 use Rattle.syntax.specs.code.Reading.{Sought}
-use Rattle.rules.specs.code.Variables.{findFrom, Listed, Added, many, known, over, new}
+use Rattle.rules.specs.code.Variables.{findFrom, VariableList, Added, many, known, over, new}
 use Rattle.syntax.proofs.ArenaLaws.{holds-once, holds-one}
 use Rattle.rules.proofs.NodeLaws.{lt-or-le}
 
@@ -94,13 +94,13 @@ add-longer σ a = go (digit σ a)
     go (some d) = omega arith
 
 -- The list has as many choices as it counts, where these are at most 8.
-pub listed-count : {ns vs : List ℕ} {n c : ℕ} {σ : Choices} → length vs ≡ 8 → Listed ns n vs c σ → c ≤ 8 → c ≡ length σ
+pub listed-count : {ns vs : List ℕ} {n c : ℕ} {σ : Choices} → length vs ≡ 8 → VariableList ns n vs c σ → c ≤ 8 → c ≡ length σ
 listed-count {ns} {vs} {n} {c} {σ} h l few =
     let q : length (take c vs) ≡ c = length-take-le c vs (omega arith) in
     sym q ∙ all-length ns (take c vs) σ (l .held few)
 
 -- The argument of an OE or AO came to the list.
-module _ {ns vs : List ℕ} {n c v : ℕ} {σ : Choices} (apart : Apart ns n) (a : Term) (x : Holds ns v a) (h : v < n) (size : length vs ≡ 8) (l : Listed ns n vs c σ) where
+module _ {ns vs : List ℕ} {n c v : ℕ} {σ : Choices} (apart : Apart ns n) (a : Term) (x : Holds ns v a) (h : v < n) (size : length vs ≡ 8) (l : VariableList ns n vs c σ) where
   listed-digit : {r : ℕ} → c ≤ 8 → Sought vs c v r → digit σ a ≡ cond (ltb r c) (some (49 + r)) none
   listed-digit few s =
       let q : length (take c vs) ≡ c = length-take-le c vs (omega arith) in
@@ -108,7 +108,7 @@ module _ {ns vs : List ℕ} {n c v : ℕ} {σ : Choices} (apart : Apart ns n) (a
       (λ i m. let j : i < c = omega arith in rw (getD-take c vs i 0 j) (l .below i j (omega arith)))
       ∙ found-digit (omega arith) s
 
-  pub listed-add : {ws : List ℕ} {d : ℕ} → Added vs c v ws d → Listed ns n ws d (add σ a)
+  pub listed-add : {ws : List ℕ} {d : ℕ} → Added vs c v ws d → VariableList ns n ws d (add σ a)
   listed-add (many m) =
       record {
         few = omega arith;

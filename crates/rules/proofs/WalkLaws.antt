@@ -13,7 +13,7 @@ use Rattle.syntax.specs.Rule.{add, vars, countVars, testVars, clauseVars, ruleV
 use Rattle.syntax.specs.code.Arena.{twoOp, emptyOp, alikeOp, cmpNumber, hasTwo, Both, Holds, HoldsTest, HoldsClause, HoldsRule, Apart}
 use Rattle.syntax.specs.code.Nodes.{firstCall, oeOp, firstPair, memberOp, firstEmpty, firstNumbered, firstCounted, whenOp, alsoOp, opAt, leftAt, rightAt, opRoom}
 use Rattle.rules.specs.code.Thing.{Thing, term, test, clause, rule, HoldsThing, thingVars}
-use Rattle.rules.specs.code.Variables.{Listed, Walked, VarsOf, Added, many, known, over, new}
+use Rattle.rules.specs.code.Variables.{VariableList, Walked, VarsOf, Added, many, known, over, new}
 use Rattle.syntax.proofs.ArenaLaws.{base-small, fn-range, two-range, Parts, none-parts, one-parts, both-parts}
 use Rattle.rules.proofs.KindLaws.{alike-op, empty-op, cmp-number}
 use Rattle.rules.proofs.NodeLaws.{numbered-parts}
@@ -121,7 +121,7 @@ module _ {ns : List ℕ} {n k : ℕ} {vs : List ℕ} {c : ℕ} where
   pub walked-bare : opAt ns k < firstCall → Walked ns n k vs c vs c
   walked-bare h = record { size = refl; adds = λ x w σ l. go x σ l (shape ns k x w) }
     where
-      go : (x : Thing) (σ : Choices) → Listed ns n vs c σ → Shape ns k x → Listed ns n vs c (thingVars σ x)
+      go : (x : Thing) (σ : Choices) → VariableList ns n vs c σ → Shape ns k x → VariableList ns n vs c (thingVars σ x)
       go x σ l (bare m e) = rw (e σ) l
       go x σ l (single y lo gap m v e) = absurd (omega arith)
       go x σ l (choosing a lo hi v e) = absurd (omega arith)
@@ -131,7 +131,7 @@ module _ {ns : List ℕ} {n k : ℕ} {vs : List ℕ} {c : ℕ} where
     pub walked-single : firstCall ≤ opAt ns k → (oeOp ≤ opAt ns k → firstPair ≤ opAt ns k) → hasTwo (opAt ns k) ≡ false → Walked ns n k vs c ws d
     walked-single lo gap none = record { size = left .size; adds = λ x w σ l. go x σ l (shape ns k x w) }
       where
-        go : (x : Thing) (σ : Choices) → Listed ns n vs c σ → Shape ns k x → Listed ns n ws d (thingVars σ x)
+        go : (x : Thing) (σ : Choices) → VariableList ns n vs c σ → Shape ns k x → VariableList ns n ws d (thingVars σ x)
         go x σ l (bare m e) = absurd (omega arith)
         go x σ l (single y lo′ gap′ m v e) = rw (e σ) (left .adds y v σ l)
         go x σ l (choosing a lo′ hi v e) = absurd (omega (arith, gap lo′))
@@ -141,7 +141,7 @@ module _ {ns : List ℕ} {n k : ℕ} {vs : List ℕ} {c : ℕ} where
       pub walked-choosing : oeOp ≤ opAt ns k → opAt ns k < firstPair → Apart ns n → leftAt ns k < n → length vs ≡ 8 → Added ws d (leftAt ns k) us b → Walked ns n k vs c us b
       walked-choosing lo hi apart small size came = record { size = added-size came ∙ left .size; adds = λ x w σ l. go x σ l (shape ns k x w) }
         where
-          go : (x : Thing) (σ : Choices) → Listed ns n vs c σ → Shape ns k x → Listed ns n us b (thingVars σ x)
+          go : (x : Thing) (σ : Choices) → VariableList ns n vs c σ → Shape ns k x → VariableList ns n us b (thingVars σ x)
           go x σ l (bare m e) = absurd (omega arith)
           go x σ l (single y lo′ gap m v e) = absurd (omega (arith, gap lo))
           go x σ l (choosing a lo′ hi′ v e) = rw (e σ) (listed-add apart a v small (left .size ∙ size) (left .adds (term a) v σ l) came)
@@ -150,7 +150,7 @@ module _ {ns : List ℕ} {n k : ℕ} {vs : List ℕ} {c : ℕ} where
       pub walked-double : hasTwo (opAt ns k) ≡ true → firstPair ≤ opAt ns k → Walked ns n (rightAt ns k) ws d us b → Walked ns n k vs c us b
       walked-double both lo right = record { size = right .size ∙ left .size; adds = λ x w σ l. go x σ l (shape ns k x w) }
         where
-          go : (x : Thing) (σ : Choices) → Listed ns n vs c σ → Shape ns k x → Listed ns n us b (thingVars σ x)
+          go : (x : Thing) (σ : Choices) → VariableList ns n vs c σ → Shape ns k x → VariableList ns n us b (thingVars σ x)
           go x σ l (bare m e) = absurd (omega arith)
           go x σ l (single y lo′ gap m v e) = let q : _≡_ {A = Bool} true false = cc in let z : _≡_ {A = ℕ} 0 1 = cc in absurd (omega arith)
           go x σ l (choosing a lo′ hi v e) = absurd (omega arith)

@@ -7,7 +7,7 @@ use Prim.Native.Nat.{ℕ, suc, _+_}
 use lib.Dec.{eqb, ltb, leb}
 use lib.ListN.{length}
 use Rattle.answers.specs.declared.Refusal.{Refusal}
-use Rattle.answers.specs.declared.Refusal.the-variants.{RuleLength, Deep, NotARule, Unkind, Choices}
+use Rattle.answers.specs.declared.Refusal.the-variants.{RuleLength, Deep, NotARule, KindMismatch, Choices}
 use Rattle.syntax.specs.Bytes.{Bytes}
 use Rattle.syntax.specs.Rule.{Rule, ruleVars, ruleOf}
 use Rattle.rules.specs.Kind.{ruleKinds}
@@ -20,7 +20,7 @@ deep o c (x ∷ s) = elim (eqb x 40) [ true ↦ ltb (c + 32) (suc o) || deep (su
 
 -- 14: "kinds do not fit"; 15: "more than 8 variables".
 unfoldable pub treeRefusal : Rule → Option Refusal
-treeRefusal ρ = elim (ruleKinds ρ) [ false ↦ some Unkind | true ↦ elim (leb (length (ruleVars [] ρ)) 8) [ false ↦ some Choices | true ↦ none ] ]
+treeRefusal ρ = elim (ruleKinds ρ) [ false ↦ some KindMismatch | true ↦ elim (leb (length (ruleVars [] ρ)) 8) [ false ↦ some Choices | true ↦ none ] ]
 
 -- "Rules are checked 11 to 15 in order": the first refusal, none where the text is accepted.
 unfoldable pub refusal : Bytes → Option Refusal

@@ -8,7 +8,7 @@ ghost use Rattle.rules.specs.declared.Checked.the-variants.{Refused};
 ghost use Rattle.rules.specs.Accept.{refusal};
 ghost use Rattle.answers.specs.Answer.{numberOrZero};
 ghost use Rattle.rules.specs.Checked.{checkedNumber};
-ghost use Rattle.rules.specs.code.Parsed.{Weighs, Finds, Blank, Parses};
+ghost use Rattle.rules.specs.code.Parsed.{ChecksTree, Finds, Blank, Parses};
 use answers::Refusal;
 use syntax::Whole;
 
@@ -36,34 +36,34 @@ pub struct Parsed {
 }
 
 // What the checks on a tree find: 14, 15, or how many variables it has.
-pub enum Weighed {
+pub enum TreeCheck {
     Unfit(Refusal),
     Variables(usize),
 }
 
 // What the checks on a text find: a refusal, or its tree.
 pub enum Found {
-    Turned(Refusal),
+    Rejected(Refusal),
     Rule { n: usize, root: usize, count: usize },
 }
 
 // The checks 14 and 15 on the tree at root, with the kinds of its nodes and the nodes of its variables.
-fn weigh(nodes: &[u32], n: usize, root: usize, kinds: &mut [u8], vars: &mut [u32]) -> Weighed
+fn check_tree(nodes: &[u32], n: usize, root: usize, kinds: &mut [u8], vars: &mut [u32]) -> TreeCheck
     requires { ⌜ Tidy (now nodes) n ⌝ }
     requires { ⌜ root < n ⌝ }
     requires { ⌜ n ≤ length (now kinds) ⌝ }
     requires { ⌜ length (now vars) ≡ 8 ⌝ }
-    ensures { λ r. ⌜ Weighs (now (nodes .entry)) n root (now (kinds .exit)) (now (vars .exit)) r ⌝ }
+    ensures { λ r. ⌜ ChecksTree (now (nodes .entry)) n root (now (kinds .exit)) (now (vars .exit)) r ⌝ }
 {
     kinds::kinds(nodes, n, kinds);
     if kinds::kind_at(kinds, root) != kinds::KINDS_FIT {
-        return Weighed::Unfit(Refusal::Unkind);
+        return TreeCheck::Unfit(Refusal::KindMismatch);
     }
     let count = variables::variables(nodes, n, root, vars);
     if count > 8 {
-        return Weighed::Unfit(Refusal::Choices);
+        return TreeCheck::Unfit(Refusal::Choices);
     }
-    Weighed::Variables(count)
+    TreeCheck::Variables(count)
 }
 
 // The checks 11 to 15 in order.
@@ -74,20 +74,20 @@ fn find(s: &[u8], nodes: &mut [u32], kinds: &mut [u8], vars: &mut [u32]) -> Foun
     ensures { λ r. ⌜ Finds (now (s .entry)) (now (nodes .exit)) (now (kinds .exit)) (now (vars .exit)) r ⌝ }
 {
     if s.len() == 0 {
-        return Found::Turned(Refusal::RuleLength);
+        return Found::Rejected(Refusal::RuleLength);
     }
     if s.len() > 256 {
-        return Found::Turned(Refusal::RuleLength);
+        return Found::Rejected(Refusal::RuleLength);
     }
     if depth::too_deep(s) {
-        return Found::Turned(Refusal::Deep);
+        return Found::Rejected(Refusal::Deep);
     }
     let Whole::Root { node, n } = syntax::rule(s, nodes) else {
-        return Found::Turned(Refusal::NotARule);
+        return Found::Rejected(Refusal::NotARule);
     };
-    match weigh(nodes, n, node, kinds, vars) {
-        Weighed::Unfit(r) => Found::Turned(r),
-        Weighed::Variables(count) => Found::Rule {
+    match check_tree(nodes, n, node, kinds, vars) {
+        TreeCheck::Unfit(r) => Found::Rejected(r),
+        TreeCheck::Variables(count) => Found::Rule {
             n: n,
             root: node,
             count: count,
@@ -96,7 +96,7 @@ fn find(s: &[u8], nodes: &mut [u32], kinds: &mut [u8], vars: &mut [u32]) -> Foun
 }
 
 // The answer to a text that is refused.
-fn turned(r: Refusal) -> Parsed
+fn rejected(r: Refusal) -> Parsed
     ensures { λ p. ⌜ p .outcome ≡ Refused r ⌝ }
     ensures { λ p. ⌜ Blank (p .nodes) (p .n) (p .root) (p .kinds) (p .vars) (p .count) ⌝ }
 {
@@ -119,7 +119,7 @@ pub fn parse(s: &[u8]) -> Parsed
     let mut kinds = [kinds::NO_KIND; 256];
     let mut vars = [0u32; 8];
     match find(s, &mut nodes, &mut kinds, &mut vars) {
-        Found::Turned(r) => turned(r),
+        Found::Rejected(r) => rejected(r),
         Found::Rule { n, root, count } => Parsed {
             outcome: Checked::Accepted,
             nodes: nodes,

@@ -32,7 +32,7 @@ use Rattle.verdicts.specs.Verdict.{acceptedVerdict, tablesVerdict, verdictOf}
 use Rattle.verdicts.specs.Report.{OrderOf}
 use Rattle.verdicts.proofs.VerdictLaws.{turn-order}
 use Rattle.verdicts.proofs.ReportLaws.{verdict-reports}
-use Rattle.sheets.specs.Line.{numbered, saysOf, lineText}
+use Rattle.sheets.specs.Line.{labelled, saysOf, lineText}
 use Rattle.sheets.specs.Sheet.{orderOf, ruleVerdict, sheetBy, sheetOf, sheetLine}
 use Rattle.sheets.specs.Promise.{Lines, Wrote, TooShort, LineReports}
 use Rattle.sheets.proofs.SheetLaws.{judged-some}
@@ -95,6 +95,6 @@ module _ (tables rules : Bytes) (T : Tables) (t : tablesOf tables ≡ taken T) (
 
   -- A refused rule's line is its number behind `refused`: "or line number, `refused`, number".
   pub line-refused : (e : Refusal) → refusal rule ≡ some e
-      → sheetLine (sheetOf tables rules) (suc k) ≡ decimalOf (suc k) ++ numbered (ascii " refused ") (numberOf e)
+      → sheetLine (sheetOf tables rules) (suc k) ≡ decimalOf (suc k) ++ labelled (ascii " refused ") (numberOf e)
   unfolding ruleVerdict acceptedVerdict saysOf
   line-refused e h = line-is ∙ rw h

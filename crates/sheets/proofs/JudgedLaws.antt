@@ -19,19 +19,19 @@ use Rattle.rules.specs.code.Parsed.{checkedOf, Parses}
 use Rattle.tables.specs.declared.Outcome.{Outcome}
 use Rattle.tables.specs.declared.Outcome.the-variants.{Refused, Accepted}
 use Rattle.tables.specs.Tables.{Tables}
-use Rattle.tables.specs.Reading.{Reading, turned, taken, tablesOf, outcomeNumber, readingNumber}
-use Rattle.tables.specs.code.Reads.{outcomeOf}
+use Rattle.tables.specs.Reading.{Reading, rejected, taken, tablesOf, outcomeNumber, readingNumber}
+use Rattle.tables.specs.code.Reads.{readingOutcome}
 use Rattle.tables.proofs.LoadLaws.{outcome-case}
-use Rattle.texts.specs.code.Written.{Written}
+use Rattle.texts.specs.code.Overwritten.{Overwritten}
 use Rattle.texts.specs.declared.Span.{Span}
 use Rattle.texts.specs.declared.Span.the-variants.{Missing, Found}
 use Rattle.texts.specs.Pieces.{lines}
 use Rattle.texts.specs.code.Spans.{Spans}
 use Rattle.texts.proofs.SpansLaws.{missing, lies}
-use Rattle.texts.proofs.WrittenLaws.{none-written}
+use Rattle.texts.proofs.OverwrittenLaws.{none-written}
 use Rattle.verdicts.specs.declared.Verdict.{Verdict}
 use Rattle.verdicts.specs.Verdict.{acceptedVerdict, tablesVerdict, verdictOf}
-use Rattle.sheets.specs.Line.{lineText, numbered}
+use Rattle.sheets.specs.Line.{lineText, labelled}
 use Rattle.walks.specs.Order.{upFrom}
 use Rattle.sheets.specs.Sheet.{orderOf, ruleVerdict, only, unlessLong, sheetBy, sheetOf, sheetLine}
 use Rattle.sheets.specs.code.Orders.{Counted}
@@ -43,13 +43,13 @@ pub record Took (R : Reading) : Type 0 where
   pub tables : Tables
   pub is : R ≡ taken tables
 
-pub was-taken : (R : Reading) → outcomeOf R ≡ Accepted → Took R
-was-taken (turned e) q = let z : _≡_ {A = ℕ} 0 1 = cc in absurd (omega arith)
+pub was-taken : (R : Reading) → readingOutcome R ≡ Accepted → Took R
+was-taken (rejected e) q = let z : _≡_ {A = ℕ} 0 1 = cc in absurd (omega arith)
 was-taken (taken T) q = record { tables = T; is = refl }
 
-pub was-turned : (R : Reading) {e : Refusal} → outcomeOf R ≡ Refused e → R ≡ turned e
-was-turned (turned f) {e} q = let x : f ≡ e = cc in ap turned x
-was-turned (taken T) q = let z : _≡_ {A = ℕ} 0 1 = cc in absurd (omega arith)
+pub was-rejected : (R : Reading) {e : Refusal} → readingOutcome R ≡ Refused e → R ≡ rejected e
+was-rejected (rejected f) {e} q = let x : f ≡ e = cc in ap rejected x
+was-rejected (taken T) q = let z : _≡_ {A = ℕ} 0 1 = cc in absurd (omega arith)
 
 -- Rules
 
@@ -92,9 +92,9 @@ verdict-is tables {rule} {n} T k t e = e ∙ rw (t, ← eight, take-up n 8 1 (k 
 
 module _ (T : Tables) (rules : Bytes) (place : ℕ) where
   abbrev Made : List ℕ → List ℕ → ℕ → Type 0
-  Made old new n = Written (sheetLine (unlessLong (leb (length rules) 32768) T rules) place) old new n
+  Made old new n = Overwritten (sheetLine (unlessLong (leb (length rules) 32768) T rules) place) old new n
 
-  pub long-made : {old new : List ℕ} {n : ℕ} → 32768 < length rules → Written (sheetLine (only (ascii "rules too long")) place) old new n → Made old new n
+  pub long-made : {old new : List ℕ} {n : ℕ} → 32768 < length rules → Overwritten (sheetLine (only (ascii "rules too long")) place) old new n → Made old new n
   long-made h w = rw (lt-leb (length rules) 32768 h) w
 
   pub zero-made : (old : List ℕ) → place ≡ 0 → Made old old 0
@@ -105,19 +105,19 @@ module _ (T : Tables) (rules : Bytes) (place : ℕ) where
 
   pub found-made : {p : Span} {a e : ℕ} {old new : List ℕ} {n : ℕ} → length rules ≤ 32768 → (place ≡ 0 → ⊥)
       → Spans rules (getElem? (lines rules) (place - 1)) p → p ≡ Found a e
-      → Written (lineText place (ruleVerdict T (take (e - a) (drop a rules)))) old new n → Made old new n
+      → Overwritten (lineText place (ruleVerdict T (take (e - a) (drop a rules)))) old new n → Made old new n
   found-made h z f q w = let l = lies f q in rw (le-leb (length rules) 32768 h, judged-some T (lines rules) place _ z (l .bytes)) w
 
 -- The line at a place of any tables
 
 module _ (tables rules : Bytes) (place : ℕ) (o : Outcome) (r : outcomeNumber o ≡ readingNumber (tablesOf tables)) where
-  pub turned-made : {e : Refusal} {old new : List ℕ} {n : ℕ} → o ≡ Refused e
-      → Written (sheetLine (only (numbered (ascii "tables refused ") (numberOf e))) place) old new n → Written (sheetLine (sheetOf tables rules) place) old new n
+  pub rejected-made : {e : Refusal} {old new : List ℕ} {n : ℕ} → o ≡ Refused e
+      → Overwritten (sheetLine (only (labelled (ascii "tables refused ") (numberOf e))) place) old new n → Overwritten (sheetLine (sheetOf tables rules) place) old new n
   unfolding sheetOf sheetBy
-  turned-made q w = rw (was-turned (tablesOf tables) (sym (outcome-case (tablesOf tables) o r) ∙ q)) w
+  rejected-made q w = rw (was-rejected (tablesOf tables) (sym (outcome-case (tablesOf tables) o r) ∙ q)) w
 
   pub taken-made : {old new : List ℕ} {n : ℕ} → o ≡ Accepted
-      → ((T : Tables) → tablesOf tables ≡ taken T → Written (sheetLine (unlessLong (leb (length rules) 32768) T rules) place) old new n)
-      → Written (sheetLine (sheetOf tables rules) place) old new n
+      → ((T : Tables) → tablesOf tables ≡ taken T → Overwritten (sheetLine (unlessLong (leb (length rules) 32768) T rules) place) old new n)
+      → Overwritten (sheetLine (sheetOf tables rules) place) old new n
   unfolding sheetOf sheetBy
   taken-made q f = let t = was-taken (tablesOf tables) (sym (outcome-case (tablesOf tables) o r) ∙ q) in rw (t .is) (f (t .tables) (t .is))

@@ -9,11 +9,11 @@ use borrow.Author.Tests.{eq-eqb, ne-eqb}
 use lib.ListN.{length, drop, getD, length-append, drop-of-length-le}
 use lib.Seq.{drop-cons}
 use Rattle.syntax.specs.Bytes.{ascii}
-use Rattle.texts.specs.code.Written.{Written}
+use Rattle.texts.specs.code.Overwritten.{Overwritten}
 use Rattle.texts.proofs.DecimalLaws.{digits-short}
-use Rattle.texts.proofs.WrittenLaws.{none-written}
+use Rattle.texts.proofs.OverwrittenLaws.{none-written}
 use Rattle.verdicts.specs.declared.Verdict.{Verdict}
-use Rattle.sheets.specs.Line.{numbered, choicesFrom, countsOf, sharedOf}
+use Rattle.sheets.specs.Line.{labelled, choicesFrom, countsOf, sharedOf}
 
 pub counts-short : (w : List ℕ) (v : Verdict) → length (countsOf w v) ≤ length w + 41
 unfolding countsOf
@@ -23,21 +23,21 @@ pub shared-short : (w : List ℕ) (v : Verdict) → length (sharedOf w v) ≤ le
 unfolding sharedOf
 shared-short w v = simp length-append (omega (arith, counts-short w v, digits-short 20 (v .share)))
 
-pub choice-short : (i x : ℕ) → length (numbered (ascii " v") i ++ numbered (ascii "=") x) ≤ 43
+pub choice-short : (i x : ℕ) → length (labelled (ascii " v") i ++ labelled (ascii "=") x) ≤ 43
 choice-short i x = simp length-append (omega (arith, digits-short 20 i, digits-short 20 x))
 
 module _ (first : List ℕ) (k : ℕ) where
-  pub none-left : (old : List ℕ) → length first ≤ k → Written (choicesFrom (k + 1) (drop k first)) old old 0
+  pub none-left : (old : List ℕ) → length first ≤ k → Overwritten (choicesFrom (k + 1) (drop k first)) old old 0
   unfolding choicesFrom
   none-left old h = rw (drop-of-length-le first h) (none-written old)
 
-  pub none-chosen : (old : List ℕ) → k < length first → getD first k 0 ≡ 255 → Written (choicesFrom (k + 1) (drop k first)) old old 0
+  pub none-chosen : (old : List ℕ) → k < length first → getD first k 0 ≡ 255 → Overwritten (choicesFrom (k + 1) (drop k first)) old old 0
   unfolding choicesFrom
   none-chosen old h e = rw (drop-cons first k 0 h, eq-eqb (getD first k 0) 255 e) (none-written old)
 
   pub one-chosen : {old new : List ℕ} {n : ℕ} → k < length first → (getD first k 0 ≡ 255 → ⊥)
-      → Written ((numbered (ascii " v") (k + 1) ++ numbered (ascii "=") (getD first k 0)) ++ choicesFrom (k + 1 + 1) (drop (k + 1) first)) old new n
-      → Written (choicesFrom (k + 1) (drop k first)) old new n
+      → Overwritten ((labelled (ascii " v") (k + 1) ++ labelled (ascii "=") (getD first k 0)) ++ choicesFrom (k + 1 + 1) (drop (k + 1) first)) old new n
+      → Overwritten (choicesFrom (k + 1) (drop k first)) old new n
   unfolding choicesFrom
   one-chosen h e w =
       let a : suc (k + 1) ≡ k + 1 + 1 = omega arith in

@@ -7,7 +7,7 @@ use Prim.Native.Nat.{ℕ}
 use native.Mathlib.Omega.{arith}
 use lib.Dec.{eqb, ltb}
 use Rattle.answers.specs.declared.Refusal.{Refusal}
-use Rattle.answers.specs.declared.Refusal.the-variants.{Disordered}
+use Rattle.answers.specs.declared.Refusal.the-variants.{NotAnOrder}
 use Rattle.syntax.specs.Bytes.{Bytes}
 use Rattle.syntax.specs.Rule.{Rule, ruleOf}
 use Rattle.rules.specs.Accept.{refusal}
@@ -46,13 +46,13 @@ module _ (T : Tables) (rule : Bytes) (ok : refusal rule ≡ none) where
       no-refusal (fullCount T ρ) (breakingCount T ρ) e (sym (outcome-in-turn ρ h) ∙ q)
 
 -- No line says 18, whatever its rule: a refused rule is refused by 11 to 15.
-pub never-disordered : (T : Tables) (rule : Bytes) → ruleVerdict T rule .outcome ≡ Refused Disordered → ⊥
+pub never-disordered : (T : Tables) (rule : Bytes) → ruleVerdict T rule .outcome ≡ Refused NotAnOrder → ⊥
 unfolding ruleVerdict acceptedVerdict
 never-disordered T rule q = go (refusal rule) refl
   where
     go : (r : Option Refusal) → refusal rule ≡ r → ⊥
-    go none ok = never-refused T rule ok Disordered q
+    go none ok = never-refused T rule ok NotAnOrder q
     go (some e) is =
-        let said : Refused e ≡ Refused Disordered = rw is at q in
-        let same : e ≡ Disordered = cc in
-        absurd (omega (arith, refused-early rule Disordered (is ∙ ap some same) .1))
+        let said : Refused e ≡ Refused NotAnOrder = rw is at q in
+        let same : e ≡ NotAnOrder = cc in
+        absurd (omega (arith, refused-early rule NotAnOrder (is ∙ ap some same) .1))

@@ -9,8 +9,8 @@ use native.Mathlib.Omega.{arith}
 use lib.ListN.{getElem?}
 use Rattle.syntax.specs.Bytes.{Bytes}
 use Rattle.tables.specs.Tables.{Tables}
-use Rattle.texts.specs.code.Written.{Written}
-use Rattle.texts.proofs.WrittenLaws.{none-written}
+use Rattle.texts.specs.code.Overwritten.{Overwritten}
+use Rattle.texts.proofs.OverwrittenLaws.{none-written}
 use Rattle.sheets.specs.Line.{lineText}
 use Rattle.sheets.specs.Sheet.{ruleVerdict, judgedFrom, only, sheetLine}
 
@@ -26,10 +26,10 @@ no-line w zero n = refl
 no-line w (suc zero) n = absurd (n refl)
 no-line w (suc (suc k)) n = refl
 
-pub nothing-made : (w : Bytes) (place : ℕ) (old : List ℕ) → (place ≡ 1 → ⊥) → Written (sheetLine (only w) place) old old 0
+pub nothing-made : (w : Bytes) (place : ℕ) (old : List ℕ) → (place ≡ 1 → ⊥) → Overwritten (sheetLine (only w) place) old old 0
 nothing-made w place old n = rw (no-line w place n) (none-written old)
 
-pub one-made : {w : Bytes} {place : ℕ} {old new : List ℕ} {n : ℕ} → place ≡ 1 → Written w old new n → Written (sheetLine (only w) place) old new n
+pub one-made : {w : Bytes} {place : ℕ} {old new : List ℕ} {n : ℕ} → place ≡ 1 → Overwritten w old new n → Overwritten (sheetLine (only w) place) old new n
 one-made {w} {place} e r = rw (first-line w place e) r
 
 -- The line at a place of judged rules is that of the rule there.

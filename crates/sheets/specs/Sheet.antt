@@ -11,12 +11,12 @@ use Rattle.syntax.specs.Bytes.{Bytes, ascii}
 use Rattle.syntax.specs.Rule.{Rule, ruleVars, ruleOf}
 use Rattle.rules.specs.Accept.{refusal}
 use Rattle.tables.specs.Tables.{Tables}
-use Rattle.tables.specs.Reading.{Reading, turned, taken, tablesOf}
+use Rattle.tables.specs.Reading.{Reading, rejected, taken, tablesOf}
 use Rattle.texts.specs.Pieces.{lines}
 use Rattle.walks.specs.Order.{upFrom}
 use Rattle.verdicts.specs.declared.Verdict.{Verdict}
 use Rattle.verdicts.specs.Verdict.{acceptedVerdict}
-use Rattle.sheets.specs.Line.{numbered, lineText}
+use Rattle.sheets.specs.Line.{labelled, lineText}
 
 -- "The order is 1, 2, ..": one byte for each variable; no rule, no variables.
 unfoldable pub orderOf : Option Rule → Bytes
@@ -43,7 +43,7 @@ unlessLong false T rules = only (ascii "rules too long")
 
 -- "Refused tables print only `tables refused N`, before the rules' length is looked at."
 unfoldable pub sheetBy : Reading → Bytes → List Bytes
-sheetBy (turned e) rules = only (numbered (ascii "tables refused ") (numberOf e))
+sheetBy (rejected e) rules = only (labelled (ascii "tables refused ") (numberOf e))
 sheetBy (taken T) rules = unlessLong (leb (length rules) 32768) T rules
 
 unfoldable pub sheetOf : Bytes → Bytes → List Bytes

@@ -16,8 +16,8 @@ ghost use Rattle.answers.specs.Refusal.{numberOf};
 ghost use Rattle.syntax.specs.Bytes.{ascii};
 ghost use Rattle.tables.specs.Tables.{Tables};
 ghost use Rattle.tables.specs.Reading.{taken, tablesOf};
-ghost use Rattle.texts.specs.code.Written.{Written as Puts};
-ghost use Rattle.sheets.specs.Line.{numbered, lineText};
+ghost use Rattle.texts.specs.code.Overwritten.{Overwritten};
+ghost use Rattle.sheets.specs.Line.{labelled, lineText};
 ghost use Rattle.sheets.specs.Sheet.{only, ruleVerdict, unlessLong, sheetOf, sheetLine};
 ghost use Rattle.sheets.specs.Promise.{Lines};
 ghost use Rattle.sheets.specs.code.Orders.{Counted};
@@ -34,18 +34,18 @@ pub fn line(tables: &[u8], rules: &[u8], place: usize, out: &mut [u8]) -> Writte
 // The sheet of refused tables.
 fn refused_tables(e: Refusal, place: usize, out: &mut [u8]) -> usize
     requires { ⌜ 512 ≤ length (now out) ⌝ }
-    ensures { λ r. ⌜ Puts (sheetLine (only (numbered (ascii "tables refused ") (numberOf e))) place) (now (out .entry)) (now (out .exit)) r ⌝ }
+    ensures { λ r. ⌜ Overwritten (sheetLine (only (labelled (ascii "tables refused ") (numberOf e))) place) (now (out .entry)) (now (out .exit)) r ⌝ }
 {
     if place != 1 {
         return 0;
     }
-    text::numbered_by(b"tables refused ", answers::number(e) as u64, out)
+    text::labelled(b"tables refused ", answers::number(e) as u64, out)
 }
 
 // The sheet of rules that are too long.
 fn long_rules(place: usize, out: &mut [u8]) -> usize
     requires { ⌜ 512 ≤ length (now out) ⌝ }
-    ensures { λ r. ⌜ Puts (sheetLine (only (ascii "rules too long")) place) (now (out .entry)) (now (out .exit)) r ⌝ }
+    ensures { λ r. ⌜ Overwritten (sheetLine (only (ascii "rules too long")) place) (now (out .entry)) (now (out .exit)) r ⌝ }
 {
     if place != 1 {
         return 0;
@@ -56,7 +56,7 @@ fn long_rules(place: usize, out: &mut [u8]) -> usize
 // The line of any tables and rules.
 fn write_line(tables: &[u8], rules: &[u8], place: usize, out: &mut [u8]) -> usize
     requires { ⌜ 512 ≤ length (now out) ⌝ }
-    ensures { λ r. ⌜ Puts (sheetLine (sheetOf (now (tables .entry)) (now (rules .entry))) place) (now (out .entry)) (now (out .exit)) r ⌝ }
+    ensures { λ r. ⌜ Overwritten (sheetLine (sheetOf (now (tables .entry)) (now (rules .entry))) place) (now (out .entry)) (now (out .exit)) r ⌝ }
 {
     let loaded = tables::read(tables);
     let outcome = loaded.outcome;
@@ -69,7 +69,7 @@ fn write_line(tables: &[u8], rules: &[u8], place: usize, out: &mut [u8]) -> usiz
 // The line of accepted tables.
 fn judged_line(tables: &[u8], rules: &[u8], place: usize, out: &mut [u8]) -> usize
     requires { ⌜ 512 ≤ length (now out) ⌝ }
-    ensures { λ r. ⌜ ((T : Tables) → tablesOf (now (tables .entry)) ≡ taken T → Puts (sheetLine (unlessLong (leb (length (now (rules .entry))) 32768) T (now (rules .entry))) place) (now (out .entry)) (now (out .exit)) r) ⌝ }
+    ensures { λ r. ⌜ ((T : Tables) → tablesOf (now (tables .entry)) ≡ taken T → Overwritten (sheetLine (unlessLong (leb (length (now (rules .entry))) 32768) T (now (rules .entry))) place) (now (out .entry)) (now (out .exit)) r) ⌝ }
 {
     if 32768 < rules.len() {
         return long_rules(place, out);
@@ -86,7 +86,7 @@ fn judged_line(tables: &[u8], rules: &[u8], place: usize, out: &mut [u8]) -> usi
 // The line of one rule on accepted tables.
 fn rule_line(tables: &[u8], rule: &[u8], place: usize, out: &mut [u8]) -> usize
     requires { ⌜ 512 ≤ length (now out) ⌝ }
-    ensures { λ r. ⌜ ((T : Tables) → tablesOf (now (tables .entry)) ≡ taken T → Puts (lineText place (ruleVerdict T (now (rule .entry)))) (now (out .entry)) (now (out .exit)) r) ⌝ }
+    ensures { λ r. ⌜ ((T : Tables) → tablesOf (now (tables .entry)) ≡ taken T → Overwritten (lineText place (ruleVerdict T (now (rule .entry)))) (now (out .entry)) (now (out .exit)) r) ⌝ }
 {
     let n = variables(rule);
     let order = [1u8, 2, 3, 4, 5, 6, 7, 8];

@@ -8,13 +8,13 @@ ghost use mathlib.Core.List.{_++_};
 ghost use Prim.Native.Nat.{_≤_, _+_, _*_, _-_};
 ghost use lib.ListN.{length, drop};
 ghost use Rattle.syntax.specs.Bytes.{ascii};
-ghost use Rattle.texts.specs.code.Written.{Written};
-ghost use Rattle.sheets.specs.Line.{numbered, choicesFrom, countsOf, sharedOf, saysOf, lineText};
+ghost use Rattle.texts.specs.code.Overwritten.{Overwritten};
+ghost use Rattle.sheets.specs.Line.{labelled, choicesFrom, countsOf, sharedOf, saysOf, lineText};
 
 // The line of a verdict.
 pub fn line_of(place: usize, v: Verdict, out: &mut [u8]) -> usize
     requires { ⌜ 512 ≤ length (now out) ⌝ }
-    ensures { λ r. ⌜ Written (lineText place v) (now (out .entry)) (now (out .exit)) r ⌝ }
+    ensures { λ r. ⌜ Overwritten (lineText place v) (now (out .entry)) (now (out .exit)) r ⌝ }
 {
     let n = texts::decimal(place as u64, out);
     let m = says(v, &mut out[n..]);
@@ -23,11 +23,11 @@ pub fn line_of(place: usize, v: Verdict, out: &mut [u8]) -> usize
 
 fn says(v: Verdict, out: &mut [u8]) -> usize
     requires { ⌜ 480 ≤ length (now out) ⌝ }
-    ensures { λ r. ⌜ Written (saysOf (v .outcome) v) (now (out .entry)) (now (out .exit)) r ⌝ }
+    ensures { λ r. ⌜ Overwritten (saysOf (v .outcome) v) (now (out .entry)) (now (out .exit)) r ⌝ }
 {
     let outcome = v.outcome;
     match outcome {
-        Outcome::Refused(e) => numbered_by(b" refused ", answers::number(e) as u64, out),
+        Outcome::Refused(e) => labelled(b" refused ", answers::number(e) as u64, out),
         Outcome::Held => shared(b" held ", v, out),
         Outcome::Idle => idle(v, out),
         Outcome::Broken => broken(v, out),
@@ -36,7 +36,7 @@ fn says(v: Verdict, out: &mut [u8]) -> usize
 
 fn idle(v: Verdict, out: &mut [u8]) -> usize
     requires { ⌜ 100 ≤ length (now out) ⌝ }
-    ensures { λ r. ⌜ Written (countsOf (ascii " idle ") v ++ ascii " -") (now (out .entry)) (now (out .exit)) r ⌝ }
+    ensures { λ r. ⌜ Overwritten (countsOf (ascii " idle ") v ++ ascii " -") (now (out .entry)) (now (out .exit)) r ⌝ }
 {
     let n = counts(b" idle ", v, out);
     let m = texts::put(b" -", &mut out[n..]);
@@ -45,7 +45,7 @@ fn idle(v: Verdict, out: &mut [u8]) -> usize
 
 fn broken(v: Verdict, out: &mut [u8]) -> usize
     requires { ⌜ 480 ≤ length (now out) ⌝ }
-    ensures { λ r. ⌜ Written (sharedOf (ascii " broken ") v ++ choicesFrom 1 (v .first)) (now (out .entry)) (now (out .exit)) r ⌝ }
+    ensures { λ r. ⌜ Overwritten (sharedOf (ascii " broken ") v ++ choicesFrom 1 (v .first)) (now (out .entry)) (now (out .exit)) r ⌝ }
 {
     let first = v.first;
     let n = shared(b" broken ", v, out);
@@ -56,26 +56,26 @@ fn broken(v: Verdict, out: &mut [u8]) -> usize
 // The word with the two counts, and the share.
 fn shared(word: &[u8], v: Verdict, out: &mut [u8]) -> usize
     requires { ⌜ (length (now word) ≤ 10) × (100 ≤ length (now out)) ⌝ }
-    ensures { λ r. ⌜ Written (sharedOf (now (word .entry)) v) (now (out .entry)) (now (out .exit)) r ⌝ }
+    ensures { λ r. ⌜ Overwritten (sharedOf (now (word .entry)) v) (now (out .entry)) (now (out .exit)) r ⌝ }
 {
     let n = counts(word, v, out);
-    let m = numbered_by(b" ", v.share as u64, &mut out[n..]);
+    let m = labelled(b" ", v.share as u64, &mut out[n..]);
     n + m
 }
 
 fn counts(word: &[u8], v: Verdict, out: &mut [u8]) -> usize
     requires { ⌜ (length (now word) ≤ 10) × (60 ≤ length (now out)) ⌝ }
-    ensures { λ r. ⌜ Written (countsOf (now (word .entry)) v) (now (out .entry)) (now (out .exit)) r ⌝ }
+    ensures { λ r. ⌜ Overwritten (countsOf (now (word .entry)) v) (now (out .entry)) (now (out .exit)) r ⌝ }
 {
-    let n = numbered_by(word, v.full, out);
-    let m = numbered_by(b" ", v.breaking, &mut out[n..]);
+    let n = labelled(word, v.full, out);
+    let m = labelled(b" ", v.breaking, &mut out[n..]);
     n + m
 }
 
 // The items of the choice from variable k on, where v1 is variable 0.
 fn choices(first: &[u8], k: usize, out: &mut [u8]) -> usize
     requires { ⌜ (length (now first) ≤ 8) × (43 * (length (now first) - k) ≤ length (now out)) ⌝ }
-    ensures { λ r. ⌜ Written (choicesFrom (k + 1) (drop k (now (first .entry)))) (now (out .entry)) (now (out .exit)) r ⌝ }
+    ensures { λ r. ⌜ Overwritten (choicesFrom (k + 1) (drop k (now (first .entry)))) (now (out .entry)) (now (out .exit)) r ⌝ }
 {
     if first.len() <= k {
         return 0;
@@ -91,17 +91,17 @@ fn choices(first: &[u8], k: usize, out: &mut [u8]) -> usize
 
 fn choice(i: usize, x: u8, out: &mut [u8]) -> usize
     requires { ⌜ 43 ≤ length (now out) ⌝ }
-    ensures { λ r. ⌜ Written (numbered (ascii " v") i ++ numbered (ascii "=") x) (now (out .entry)) (now (out .exit)) r ⌝ }
+    ensures { λ r. ⌜ Overwritten (labelled (ascii " v") i ++ labelled (ascii "=") x) (now (out .entry)) (now (out .exit)) r ⌝ }
 {
-    let n = numbered_by(b" v", i as u64, out);
-    let m = numbered_by(b"=", x as u64, &mut out[n..]);
+    let n = labelled(b" v", i as u64, out);
+    let m = labelled(b"=", x as u64, &mut out[n..]);
     n + m
 }
 
 // A text and a number behind it.
-pub fn numbered_by(word: &[u8], x: u64, out: &mut [u8]) -> usize
+pub fn labelled(word: &[u8], x: u64, out: &mut [u8]) -> usize
     requires { ⌜ length (now word) + 20 ≤ length (now out) ⌝ }
-    ensures { λ r. ⌜ Written (numbered (now (word .entry)) x) (now (out .entry)) (now (out .exit)) r ⌝ }
+    ensures { λ r. ⌜ Overwritten (labelled (now (word .entry)) x) (now (out .entry)) (now (out .exit)) r ⌝ }
 {
     let n = texts::put(word, out);
     let m = texts::decimal(x, &mut out[n..]);

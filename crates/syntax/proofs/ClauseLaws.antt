@@ -12,7 +12,7 @@ use Rattle.syntax.specs.Bytes.{Bytes, ascii, Read, fail, got, next, skip
 use Rattle.syntax.specs.Term.{Choices}
 use Rattle.syntax.specs.Rule.{Clause, Rule, last, also, readClause, readRule}
 use Rattle.syntax.specs.code.Arena.{Both, HoldsClause, HoldsRule, hasTwo, Tidy}
-use Rattle.syntax.specs.code.Reading.{Arena, mk, Stays, Fresh, Interned, Put, put, Knows, Ready, Found, Agree, someThing, graft, Listed}
+use Rattle.syntax.specs.code.Reading.{Arena, mk, Stays, Fresh, Interned, Put, put, Knows, Readable, Found, Agree, someThing, graft, ClauseList}
 use Rattle.syntax.specs.code.Reading.{Collected, Collects, noClause, someClauses, Joinable, JoinedAt, Joined, joined}
 use Rattle.syntax.specs.declared.arena.Place.{Place}
 use Rattle.syntax.specs.declared.arena.Place.the-variants.{Nothing, Got}
@@ -59,7 +59,7 @@ pub record Passing (s : Bytes) (start : ℕ) (vars : List ℕ) (a₀ : Arena) (l
   pub tidy : Tidy (a .nodes) (a .n)
   pub passed : (σ : Choices) → Knows a₀ vars σ → Passed σ left K s start list a at c
 
-pub pass-start : {s : Bytes} {start left : ℕ} {vars list : List ℕ} {a : Arena} → Ready s start vars a → Passing s start vars a left (length list) list a start 0
+pub pass-start : {s : Bytes} {start left : ℕ} {vars list : List ℕ} {a : Arena} → Readable s start vars a → Passing s start vars a left (length list) list a start 0
 unfolding graft
 pass-start {s} {start} {left} {vars} {list} {a} g =
     record {
@@ -77,7 +77,7 @@ pass-start {s} {start} {left} {vars} {list} {a} g =
     same σ = let z : length list ≡ length list - 0 = omega arith in ap (λ (m : ℕ). readRule left σ m (drop start s)) z
 
 module _ {s : Bytes} {start left K at c : ℕ} {vars list : List ℕ} {a₀ a : Arena} (p : Passing s start vars a₀ left K list a at c) where
-  pub pass-ready : Ready s start vars a₀ → Ready s at vars a
+  pub pass-ready : Readable s start vars a₀ → Readable s at vars a
   pass-ready g =
       record {
         room = omega (arith, g .room, p .stays .size);
@@ -184,7 +184,7 @@ as-clauses {c = c} {e = e} {n = n} (someClauses {c = c′} {e = e′} {n = n′}
     rw qc at (rw qe at (rw qn at x))
 
 module _ {s : Bytes} {at c e : ℕ} {a b : Arena} {list : List ℕ} {r : Read Rule} (x : Collected s at a b list c e r) where
-  pub joinable : {vars : List ℕ} → Ready s at vars a → Joinable b list c e
+  pub joinable : {vars : List ℕ} → Readable s at vars a → Joinable b list c e
   joinable g =
       record {
         some = omega (arith, x .listed .size);
@@ -214,7 +214,7 @@ pub record Joining (a : Arena) (list : List ℕ) (c : ℕ) (b : Arena) (k node :
   pub few : b .n + 1 + k ≤ a .n + c
   pub stays : Stays a b
   pub tidy : Tidy (b .nodes) (b .n)
-  pub holds : (cs : List Clause) (d : Clause) → Listed a list c cs d → HoldsRule (b .nodes) node (graft (drop k cs) (last d))
+  pub holds : (cs : List Clause) (d : Clause) → ClauseList a list c cs d → HoldsRule (b .nodes) node (graft (drop k cs) (last d))
 
 module _ {a : Arena} {list : List ℕ} {c next : ℕ} (g : Joinable a list c next) where
   pub join-start : Joining a list c a (c - 1) (getD list (c - 1) 0)

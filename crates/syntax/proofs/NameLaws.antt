@@ -64,7 +64,7 @@ module _ {A : Type 0} {sp : A → Bytes} {s : Bytes} {at : ℕ} where
   unfolding scan either
   here {number = number} x xs f h e l =
       let y = hit h e (f .within) in
-      someName {o = number x} {e = at + length (sp x)} (record { thing = x; is = f .is ∙ rw (y .skips); numbered = refl; more = omega arith; fits = y .fits })
+      someName {o = number x} {e = at + length (sp x)} (record { thing = x; is = f .is ∙ rw (y .skips); numberIs = refl; more = omega arith; fits = y .fits })
 
   pub nowhere : {all : List A} {number : A → ℕ} → From sp all [] s at → Named number s at Unknown (scan sp all (drop at s))
   unfolding scan

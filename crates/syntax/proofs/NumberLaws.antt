@@ -128,7 +128,7 @@ number-none s at {a} e h = noName (scan-none 64 (drop at s) (λ m w l k q. ⊎-e
 number-found : {s : Bytes} {at n e : ℕ} (r : Bytes) → drop at s ≡ digits n ++ r → r ≡ drop e s → at + 1 ≤ e → e ≤ length s → n ≤ 64 → Other 64 (drop at s) (suc n) → Named itself s at (Name n e) (readNumber (drop at s))
 number-found {s} {at} {n} {e} r q p m f l h =
     let y : readNumber (drop at s) ≡ got n (drop e s) = rw (q, ← p) (scan-down 64 n r l (rw q at h)) in
-    someName {o = n} {e = e} {r = readNumber (drop at s)} (record { thing = n; is = y; numbered = refl; more = m; fits = f })
+    someName {o = n} {e = e} {r = readNumber (drop at s)} (record { thing = n; is = y; numberIs = refl; more = m; fits = f })
 
 pub number-zero : (s : Bytes) (at : ℕ) {a : ℕ} → a ≡ digitOf (drop at s) → a ≡ 0 → Named itself s at (Name 0 (at + 1)) (readNumber (drop at s))
 unfolding digits

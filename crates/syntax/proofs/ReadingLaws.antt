@@ -12,7 +12,7 @@ use Rattle.syntax.specs.Term.{Base, operations, meet, join, Term, base, 
 use Rattle.syntax.specs.Term.{isAO, isBracket, isChoice, spell, heads, spellMiddle, middles}
 use Rattle.syntax.specs.Term.{known, closed, second, inner, readTerm, Pair, calls, joins, isCall2, parting}
 use Rattle.syntax.specs.code.Arena.{baseOp, twoOp, None, One, Numbered, Both, Holds, hasTwo, Down, Tidy}
-use Rattle.syntax.specs.code.Reading.{Signed, headOp, Choice, Arena, mk, Stays, Fresh, Interned, Put, put, Knows, Ready, Found, Agree, noThing}
+use Rattle.syntax.specs.code.Reading.{Signed, headOp, Choice, Arena, mk, Stays, Fresh, Interned, Put, put, Knows, Readable, Found, Agree, noThing}
 use Rattle.syntax.specs.code.Reading.{someThing, Makes, Joint, pair, away, jointOp, spellJoint, joints, choice, less, ending, paired}
 use Rattle.syntax.specs.declared.arena.Place.{Place}
 use Rattle.syntax.specs.declared.arena.Place.the-variants.{Nothing, Got}
@@ -48,10 +48,10 @@ put-found {e = e} t (put {k = k} {n = n} u) st l f q h =
 
 -- Where the next reader starts.
 
-pub ready-at : {s : Bytes} {at at′ : ℕ} {vars : List ℕ} {a : Arena} → Ready s at vars a → at ≤ at′ → at′ ≤ length s → Ready s at′ vars a
+pub ready-at : {s : Bytes} {at at′ : ℕ} {vars : List ℕ} {a : Arena} → Readable s at vars a → at ≤ at′ → at′ ≤ length s → Readable s at′ vars a
 ready-at g l h = record { room = g .room; within = h; count = omega (arith, g .count); tidy = g .tidy; choices = g .choices; knows = g .knows }
 
-pub ready-on : {A : Type 0} {H : List ℕ → ℕ → A → Type 0} {s : Bytes} {at at′ k e : ℕ} {vars : List ℕ} {a b : Arena} {r : Read A} → Ready s at vars a → Found H s at a b k e r → e ≤ at′ → at′ ≤ length s → Ready s at′ vars b
+pub ready-on : {A : Type 0} {H : List ℕ → ℕ → A → Type 0} {s : Bytes} {at at′ k e : ℕ} {vars : List ℕ} {a b : Arena} {r : Read A} → Readable s at vars a → Found H s at a b k e r → e ≤ at′ → at′ ≤ length s → Readable s at′ vars b
 ready-on g f l h =
     record {
       room = omega (arith, g .room, f .stays .size);
@@ -244,21 +244,21 @@ module _ (f : ℕ) (σ : Choices) (s : Bytes) (at : ℕ) (h : f ≡ 0 → ⊥) w
   pub read-leaf : {o e : ℕ} → Signed headOp s at o e (scan spell heads (drop at s)) → o < firstCall → (b : Base) × (baseOp b ≡ o) × (readTerm f σ (drop at s) ≡ got (base b) (drop e s))
   unfolding headOp inner
   read-leaf {o} {e} x l =
-      let y = leaf-head (x .thing) (omega (arith, x .numbered)) in
-      (y .0, ap headOp (sym (y .1)) ∙ x .numbered, read-head x ∙ ap (λ (g : Head). inner (readTerm (f - 1) σ) σ g (drop e s)) (y .1))
+      let y = leaf-head (x .thing) (omega (arith, x .numberIs)) in
+      (y .0, ap headOp (sym (y .1)) ∙ x .numberIs, read-head x ∙ ap (λ (g : Head). inner (readTerm (f - 1) σ) σ g (drop e s)) (y .1))
 
   pub read-one : {o e : ℕ} → Signed headOp s at o e (scan spell heads (drop at s)) → firstCall ≤ o → o < firstPair → OneRead f σ s at o e
   read-one {o} {e} x l m =
-      let y = one-head (x .thing) (omega (arith, x .numbered)) (omega (arith, x .numbered)) in
-      record { make = y .make; makes = subst (λ (p : ℕ). Makes p (y .make)) (x .numbered) (y .makes); is = read-head x ∙ y .is (readTerm (f - 1) σ) σ (drop e s) }
+      let y = one-head (x .thing) (omega (arith, x .numberIs)) (omega (arith, x .numberIs)) in
+      record { make = y .make; makes = subst (λ (p : ℕ). Makes p (y .make)) (x .numberIs) (y .makes); is = read-head x ∙ y .is (readTerm (f - 1) σ) σ (drop e s) }
 
   pub read-pair : {o e : ℕ} → Signed headOp s at o e (scan spell heads (drop at s)) → firstPair ≤ o → o < choiceHead → readTerm f σ (drop at s) ≡ paired (readTerm (f - 1) σ) σ o (drop e s)
   read-pair {o} {e} x l m =
-      read-head x ∙ two-head (x .thing) (omega (arith, x .numbered)) (omega (arith, x .numbered)) (readTerm (f - 1) σ) σ (drop e s)
-      ∙ ap (λ (p : ℕ). paired (readTerm (f - 1) σ) σ p (drop e s)) (x .numbered)
+      read-head x ∙ two-head (x .thing) (omega (arith, x .numberIs)) (omega (arith, x .numberIs)) (readTerm (f - 1) σ) σ (drop e s)
+      ∙ ap (λ (p : ℕ). paired (readTerm (f - 1) σ) σ p (drop e s)) (x .numberIs)
 
   pub read-known : {o e : ℕ} → Signed headOp s at o e (scan spell heads (drop at s)) → choiceHead ≤ o → readTerm f σ (drop at s) ≡ choice σ (drop e s)
-  read-known {o} {e} x l = read-head x ∙ choice-head (x .thing) (omega (arith, x .numbered)) (readTerm (f - 1) σ) σ (drop e s)
+  read-known {o} {e} x l = read-head x ∙ choice-head (x .thing) (omega (arith, x .numberIs)) (readTerm (f - 1) σ) σ (drop e s)
 
 -- A term and its closing bracket.
 
@@ -311,12 +311,12 @@ unfolding joints
 joints-sign op h = rw (ne-eqb op firstPair h)
 
 -- A node behind what was read, where one byte more is there.
-pub fresh-on : {A : Type 0} {H : List ℕ → ℕ → A → Type 0} {s : Bytes} {at i e o j : ℕ} {vars : List ℕ} {a b : Arena} {r : Read A} → Ready s at vars a → Found H s at a b i e r → e + 1 ≤ length s → o < opsEnd → j < b .n → Fresh b o i j
+pub fresh-on : {A : Type 0} {H : List ℕ → ℕ → A → Type 0} {s : Bytes} {at i e o j : ℕ} {vars : List ℕ} {a b : Arena} {r : Read A} → Readable s at vars a → Found H s at a b i e r → e + 1 ≤ length s → o < opsEnd → j < b .n → Fresh b o i j
 fresh-on g f l h lj =
     fresh-two (omega (arith, g .room, g .count, f .count, f .stays .size)) (f .tidy) h (f .within) lj
 
 -- A node on two things that were read one after the other, with a byte between them.
-pub fresh-pair : {A B : Type 0} {H : List ℕ → ℕ → A → Type 0} {H′ : List ℕ → ℕ → B → Type 0} {s : Bytes} {at i e y j z o : ℕ} {vars : List ℕ} {a b d : Arena} {r : Read A} {r′ : Read B} → Ready s at vars a → Found H s at a b i e r → Found H′ s y b d j z r′ → e + 1 ≤ y → o < opsEnd → Fresh d o i j
+pub fresh-pair : {A B : Type 0} {H : List ℕ → ℕ → A → Type 0} {H′ : List ℕ → ℕ → B → Type 0} {s : Bytes} {at i e y j z o : ℕ} {vars : List ℕ} {a b d : Arena} {r : Read A} {r′ : Read B} → Readable s at vars a → Found H s at a b i e r → Found H′ s y b d j z r′ → e + 1 ≤ y → o < opsEnd → Fresh d o i j
 fresh-pair g f f′ l h =
     fresh-two (omega (arith, g .room, g .count, f .count, f′ .count, f′ .end, f .stays .size, f′ .stays .size)) (f′ .tidy) h (omega (arith, f .within, f′ .stays .more)) (f′ .within)
 
@@ -330,7 +330,7 @@ pub less-none : (σ : Choices) (t : Term) (s : Bytes) → known σ s ≡ fail �
 unfolding less next
 less-none σ t s e = rw e
 
-module _ {s : Bytes} {at : ℕ} {vars : List ℕ} {a : Arena} {v e : ℕ} (g : Ready s at vars a) (x : Choice s at vars v e) where
+module _ {s : Bytes} {at : ℕ} {vars : List ℕ} {a : Arena} {v e : ℕ} (g : Readable s at vars a) (x : Choice s at vars v e) where
   below : v < a .n
   below = omega (arith, x .node, g .knows .below (x .index) (x .known))
 
@@ -381,7 +381,7 @@ module _ (rd : Reader Term) (σ : Choices) (op : ℕ) {s : Bytes} {at i e : ℕ}
     pub away-found : {ns : List ℕ} {p : Place} → o ≡ aoOp → Agree Holds s y b ns p (less σ (f .thing) (drop y s)) → Agree Holds s at a ns p (paired rd σ op (drop at s))
     unfolding ending
     away-found q u =
-        let j = is-away (x .thing) (x .numbered ∙ q) in
+        let j = is-away (x .thing) (x .numberIs ∙ q) in
         let z : paired rd σ op (drop at s) ≡ less σ (f .thing) (drop y s) = paired-on rd σ op (drop at s) (f .reads) (x .is) ∙ ap (λ (k : Joint). ending rd σ (f .thing) k (drop y s)) j in
         rw z (agree-from (f .stays) (omega (arith, f .count, x .more)) u)
 
@@ -389,8 +389,8 @@ module _ (rd : Reader Term) (σ : Choices) (op : ℕ) {s : Bytes} {at i e : ℕ}
     pair-op : (o ≡ aoOp → ⊥) → (k : Pair) × (twoOp k ≡ o) × (paired rd σ op (drop at s) ≡ closed rd (two k (f .thing)) (drop y s))
     unfolding ending jointOp
     pair-op n =
-        let j = is-pair (x .thing) (λ q. n (sym (x .numbered) ∙ q)) in
-        (j .0, ap jointOp (sym (j .1)) ∙ x .numbered, paired-on rd σ op (drop at s) (f .reads) (x .is) ∙ ap (λ (k : Joint). ending rd σ (f .thing) k (drop y s)) (j .1))
+        let j = is-pair (x .thing) (λ q. n (sym (x .numberIs) ∙ q)) in
+        (j .0, ap jointOp (sym (j .1)) ∙ x .numberIs, paired-on rd σ op (drop at s) (f .reads) (x .is) ∙ ap (λ (k : Joint). ending rd σ (f .thing) k (drop y s)) (j .1))
 
     pub two-none : (o ≡ aoOp → ⊥) → rd (drop y s) ≡ fail → paired rd σ op (drop at s) ≡ fail
     two-none n q = let k = pair-op n in k .2 ∙ closed-none rd _ (drop y s) q

@@ -13,7 +13,7 @@ use Rattle.syntax.specs.Rule.{Cmp, lt, le, gt, ge, eq, ne, Sign, is, isn
 use Rattle.syntax.specs.Rule.{when, last, also, Between, isIn, isSign, spellCmp, cmps, spellBetween, betweens, readNumber, readCount}
 use Rattle.syntax.specs.Rule.{readSecond, readTest, readClause, readRule}
 use Rattle.syntax.specs.code.Arena.{alikeOp, emptyOp, cmpNumber, Both, Holds, HoldsTest, HoldsClause, hasTwo}
-use Rattle.syntax.specs.code.Reading.{Stands, Signed, itself, betweenOp, Arena, Fresh, Put, Ready, Found, Agree, counted, sizedTest, relatedTest}
+use Rattle.syntax.specs.code.Reading.{Stands, Signed, itself, betweenOp, Arena, Fresh, Put, Readable, Found, Agree, counted, sizedTest, relatedTest}
 use Rattle.syntax.specs.declared.arena.Place.{Place}
 use Rattle.syntax.specs.code.Nodes.{firstPair, memberOp, firstAlike, firstEmpty, firstNumbered, firstCounted, whenOp, nodeOf, indexRoom}
 use Rattle.syntax.proofs.ArenaLaws.{stays-refl, stays-trans, holds-later, test-later}
@@ -61,7 +61,7 @@ between-range (isSign isnt) = record { low = omega arith; high = omega arith; ha
 
 -- A number or a count behind a comparison.
 
-small : {s : Bytes} {at i : ℕ} {vars : List ℕ} {a : Arena} → Ready s at vars a → i < a .n → i < indexRoom
+small : {s : Bytes} {at i : ℕ} {vars : List ℕ} {a : Arena} → Readable s at vars a → i < a .n → i < indexRoom
 small g l = omega (arith, g .tidy .size, g .tidy .fits)
 
 pub count-lost : (f : ℕ) (σ : Choices) (o : Cmp) (t : Term) (w : Bytes) → skip (ascii "|") w ≡ fail → readNumber w ≡ fail → counted f σ o t w ≡ fail
@@ -69,10 +69,10 @@ unfolding counted readCount either next
 count-lost f σ o t w e q = rw (e, q)
 
 module _ (f : ℕ) (σ : Choices) (o : Cmp) (t : Term) {s : Bytes} {at : ℕ} where
-  pub number-found : {i c m e : ℕ} {vars : List ℕ} {a : Arena} {ns : List ℕ} {p : Place} → Ready s at vars a → i < a .n → c < 6 → cmpNumber o ≡ c → Holds (a .nodes) i t → skip (ascii "|") (drop at s) ≡ fail → Signed itself s at m e (readNumber (drop at s)) → Put a (nodeOf (firstNumbered + c) i m) e ns p → Agree HoldsTest s at a ns p (counted f σ o t (drop at s))
+  pub number-found : {i c m e : ℕ} {vars : List ℕ} {a : Arena} {ns : List ℕ} {p : Place} → Readable s at vars a → i < a .n → c < 6 → cmpNumber o ≡ c → Holds (a .nodes) i t → skip (ascii "|") (drop at s) ≡ fail → Signed itself s at m e (readNumber (drop at s)) → Put a (nodeOf (firstNumbered + c) i m) e ns p → Agree HoldsTest s at a ns p (counted f σ o t (drop at s))
   unfolding counted readCount either next HoldsTest
   number-found {i} {c} {m} {e} {vars} {a} {ns} g l lc q y z x u =
-      let w : readNumber (drop at s) ≡ got m (drop e s) = x .is ∙ ap (λ (n : ℕ). got n (drop e s)) (x .numbered) in
+      let w : readNumber (drop at s) ≡ got m (drop e s) = x .is ∙ ap (λ (n : ℕ). got n (drop e s)) (x .numberIs) in
       let r : counted f σ o t (drop at s) ≡ got (sized o t (number m)) (drop e s) = rw (z, w) in
       let lm : m ≤ 64 = number-small 64 m (drop at s) (drop e s) w in
       put-found (sized o t (number m)) u (stays-refl a) (omega (arith, x .more)) (x .fits) r
@@ -88,7 +88,7 @@ module _ (f : ℕ) (σ : Choices) (o : Cmp) (t : Term) {s : Bytes} {at : ℕ} wh
       unfolding counted readCount either next
       count-open q = rw (h .skips, x .reads, q)
 
-      pub count-found : {i c : ℕ} {vars : List ℕ} {ns : List ℕ} {p : Place} → Ready s at vars a → i < a .n → c < 6 → cmpNumber o ≡ c → Holds (a .nodes) i t → Hit s e (ascii "|") → Put b (nodeOf (firstCounted + c) i j) (e + 1) ns p → Agree HoldsTest s at a ns p (counted f σ o t (drop at s))
+      pub count-found : {i c : ℕ} {vars : List ℕ} {ns : List ℕ} {p : Place} → Readable s at vars a → i < a .n → c < 6 → cmpNumber o ≡ c → Holds (a .nodes) i t → Hit s e (ascii "|") → Put b (nodeOf (firstCounted + c) i j) (e + 1) ns p → Agree HoldsTest s at a ns p (counted f σ o t (drop at s))
       unfolding counted readCount either next HoldsTest
       count-found {i} {c} {vars} {ns} g l lc q y h′ u =
           let r : counted f σ o t (drop at s) ≡ got (sized o t (count (x .thing))) (drop (e + 1) s) = rw (h .skips, x .reads, h′ .skips) in
@@ -102,9 +102,9 @@ module _ (f : ℕ) (σ : Choices) (o : Cmp) (t : Term) {s : Bytes} {at : ℕ} wh
             holds-later b _ j (x .thing) (v .stays) (x .within) (x .holds),
           ))
 
-pub number-fresh : {s : Bytes} {at i c m e : ℕ} {vars : List ℕ} {a : Arena} → Ready s at vars a → i < a .n → c < 6 → Signed itself s at m e (readNumber (drop at s)) → Fresh a (firstNumbered + c) i m
+pub number-fresh : {s : Bytes} {at i c m e : ℕ} {vars : List ℕ} {a : Arena} → Readable s at vars a → i < a .n → c < 6 → Signed itself s at m e (readNumber (drop at s)) → Fresh a (firstNumbered + c) i m
 number-fresh {s} {at} {m = m} {e = e} g l lc x =
-    let w : readNumber (drop at s) ≡ got m (drop e s) = x .is ∙ ap (λ (n : ℕ). got n (drop e s)) (x .numbered) in
+    let w : readNumber (drop at s) ≡ got m (drop e s) = x .is ∙ ap (λ (n : ℕ). got n (drop e s)) (x .numberIs) in
     fresh-number (omega (arith, g .room, g .count, x .more, x .fits)) (g .tidy) (omega arith) (has-number _ lc) l (number-small 64 m (drop at s) (drop e s) w)
 
 -- A test of a count.
@@ -176,16 +176,16 @@ module _ (n : ℕ) (σ : Choices) {s : Bytes} {at : ℕ} where
 
     module _ {o y : ℕ} {r : Bool} (x : Signed betweenOp s e o y (scan spellBetween betweens (drop e s))) (z : Emptied s y o r) where
       range : BetweenRange o
-      range = subst BetweenRange (x .numbered) (between-range (x .thing))
+      range = subst BetweenRange (x .numberIs) (between-range (x .thing))
 
       emptied : Emptied s y (betweenOp (x .thing)) r
-      emptied = subst (λ (c : ℕ). Emptied s y c r) (sym (x .numbered)) z
+      emptied = subst (λ (c : ℕ). Emptied s y c r) (sym (x .numberIs)) z
 
       on : relatedTest n σ (drop at s) ≡ readSecond n σ (f .thing) (x .thing) (drop y s)
       unfolding relatedTest next
       on = rw (f .reads, x .is)
 
-      pub empty-fresh : {vars : List ℕ} → Ready s at vars a → Fresh b (o + 2) i 0
+      pub empty-fresh : {vars : List ℕ} → Readable s at vars a → Fresh b (o + 2) i 0
       empty-fresh g =
           let w = range in
           fresh-two (omega (arith, g .room, g .count, f .count, f .stays .size, x .more, x .fits)) (f .tidy) (omega (arith, w .high)) (f .within) (omega (arith, f .within))
@@ -195,7 +195,7 @@ module _ (n : ℕ) (σ : Choices) {s : Bytes} {at : ℕ} where
       empty-found {ns} e′ u =
           let w = range in
           let v = second-empty n σ (x .thing) (f .thing) emptied e′ (x .fits) in
-          let q : emptyOp (v .sign) ≡ o + 2 = v .op ∙ ap (λ (c : ℕ). c + 2) (x .numbered) in
+          let q : emptyOp (v .sign) ≡ o + 2 = v .op ∙ ap (λ (c : ℕ). c + 2) (x .numberIs) in
           put-found (empty (v .sign) (f .thing)) u (f .stays) (omega (arith, f .count, x .more)) (v .fits) (on ∙ v .is)
           (λ k m y′. (i, rw q (one-node y′ (omega (arith, w .low)) (omega (arith, w .high)) (omega (arith, f .within, f .tidy .size, f .tidy .fits))), holds-later b _ i (f .thing) (y′ .stays) (f .within) (f .holds)))
 
@@ -204,7 +204,7 @@ module _ (n : ℕ) (σ : Choices) {s : Bytes} {at : ℕ} where
       related-empty e′ q = on ∙ second-term n σ (x .thing) (f .thing) emptied e′ ∙ rw q
 
       module _ {d : Arena} {j g : ℕ} (f′ : Found Holds s y b d j g (readTerm n σ (drop y s))) where
-        pub related-fresh : {vars : List ℕ} → Ready s at vars a → Fresh d o i j
+        pub related-fresh : {vars : List ℕ} → Readable s at vars a → Fresh d o i j
         related-fresh q = let w = range in fresh-pair q f f′ (x .more) (omega (arith, w .high))
 
         pub related-found : {ns : List ℕ} {p : Place} → r ≡ false → Put d (nodeOf o i j) g ns p → Agree HoldsTest s at a ns p (relatedTest n σ (drop at s))
@@ -215,7 +215,7 @@ module _ (n : ℕ) (σ : Choices) {s : Bytes} {at : ℕ} where
             put-found (tested (x .thing) (f .thing) (f′ .thing)) u (stays-trans (f .stays) (f′ .stays)) (omega (arith, f .count, x .more, f′ .count)) (f′ .end) q
             (λ k m v.
             tested-holds (x .thing) (f .thing) (f′ .thing)
-            (subst (λ (c : ℕ). Both ns k c i j) (sym (x .numbered)) (both-node v (omega (arith, w .low)) (omega (arith, w .high)) (w .has) (omega (arith, f .within, f′ .stays .more, f′ .tidy .size, f′ .tidy .fits)) (omega (arith, f′ .within, f′ .tidy .size, f′ .tidy .fits))))
+            (subst (λ (c : ℕ). Both ns k c i j) (sym (x .numberIs)) (both-node v (omega (arith, w .low)) (omega (arith, w .high)) (w .has) (omega (arith, f .within, f′ .stays .more, f′ .tidy .size, f′ .tidy .fits)) (omega (arith, f′ .within, f′ .tidy .size, f′ .tidy .fits))))
             (holds-later b _ i (f .thing) (stays-trans (f′ .stays) (v .stays)) (f .within) (f .holds))
             (holds-later d _ j (f′ .thing) (v .stays) (f′ .within) (f′ .holds)))
 

@@ -6,7 +6,7 @@ ghost use lib.ListN.{length, drop, take};
 ghost use Rattle.syntax.specs.Term.{Choices};
 ghost use Rattle.syntax.specs.Rule.{readFormula, readRule};
 ghost use Rattle.syntax.specs.code.Arena.{Holds, HoldsRule};
-ghost use Rattle.syntax.specs.code.Reading.{mk, Ready, Knows, Agree, chosenSet};
+ghost use Rattle.syntax.specs.code.Reading.{mk, Readable, Knows, Agree, chosenSet};
 use super::arena::Place;
 use super::names::stands;
 use super::terms::read_term;
@@ -20,7 +20,7 @@ fn wide(c: u8) -> usize
 
 // What stands behind `[v`: the digit of the next choice, `@`, its set and `]`.
 fn read_set(s: &[u8], at: usize, vars: &[u32], nodes: &mut [u32], n: usize) -> Place
-    requires { ⌜ Ready (now s) at (now vars) (mk (now nodes) n) ⌝ }
+    requires { ⌜ Readable (now s) at (now vars) (mk (now nodes) n) ⌝ }
     requires { ⌜ length (now vars) ≤ 8 ⌝ }
     ensures { λ r. ⌜ ((σ : Choices) → Knows (mk (now (nodes .entry)) n) (now (vars .entry)) σ → Agree Holds (now (s .entry)) at (mk (now (nodes .entry)) n) (now (nodes .exit)) r (chosenSet σ (drop at (now (s .entry))))) ⌝ }
 {
@@ -49,7 +49,7 @@ fn read_set(s: &[u8], at: usize, vars: &[u32], nodes: &mut [u32], n: usize) -> P
 
 // The rule behind `:`, of at most 512 clauses.
 fn read_body(s: &[u8], at: usize, vars: &[u32], nodes: &mut [u32], n: usize) -> Place
-    requires { ⌜ Ready (now s) at (now vars) (mk (now nodes) n) ⌝ }
+    requires { ⌜ Readable (now s) at (now vars) (mk (now nodes) n) ⌝ }
     ensures { λ r. ⌜ ((σ : Choices) → Knows (mk (now (nodes .entry)) n) (now (vars .entry)) σ → Agree HoldsRule (now (s .entry)) at (mk (now (nodes .entry)) n) (now (nodes .exit)) r (readRule 512 σ 512 (drop at (now (s .entry))))) ⌝ }
 {
     let mut list = [0u32; 512];
@@ -65,7 +65,7 @@ pub fn read_formula(
     nodes: &mut [u32],
     n: usize,
 ) -> Place
-    requires { ⌜ Ready (now s) at (take k (now vars)) (mk (now nodes) n) ⌝ }
+    requires { ⌜ Readable (now s) at (take k (now vars)) (mk (now nodes) n) ⌝ }
     requires { ⌜ (length (now vars) ≡ 8) × (k ≤ 8) ⌝ }
     ensures { λ r. ⌜ ((σ : Choices) → Knows (mk (now (nodes .entry)) n) (take k (now (vars .entry))) σ → Agree HoldsRule (now (s .entry)) at (mk (now (nodes .entry)) n) (now (nodes .exit)) r (readFormula 512 (9 - k) σ (drop at (now (s .entry))))) ⌝ }
 {

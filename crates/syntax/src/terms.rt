@@ -5,7 +5,7 @@ ghost use Prim.Native.Nat.{ℕ, _<_, _≤_};
 ghost use lib.ListN.{length, drop};
 ghost use Rattle.syntax.specs.Term.{Term, Choices, readTerm, closed};
 ghost use Rattle.syntax.specs.code.Arena.{Holds};
-ghost use Rattle.syntax.specs.code.Reading.{mk, Ready, Knows, Agree, Chosen, Makes, choice, less, paired};
+ghost use Rattle.syntax.specs.code.Reading.{mk, Readable, Knows, Agree, Chosen, Makes, choice, less, paired};
 ghost use Rattle.syntax.specs.code.Nodes.{firstCall, firstPair};
 use super::arena::Place;
 use super::arena::intern;
@@ -40,7 +40,7 @@ fn choice_at(s: &[u8], at: usize, vars: &[u32]) -> Spelled
 
 // What stands behind `v`: the digit of a choice, which is OE of its argument.
 fn read_choice(s: &[u8], at: usize, vars: &[u32], nodes: &mut [u32], n: usize) -> Place
-    requires { ⌜ Ready (now s) at (now vars) (mk (now nodes) n) ⌝ }
+    requires { ⌜ Readable (now s) at (now vars) (mk (now nodes) n) ⌝ }
     ensures { λ r. ⌜ ((σ : Choices) → Knows (mk (now (nodes .entry)) n) (now (vars .entry)) σ → Agree Holds (now (s .entry)) at (mk (now (nodes .entry)) n) (now (nodes .exit)) r (choice σ (drop at (now (s .entry))))) ⌝ }
 {
     let c = choice_at(s, at, vars);
@@ -52,7 +52,7 @@ fn read_choice(s: &[u8], at: usize, vars: &[u32], nodes: &mut [u32], n: usize) -
 
 // What stands behind `(`, a term and `-{v`: the digit of a choice and `})`, which is AO of the term at node i.
 fn read_less(s: &[u8], at: usize, vars: &[u32], nodes: &mut [u32], n: usize, i: usize) -> Place
-    requires { ⌜ Ready (now s) at (now vars) (mk (now nodes) n) ⌝ }
+    requires { ⌜ Readable (now s) at (now vars) (mk (now nodes) n) ⌝ }
     requires { ⌜ i < n ⌝ }
     ensures { λ r. ⌜ ((σ : Choices) (a : Term) → Knows (mk (now (nodes .entry)) n) (now (vars .entry)) σ → Holds (now (nodes .entry)) i a → Agree Holds (now (s .entry)) at (mk (now (nodes .entry)) n) (now (nodes .exit)) r (less σ a (drop at (now (s .entry))))) ⌝ }
 {
@@ -75,7 +75,7 @@ pub fn read_term(
     n: usize,
     left: usize,
 ) -> Place
-    requires { ⌜ Ready (now s) at (now vars) (mk (now nodes) n) ⌝ }
+    requires { ⌜ Readable (now s) at (now vars) (mk (now nodes) n) ⌝ }
     ensures { λ r. ⌜ ((σ : Choices) → Knows (mk (now (nodes .entry)) n) (now (vars .entry)) σ → Agree Holds (now (s .entry)) at (mk (now (nodes .entry)) n) (now (nodes .exit)) r (readTerm left σ (drop at (now (s .entry))))) ⌝ }
 {
     if left == 0 {
@@ -107,7 +107,7 @@ fn read_call(
     left: usize,
     op: u32,
 ) -> Place
-    requires { ⌜ Ready (now s) at (now vars) (mk (now nodes) n) ⌝ }
+    requires { ⌜ Readable (now s) at (now vars) (mk (now nodes) n) ⌝ }
     requires { ⌜ (firstCall ≤ op) × (op < firstPair) ⌝ }
     ensures { λ r. ⌜ ((σ : Choices) (make : Term → Term) → Knows (mk (now (nodes .entry)) n) (now (vars .entry)) σ → Makes op make → Agree Holds (now (s .entry)) at (mk (now (nodes .entry)) n) (now (nodes .exit)) r (closed (readTerm left σ) make (drop at (now (s .entry))))) ⌝ }
 {
@@ -136,7 +136,7 @@ fn read_two(
     left: usize,
     op: u32,
 ) -> Place
-    requires { ⌜ Ready (now s) at (now vars) (mk (now nodes) n) ⌝ }
+    requires { ⌜ Readable (now s) at (now vars) (mk (now nodes) n) ⌝ }
     ensures { λ r. ⌜ ((σ : Choices) → Knows (mk (now (nodes .entry)) n) (now (vars .entry)) σ → Agree Holds (now (s .entry)) at (mk (now (nodes .entry)) n) (now (nodes .exit)) r (paired (readTerm left σ) σ op (drop at (now (s .entry))))) ⌝ }
 {
     let p = read_term(s, at, vars, nodes, n, left);

@@ -8,7 +8,7 @@ ghost use Rattle.syntax.specs.Bytes.{ascii};
 ghost use Rattle.syntax.specs.Term.{Term, Choices};
 ghost use Rattle.syntax.specs.Rule.{Cmp, readTest, readClause, readRule};
 ghost use Rattle.syntax.specs.code.Arena.{Holds, HoldsTest, HoldsClause, HoldsRule, cmpNumber};
-ghost use Rattle.syntax.specs.code.Reading.{mk, Ready, Knows, Agree, Stands, counted, sizedTest, relatedTest, Collects, Joinable, Joined};
+ghost use Rattle.syntax.specs.code.Reading.{mk, Readable, Knows, Agree, Stands, counted, sizedTest, relatedTest, Collects, Joinable, Joined};
 ghost use Rattle.syntax.specs.code.Nodes.{firstAlike};
 use super::arena::Place;
 use super::arena::intern;
@@ -35,7 +35,7 @@ fn read_count(
     c: u32,
     i: usize,
 ) -> Place
-    requires { ⌜ Ready (now s) at (now vars) (mk (now nodes) n) ⌝ }
+    requires { ⌜ Readable (now s) at (now vars) (mk (now nodes) n) ⌝ }
     requires { ⌜ (c < 6) × (i < n) ⌝ }
     ensures { λ r. ⌜ ((σ : Choices) (o : Cmp) (a : Term) → Knows (mk (now (nodes .entry)) n) (now (vars .entry)) σ → cmpNumber o ≡ c → Holds (now (nodes .entry)) i a → Agree HoldsTest (now (s .entry)) at (mk (now (nodes .entry)) n) (now (nodes .exit)) r (counted left σ o a (drop at (now (s .entry))))) ⌝ }
 {
@@ -63,7 +63,7 @@ fn read_count(
 
 // What stands behind the first `|` of a test: a term, `|`, a comparison, and a number or a count.
 fn read_sized(s: &[u8], at: usize, vars: &[u32], nodes: &mut [u32], n: usize, left: usize) -> Place
-    requires { ⌜ Ready (now s) at (now vars) (mk (now nodes) n) ⌝ }
+    requires { ⌜ Readable (now s) at (now vars) (mk (now nodes) n) ⌝ }
     ensures { λ r. ⌜ ((σ : Choices) → Knows (mk (now (nodes .entry)) n) (now (vars .entry)) σ → Agree HoldsTest (now (s .entry)) at (mk (now (nodes .entry)) n) (now (nodes .exit)) r (sizedTest left σ (drop at (now (s .entry))))) ⌝ }
 {
     let p = read_term(s, at, vars, nodes, n, left);
@@ -105,7 +105,7 @@ fn read_related(
     n: usize,
     left: usize,
 ) -> Place
-    requires { ⌜ Ready (now s) at (now vars) (mk (now nodes) n) ⌝ }
+    requires { ⌜ Readable (now s) at (now vars) (mk (now nodes) n) ⌝ }
     ensures { λ r. ⌜ ((σ : Choices) → Knows (mk (now (nodes .entry)) n) (now (vars .entry)) σ → Agree HoldsTest (now (s .entry)) at (mk (now (nodes .entry)) n) (now (nodes .exit)) r (relatedTest left σ (drop at (now (s .entry))))) ⌝ }
 {
     let p = read_term(s, at, vars, nodes, n, left);
@@ -137,7 +137,7 @@ fn read_related(
 }
 
 fn read_test(s: &[u8], at: usize, vars: &[u32], nodes: &mut [u32], n: usize, left: usize) -> Place
-    requires { ⌜ Ready (now s) at (now vars) (mk (now nodes) n) ⌝ }
+    requires { ⌜ Readable (now s) at (now vars) (mk (now nodes) n) ⌝ }
     ensures { λ r. ⌜ ((σ : Choices) → Knows (mk (now (nodes .entry)) n) (now (vars .entry)) σ → Agree HoldsTest (now (s .entry)) at (mk (now (nodes .entry)) n) (now (nodes .exit)) r (readTest left σ (drop at (now (s .entry))))) ⌝ }
 {
     if stands(s, at, b"|") {
@@ -148,7 +148,7 @@ fn read_test(s: &[u8], at: usize, vars: &[u32], nodes: &mut [u32], n: usize, lef
 
 // A test, or a test, `=>` and a test.
 fn read_clause(s: &[u8], at: usize, vars: &[u32], nodes: &mut [u32], n: usize, left: usize) -> Place
-    requires { ⌜ Ready (now s) at (now vars) (mk (now nodes) n) ⌝ }
+    requires { ⌜ Readable (now s) at (now vars) (mk (now nodes) n) ⌝ }
     ensures { λ r. ⌜ ((σ : Choices) → Knows (mk (now (nodes .entry)) n) (now (vars .entry)) σ → Agree HoldsClause (now (s .entry)) at (mk (now (nodes .entry)) n) (now (nodes .exit)) r (readClause left σ (drop at (now (s .entry))))) ⌝ }
 {
     let p = read_test(s, at, vars, nodes, n, left);
@@ -202,7 +202,7 @@ fn read_clauses(
     left: usize,
     list: &mut [u32],
 ) -> Clauses
-    requires { ⌜ Ready (now s) start (now vars) (mk (now nodes) first) ⌝ }
+    requires { ⌜ Readable (now s) start (now vars) (mk (now nodes) first) ⌝ }
     ensures { λ r. ⌜ ((σ : Choices) → Knows (mk (now (nodes .entry)) first) (now (vars .entry)) σ → Collects (now (s .entry)) start (mk (now (nodes .entry)) first) (now (nodes .exit)) (now (list .exit)) r (readRule left σ (length (now (list .entry))) (drop start (now (s .entry))))) ⌝ }
 {
     let mut at = start;
@@ -267,7 +267,7 @@ pub fn read_rule(
     left: usize,
     list: &mut [u32],
 ) -> Place
-    requires { ⌜ Ready (now s) at (now vars) (mk (now nodes) n) ⌝ }
+    requires { ⌜ Readable (now s) at (now vars) (mk (now nodes) n) ⌝ }
     ensures { λ r. ⌜ ((σ : Choices) → Knows (mk (now (nodes .entry)) n) (now (vars .entry)) σ → Agree HoldsRule (now (s .entry)) at (mk (now (nodes .entry)) n) (now (nodes .exit)) r (readRule left σ (length (now (list .entry))) (drop at (now (s .entry))))) ⌝ }
 {
     let p = read_clauses(s, at, vars, nodes, n, left, list);

@@ -25,8 +25,8 @@ use Rattle.tables.proofs.SectionsLaws.{product-few}
 
 -- The reader m reads back the bytes of each value that has P, and takes no other bytes for it.
 record Coded {A : Type 0} (P : A → Type 0) (bytes : A → Bytes) (m : Reader A) : Type 0 where
-  back : (a : A) → P a → (r : Bytes) → m (bytes a ++ r) ≡ took a r
-  forth : (s : Bytes) → AreBytes s → (a : A) (t : Bytes) → m s ≡ took a t → s ≡ bytes a ++ t
+  decodes : (a : A) → P a → (r : Bytes) → m (bytes a ++ r) ≡ took a r
+  encodes : (s : Bytes) → AreBytes s → (a : A) (t : Bytes) → m s ≡ took a t → s ≡ bytes a ++ t
 
 -- A first part of n bytes.
 front-at : (b r : Bytes) (n : ℕ) → length b ≡ n → front n (b ++ r) ≡ took b r
@@ -55,13 +55,13 @@ module _ (n : ℕ) (few : n ≤ 64) where
       let q : 2 ^ n ≤ 2 ^ 64 = pow-le-pow-right {n = 2} (omega arith) {i = n} {j = 64} few in
       omega arith
 
-  within-back : (w : ℕ) → w < 2 ^ n → (r : Bytes) → wordWithin n (lowestFirst 8 w) r ≡ took w r
+  within-decodes : (w : ℕ) → w < 2 ^ n → (r : Bytes) → wordWithin n (lowestFirst 8 w) r ≡ took w r
   unfolding wordWithin next refuse
-  within-back w h r = rw (word-lowest 8 w (word-fits w h), lt-leb (2 ^ n) w h)
+  within-decodes w h r = rw (word-lowest 8 w (word-fits w h), lt-leb (2 ^ n) w h)
 
-within-forth : (n : ℕ) (b s : Bytes) {w : ℕ} {t : Bytes} → length b ≡ 8 → AreBytes b → wordWithin n b s ≡ took w t → b ++ s ≡ lowestFirst 8 w ++ t
+within-encodes : (n : ℕ) (b s : Bytes) {w : ℕ} {t : Bytes} → length b ≡ 8 → AreBytes b → wordWithin n b s ≡ took w t → b ++ s ≡ lowestFirst 8 w ++ t
 unfolding wordWithin
-within-forth n b s {w} {t} l h q =
+within-encodes n b s {w} {t} l h q =
     refuse-case _ _ s _ q
     λ c k.
     let e : wordFrom b ≡ w = cc in
@@ -72,10 +72,10 @@ word-coded : (n : ℕ) → n ≤ 64 → Coded (λ w. w < 2 ^ n) wordBytes (wordR
 unfolding wordRow wordBytes next
 word-coded n few =
     record {
-      back = λ w h r. rw (front-at (lowestFirst 8 w) r 8 (lowest-length 8 w)) (within-back n few w h r);
-      forth = λ s h w t q. next-case (front 8 s) _ q λ b u e k.
+      decodes = λ w h r. rw (front-at (lowestFirst 8 w) r 8 (lowest-length 8 w)) (within-decodes n few w h r);
+      encodes = λ s h w t q. next-case (front 8 s) _ q λ b u e k.
           let p = front-split 8 s e in
-          p .whole ∙ within-forth n b u (p .size) (bytes-before b u (rw (p .whole) at h)) k;
+          p .whole ∙ within-encodes n b u (p .size) (bytes-before b u (rw (p .whole) at h)) k;
     }
 
 -- A row of nine bytes: the first, and those of its word.
@@ -99,13 +99,13 @@ marked-coded : (n : ℕ) → n ≤ 64 → Coded (λ w. w < 2 ^ n) markedBytes (m
 unfolding markedRow markedBytes next refuse
 marked-coded n few =
     record {
-      back = λ w h r. rw (front-at (1 ∷ lowestFirst 8 w) r 9 (ap suc (lowest-length 8 w))) (within-back n few w h r);
-      forth = λ s h w t q. next-case (front 9 s) _ q λ b u e k.
+      decodes = λ w h r. rw (front-at (1 ∷ lowestFirst 8 w) r 9 (ap suc (lowest-length 8 w))) (within-decodes n few w h r);
+      encodes = λ s h w t q. next-case (front 9 s) _ q λ b u e k.
           refuse-case (eqb (getD b 0 0) 0) _ u _ k λ c₀ k₀.
           refuse-case (ltb 1 (getD b 0 0)) _ u _ k₀ λ c₁ k₁.
           let p = nine s h e in
           let one : getD b 0 0 ≡ 1 = entered (getD b 0 0) (eqb-false (getD b 0 0) 0 c₀) (ltb-false 1 (getD b 0 0) c₁) in
-          p .split ∙ ap₂ (λ (m : ℕ) (x : Bytes). m ∷ x) one (within-forth n (drop 1 b) u (p .eight) (p .bytes) k₁);
+          p .split ∙ ap₂ (λ (m : ℕ) (x : Bytes). m ∷ x) one (within-encodes n (drop 1 b) u (p .eight) (p .bytes) k₁);
     }
   where
     entered : (m : ℕ) → (m ≡ 0 → ⊥) → m ≤ 1 → m ≡ 1
@@ -116,29 +116,29 @@ session-coded : (users roles : ℕ) → roles ≤ 64 → Coded (Known users role
 unfolding sessionRow sessionBytes next refuse
 session-coded users roles few =
     record {
-      back = λ a h r.
+      decodes = λ a h r.
           rw (
             front-at (a .user ∷ lowestFirst 8 (a .active)) r 9 (ap suc (lowest-length 8 (a .active))),
             lt-leb users (a .user) (h .user),
-            within-back roles few (a .active) (h .active) r,
+            within-decodes roles few (a .active) (h .active) r,
           );
-      forth = λ s h a t q. next-case (front 9 s) _ q λ b u e k.
+      encodes = λ s h a t q. next-case (front 9 s) _ q λ b u e k.
           refuse-case (leb users (getD b 0 0)) _ u _ k λ c₀ k₀.
           next-case (wordWithin roles (drop 1 b) u) _ k₀ λ w v f l.
           let p = nine s h e in
           let d : record { user = getD b 0 0; active = w } ≡ a = cc in
           let z : v ≡ t = cc in
-          rw (← d, ← z) (p .split ∙ ap (λ (x : Bytes). getD b 0 0 ∷ x) (within-forth roles (drop 1 b) u (p .eight) (p .bytes) f));
+          rw (← d, ← z) (p .split ∙ ap (λ (x : Bytes). getD b 0 0 ∷ x) (within-encodes roles (drop 1 b) u (p .eight) (p .bytes) f));
     }
 
 -- A count.
-byte-back : (n : ℕ) (r : Bytes) → byte (n ∷ r) ≡ took n r
+byte-decodes : (n : ℕ) (r : Bytes) → byte (n ∷ r) ≡ took n r
 unfolding byte next
-byte-back n r = rw (front-at (n ∷ []) r 1 refl)
+byte-decodes n r = rw (front-at (n ∷ []) r 1 refl)
 
-byte-forth : (s : Bytes) {n : ℕ} {t : Bytes} → byte s ≡ took n t → s ≡ n ∷ t
+byte-encodes : (s : Bytes) {n : ℕ} {t : Bytes} → byte s ≡ took n t → s ≡ n ∷ t
 unfolding byte
-byte-forth s {n} {t} q =
+byte-encodes s {n} {t} q =
     next-case (front 1 s) _ q
     λ b u e k.
     let p = front-split 1 s e in
@@ -151,42 +151,42 @@ byte-forth s {n} {t} q =
     single (x ∷ []) l = refl
     single (x ∷ y ∷ b) l = absurd (omega arith)
 
-count-back : (limit n : ℕ) (r : Bytes) → n ≤ limit → count limit (n ∷ r) ≡ took n r
+count-decodes : (limit n : ℕ) (r : Bytes) → n ≤ limit → count limit (n ∷ r) ≡ took n r
 unfolding count next refuse
-count-back limit n r h = rw (byte-back n r, le-ltb limit n h)
+count-decodes limit n r h = rw (byte-decodes n r, le-ltb limit n h)
 
-count-forth : (limit : ℕ) (s : Bytes) {n : ℕ} {t : Bytes} → count limit s ≡ took n t → s ≡ n ∷ t
+count-encodes : (limit : ℕ) (s : Bytes) {n : ℕ} {t : Bytes} → count limit s ≡ took n t → s ≡ n ∷ t
 unfolding count
-count-forth limit s {n} {t} q =
+count-encodes limit s {n} {t} q =
     next-case (byte s) _ q
     λ a u e h. refuse-case _ _ u _ h
     λ c k.
     let x : a ≡ n = cc in
     let d : u ≡ t = cc in
-    rw (← x, ← d) (byte-forth s e)
+    rw (← x, ← d) (byte-encodes s e)
 
 -- Rows, one after another.
 module _ {A : Type 0} (P : A → Type 0) (bytes : A → Bytes) (row : Reader A) (h : Coded P bytes row) where
-  rows-back : (xs : List A) → Every P xs → (r : Bytes) → rows row (length xs) (joined (map bytes xs) ++ r) ≡ took xs r
+  rows-decodes : (xs : List A) → Every P xs → (r : Bytes) → rows row (length xs) (joined (map bytes xs) ++ r) ≡ took xs r
   unfolding rows next joined
-  rows-back [] e r = refl
-  rows-back (x ∷ xs) e r =
-      rw (append-assoc (bytes x) (joined (map bytes xs)) r, h .back x (e .0) (joined (map bytes xs) ++ r), rows-back xs (e .1) r)
+  rows-decodes [] e r = refl
+  rows-decodes (x ∷ xs) e r =
+      rw (append-assoc (bytes x) (joined (map bytes xs)) r, h .decodes x (e .0) (joined (map bytes xs) ++ r), rows-decodes xs (e .1) r)
 
-  rows-forth : (n : ℕ) (s : Bytes) → AreBytes s → {xs : List A} {t : Bytes} → rows row n s ≡ took xs t → s ≡ joined (map bytes xs) ++ t
+  rows-encodes : (n : ℕ) (s : Bytes) → AreBytes s → {xs : List A} {t : Bytes} → rows row n s ≡ took xs t → s ≡ joined (map bytes xs) ++ t
   unfolding rows joined
-  rows-forth zero s b {xs} {t} q =
+  rows-encodes zero s b {xs} {t} q =
       let e : [] ≡ xs = cc in
       let d : s ≡ t = cc in
       rw (← e, d)
-  rows-forth (suc n) s b {xs} {t} q =
+  rows-encodes (suc n) s b {xs} {t} q =
       next-case (row s) _ q
       λ a u e k. next-case (rows row n u) _ k
       λ ys v f l.
       let d : a ∷ ys ≡ xs = cc in
       let z : v ≡ t = cc in
-      let p : s ≡ bytes a ++ u = h .forth s b a u e in
-      let i = rows-forth n u (bytes-behind (bytes a) u (rw p at b)) f in
+      let p : s ≡ bytes a ++ u = h .encodes s b a u e in
+      let i = rows-encodes n u (bytes-behind (bytes a) u (rw p at b)) f in
       rw (← d, ← z) (p ∙ ap (λ (x : Bytes). bytes a ++ x) i ∙ sym (append-assoc (bytes a) (joined (map bytes ys)) v))
 
   rows-count : (n : ℕ) (s : Bytes) {xs : List A} {t : Bytes} → rows row n s ≡ took xs t → length xs ≡ n
@@ -198,68 +198,68 @@ section-coded : {A : Type 0} (P : ℕ → A → Type 0) (bytes : A → Bytes) (r
 unfolding section counted next
 section-coded P bytes row h =
     record {
-      back = λ xs p r.
+      decodes = λ xs p r.
           rw (
-            count-back 64 (length xs) (joined (map bytes xs) ++ r) (p .0),
-            rows-back (P (length xs)) bytes (row (length xs)) (h (length xs) (p .0)) xs (p .1) r,
+            count-decodes 64 (length xs) (joined (map bytes xs) ++ r) (p .0),
+            rows-decodes (P (length xs)) bytes (row (length xs)) (h (length xs) (p .0)) xs (p .1) r,
           );
-      forth = λ s b xs t q. next-case (count 64 s) _ q λ n u e k.
-          let f : s ≡ n ∷ u = count-forth 64 s e in
+      encodes = λ s b xs t q. next-case (count 64 s) _ q λ n u e k.
+          let f : s ≡ n ∷ u = count-encodes 64 s e in
           let c = h n (count-few 64 s e) in
           let l : length xs ≡ n = rows-count (P n) bytes (row n) c n u k in
-          f ∙ ap₂ (λ (m : ℕ) (x : Bytes). m ∷ x) (sym l) (rows-forth (P n) bytes (row n) c n u (bytes-behind (n ∷ []) u (rw f at b)) k);
+          f ∙ ap₂ (λ (m : ℕ) (x : Bytes). m ∷ x) (sym l) (rows-encodes (P n) bytes (row n) c n u (bytes-behind (n ∷ []) u (rw f at b)) k);
     }
 
 -- Sections 4 to 6.
-permissions-back : (product roles : ℕ) → roles ≤ 64 → (xs : List ℕ) → length xs ≡ product → Every (λ w. w < 2 ^ roles) xs → (r : Bytes)
+permissions-decodes : (product roles : ℕ) → roles ≤ 64 → (xs : List ℕ) → length xs ≡ product → Every (λ w. w < 2 ^ roles) xs → (r : Bytes)
     → permissions product roles (counted markedBytes xs ++ r) ≡ took xs r
 unfolding permissions counted next refuse
-permissions-back product roles few xs l e r =
+permissions-decodes product roles few xs l e r =
     rw (
-      byte-back (length xs) (joined (map markedBytes xs) ++ r),
+      byte-decodes (length xs) (joined (map markedBytes xs) ++ r),
       eq-eqb (length xs) product l,
-      rows-back (λ w. w < 2 ^ roles) markedBytes (markedRow roles) (marked-coded roles few) xs e r,
+      rows-decodes (λ w. w < 2 ^ roles) markedBytes (markedRow roles) (marked-coded roles few) xs e r,
     )
 
-permissions-forth : (product roles : ℕ) → roles ≤ 64 → (s : Bytes) → AreBytes s → {xs : List ℕ} {t : Bytes} → permissions product roles s ≡ took xs t
+permissions-encodes : (product roles : ℕ) → roles ≤ 64 → (s : Bytes) → AreBytes s → {xs : List ℕ} {t : Bytes} → permissions product roles s ≡ took xs t
     → s ≡ counted markedBytes xs ++ t
 unfolding permissions counted
-permissions-forth product roles few s b {xs} {t} q =
+permissions-encodes product roles few s b {xs} {t} q =
     next-case (byte s) _ q
     λ n u e k. refuse-case _ _ u _ k
     λ c g.
-    let f : s ≡ n ∷ u = byte-forth s e in
+    let f : s ≡ n ∷ u = byte-encodes s e in
     let P : ℕ → Type 0 = λ w. w < 2 ^ roles in
     let m = marked-coded roles few in
     let l : length xs ≡ n = rows-count P markedBytes (markedRow roles) m n u g in
-    f ∙ ap₂ (λ (k : ℕ) (x : Bytes). k ∷ x) (sym l) (rows-forth P markedBytes (markedRow roles) m n u (bytes-behind (n ∷ []) u (rw f at b)) g)
+    f ∙ ap₂ (λ (k : ℕ) (x : Bytes). k ∷ x) (sym l) (rows-encodes P markedBytes (markedRow roles) m n u (bytes-behind (n ∷ []) u (rw f at b)) g)
 
 module _ (roles : ℕ) (few : roles ≤ 64) where
-  rights-back : (q : Rights) → q .operationCount ≤ 8 → q .objectCount ≤ 8 → length (q .permissionRows) ≡ q .operationCount * q .objectCount
+  rights-decodes : (q : Rights) → q .operationCount ≤ 8 → q .objectCount ≤ 8 → length (q .permissionRows) ≡ q .operationCount * q .objectCount
       → Every (λ w. w < 2 ^ roles) (q .permissionRows) → (r : Bytes)
       → rights roles (q .operationCount ∷ (q .objectCount ∷ (counted markedBytes (q .permissionRows) ++ r))) ≡ took q r
   unfolding rights next
-  rights-back q la lb l e r =
+  rights-decodes q la lb l e r =
       let ps = counted markedBytes (q .permissionRows) ++ r in
       rw (
-        count-back 8 (q .operationCount) (q .objectCount ∷ ps) la,
-        count-back 8 (q .objectCount) ps lb,
-        permissions-back (q .operationCount * q .objectCount) roles few (q .permissionRows) l e r,
+        count-decodes 8 (q .operationCount) (q .objectCount ∷ ps) la,
+        count-decodes 8 (q .objectCount) ps lb,
+        permissions-decodes (q .operationCount * q .objectCount) roles few (q .permissionRows) l e r,
       )
 
-  rights-forth : (s : Bytes) → AreBytes s → {q : Rights} {t : Bytes} → rights roles s ≡ took q t
+  rights-encodes : (s : Bytes) → AreBytes s → {q : Rights} {t : Bytes} → rights roles s ≡ took q t
       → s ≡ q .operationCount ∷ (q .objectCount ∷ (counted markedBytes (q .permissionRows) ++ t))
   unfolding rights
-  rights-forth s h {q} {t} e =
+  rights-encodes s h {q} {t} e =
       next-case (count 8 s) _ e
       λ a u ea k. next-case (count 8 u) _ k
       λ b v eb l. next-case (permissions (a * b) roles v) _ l
       λ ps w ep m.
-      let fa : s ≡ a ∷ u = count-forth 8 s ea in
-      let fb : u ≡ b ∷ v = count-forth 8 u eb in
+      let fa : s ≡ a ∷ u = count-encodes 8 s ea in
+      let fb : u ≡ b ∷ v = count-encodes 8 u eb in
       let hu = bytes-behind (a ∷ []) u (rw fa at h) in
       let hv = bytes-behind (b ∷ []) v (rw fb at hu) in
-      let fp = permissions-forth (a * b) roles few v hv ep in
+      let fp = permissions-encodes (a * b) roles few v hv ep in
       let d : record { operationCount = a; objectCount = b; permissionRows = ps } ≡ q = cc in
       let z : w ≡ t = cc in
       rw (← d, ← z) (fa ∙ ap (λ (x : Bytes). a ∷ x) (fb ∙ ap (λ (x : Bytes). b ∷ x) fp))
@@ -275,27 +275,27 @@ abbrev collectionBytes : Collections → Bytes → Bytes
 collectionBytes c t = counted wordBytes (c .cr) ++ (counted wordBytes (c .cu) ++ (counted wordBytes (c .cp) ++ t))
 
 module _ (r u p : ℕ) (lr : r ≤ 64) (lu : u ≤ 64) (lp : p ≤ 64) where
-  collections-back : (c : Collections) → Held r (c .cr) → Held u (c .cu) → Held p (c .cp) → (t : Bytes) → collections r u p (collectionBytes c t) ≡ took c t
+  collections-decodes : (c : Collections) → Held r (c .cr) → Held u (c .cu) → Held p (c .cp) → (t : Bytes) → collections r u p (collectionBytes c t) ≡ took c t
   unfolding collections next
-  collections-back c hr hu hp t =
+  collections-decodes c hr hu hp t =
       rw (
-        words-coded r lr .back (c .cr) hr (counted wordBytes (c .cu) ++ (counted wordBytes (c .cp) ++ t)),
-        words-coded u lu .back (c .cu) hu (counted wordBytes (c .cp) ++ t),
-        words-coded p lp .back (c .cp) hp t,
+        words-coded r lr .decodes (c .cr) hr (counted wordBytes (c .cu) ++ (counted wordBytes (c .cp) ++ t)),
+        words-coded u lu .decodes (c .cu) hu (counted wordBytes (c .cp) ++ t),
+        words-coded p lp .decodes (c .cp) hp t,
       )
 
-  collections-forth : (s : Bytes) → AreBytes s → {c : Collections} {t : Bytes} → collections r u p s ≡ took c t → s ≡ collectionBytes c t
+  collections-encodes : (s : Bytes) → AreBytes s → {c : Collections} {t : Bytes} → collections r u p s ≡ took c t → s ≡ collectionBytes c t
   unfolding collections
-  collections-forth s h {c} {t} e =
+  collections-encodes s h {c} {t} e =
       next-case (section (λ _. wordRow r) s) _ e
       λ x v ex k. next-case (section (λ _. wordRow u) v) _ k
       λ y w ey l. next-case (section (λ _. wordRow p) w) _ l
       λ z a ez m.
-      let fx = words-coded r lr .forth s h x v ex in
+      let fx = words-coded r lr .encodes s h x v ex in
       let hv = bytes-behind (counted wordBytes x) v (rw fx at h) in
-      let fy = words-coded u lu .forth v hv y w ey in
+      let fy = words-coded u lu .encodes v hv y w ey in
       let hw = bytes-behind (counted wordBytes y) w (rw fy at hv) in
-      let fz = words-coded p lp .forth w hw z a ez in
+      let fz = words-coded p lp .encodes w hw z a ez in
       let d : record { cr = x; cu = y; cp = z } ≡ c = cc in
       let f : a ≡ t = cc in
       rw (← d, ← f) (fx ∙ ap (λ (s : Bytes). counted wordBytes x ++ s) (fy ∙ ap (λ (s : Bytes). counted wordBytes y ++ s) fz))
@@ -335,13 +335,13 @@ sessions-known users roles (u ∷ us) (w ∷ ws) f h =
 
 -- The nine sections.
 module _ {A B : Type 0} {P : A → Type 0} {bytes : A → Bytes} {m : Reader A} (h : Coded P bytes m) where
-  then-back : (a : A) → P a → (r : Bytes) (f : A → Reader B) {x : Taken B} → f a r ≡ x → next (m (bytes a ++ r)) f ≡ x
+  then-decodes : (a : A) → P a → (r : Bytes) (f : A → Reader B) {x : Taken B} → f a r ≡ x → next (m (bytes a ++ r)) f ≡ x
   unfolding next
-  then-back a p r f q = rw (h .back a p r) q
+  then-decodes a p r f q = rw (h .decodes a p r) q
 
-pub sections-back : (T : Tables) → Sound T → sections (encode T) ≡ took T []
+pub sections-decodes : (T : Tables) → Sound T → sections (encode T) ≡ took T []
 unfolding sections encode sectionBytes joined next
-sections-back T sound =
+sections-decodes T sound =
     let f = sound .fits in
     let b = sound .bounded in
     let R = length (T .roleRows) in
@@ -353,22 +353,22 @@ sections-back T sound =
     let held : length (T .permissionRows) ≤ 64 = rw (f .permissions) (product-few (f .operations) (f .objects)) in
     let q : Rights = record { operationCount = T .operationCount; objectCount = T .objectCount; permissionRows = T .permissionRows } in
     let c : Collections = record { cr = T .cr; cu = T .cu; cp = T .cp } in
-    then-back (section-coded (λ n w. w < 2 ^ n) wordBytes (λ n. wordRow n) word-coded) (T .roleRows) (f .roles, below-every R (T .roleRows) (b .roles)) _ _
-    (then-back (section-coded (λ _ w. w < 2 ^ R) markedBytes (λ _. markedRow R) (λ _ _. marked-coded R (f .roles))) (T .userRows)
+    then-decodes (section-coded (λ n w. w < 2 ^ n) wordBytes (λ n. wordRow n) word-coded) (T .roleRows) (f .roles, below-every R (T .roleRows) (b .roles)) _ _
+    (then-decodes (section-coded (λ _ w. w < 2 ^ R) markedBytes (λ _. markedRow R) (λ _ _. marked-coded R (f .roles))) (T .userRows)
     (f .users, below-every R (T .userRows) (b .users)) _ _
-    (then-back (section-coded (λ _. Known U R) sessionBytes (λ _. sessionRow U R) (λ _ _. session-coded U R (f .roles))) ss
+    (then-decodes (section-coded (λ _. Known U R) sessionBytes (λ _. sessionRow U R) (λ _ _. session-coded U R (f .roles))) ss
     (n, sessions-known U R (T .sessionUsers) (T .sessionRows) (b .numbers) (b .sessions)) _ _
     (rw (
-      rights-back R (f .roles) q (f .operations) (f .objects) (f .permissions) (below-every R (T .permissionRows) (b .permissions)) (collectionBytes c []),
-      collections-back R U (length (T .permissionRows)) (f .roles) (f .users) held c (f .crs, below-every R (T .cr) (b .crs))
+      rights-decodes R (f .roles) q (f .operations) (f .objects) (f .permissions) (below-every R (T .permissionRows) (b .permissions)) (collectionBytes c []),
+      collections-decodes R U (length (T .permissionRows)) (f .roles) (f .users) held c (f .crs, below-every R (T .cr) (b .crs))
           (f .cus, below-every U (T .cu) (b .cus)) (f .cps, below-every (length (T .permissionRows)) (T .cp) (b .cps)) [],
       us,
       as′,
     ))))
 
-pub sections-forth : (s : Bytes) → AreBytes s → {T : Tables} → sections s ≡ took T [] → s ≡ encode T
+pub sections-encodes : (s : Bytes) → AreBytes s → {T : Tables} → sections s ≡ took T [] → s ≡ encode T
 unfolding sections encode sectionBytes joined
-sections-forth s h {T} e =
+sections-encodes s h {T} e =
     next-case (section (λ n. wordRow n) s) _ e
     λ rs s₁ e₁ k₁. next-case (section (λ _. markedRow (length rs)) s₁) _ k₁
     λ us s₂ e₂ k₂. next-case (section (λ _. sessionRow (length us) (length rs)) s₂) _ k₂
@@ -382,27 +382,27 @@ sections-forth s h {T} e =
     let held : length (q .permissionRows) ≤ 64 = rw (fits .permissions) (product-few (fits .operations) (fits .objects)) in
     let R = length rs in
     let U = length us in
-    let f₁ = section-coded (λ n w. w < 2 ^ n) wordBytes (λ n. wordRow n) word-coded .forth s h rs s₁ e₁ in
+    let f₁ = section-coded (λ n w. w < 2 ^ n) wordBytes (λ n. wordRow n) word-coded .encodes s h rs s₁ e₁ in
     let h₁ = bytes-behind (counted wordBytes rs) s₁ (rw f₁ at h) in
-    let f₂ = section-coded (λ _ w. w < 2 ^ R) markedBytes (λ _. markedRow R) (λ _ _. marked-coded R (fits .roles)) .forth s₁ h₁ us s₂ e₂ in
+    let f₂ = section-coded (λ _ w. w < 2 ^ R) markedBytes (λ _. markedRow R) (λ _ _. marked-coded R (fits .roles)) .encodes s₁ h₁ us s₂ e₂ in
     let h₂ = bytes-behind (counted markedBytes us) s₂ (rw f₂ at h₁) in
-    let f₃ = section-coded (λ _. Known U R) sessionBytes (λ _. sessionRow U R) (λ _ _. session-coded U R (fits .roles)) .forth s₂ h₂ ss s₃ e₃ in
+    let f₃ = section-coded (λ _. Known U R) sessionBytes (λ _. sessionRow U R) (λ _ _. session-coded U R (fits .roles)) .encodes s₂ h₂ ss s₃ e₃ in
     let h₃ = bytes-behind (counted sessionBytes ss) s₃ (rw f₃ at h₂) in
-    let f₄ = rights-forth R (fits .roles) s₃ h₃ e₄ in
+    let f₄ = rights-encodes R (fits .roles) s₃ h₃ e₄ in
     let h₄ = bytes-behind (q .operationCount ∷ q .objectCount ∷ counted markedBytes (q .permissionRows)) s₄ (rw f₄ at h₃) in
-    let f₅ = collections-forth R U (length (q .permissionRows)) (fits .roles) (fits .users) held s₄ h₄ e₅ in
+    let f₅ = collections-encodes R U (length (q .permissionRows)) (fits .roles) (fits .users) held s₄ h₄ e₅ in
     rw (← d, sessions-again ss) (rw none at (rw f₅ at (rw f₄ at (rw f₃ at (rw f₂ at f₁)))))
 
 -- "Tables are accepted when no check on them refuses": tables that pass are what is read from their bytes.
 pub passes-accepted : (T : Tables) → Passes T → tablesOf (encode T) ≡ taken T
 unfolding tablesOf whole next nothingLeft refuse
-passes-accepted T p = rw (sections-back T (p .sound), p .rank, p .reach, p .crs, p .cus, p .cps)
+passes-accepted T p = rw (sections-decodes T (p .sound), p .rank, p .reach, p .crs, p .cus, p .cps)
 
 -- Accepted bytes are those of their tables, and of no others.
 pub accepted-bytes : (b : Bytes) → AreBytes b → {T : Tables} → tablesOf b ≡ taken T → b ≡ encode T
 accepted-bytes b h q =
     let r = accepted-read b q in
-    sections-forth b h (rw (none-left (r .rest) (r .none)) at (r .reads))
+    sections-encodes b h (rw (none-left (r .rest) (r .none)) at (r .reads))
   where
     none-left : (s : Bytes) → length s ≤ 0 → s ≡ []
     none-left [] l = refl

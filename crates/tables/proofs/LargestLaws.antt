@@ -11,7 +11,7 @@ use borrow.Author.Tests.{eqb-true, eq-eqb, ne-eqb}
 use Rattle.words.specs.Words.{has, itemOf}
 use Rattle.words.proofs.WordsLaws.{has-zero, has-item, item-lt, and-both}
 use Rattle.tables.specs.Tables.{Tables}
-use Rattle.tables.specs.Checks.{allTo, implies, above, reflexive, transitive, antisymmetric, ranked, inReach, apart}
+use Rattle.tables.specs.Checks.{allTo, implies, dominates, reflexive, transitive, antisymmetric, ranked, inReach, apart}
 use Rattle.tables.specs.Bytes.{Bytes, AreBytes}
 use Rattle.tables.specs.Accepted.{Below, Passes}
 use Rattle.tables.specs.Reading.{taken, tablesOf}
@@ -63,20 +63,20 @@ single-ranked rows few h = and-both (all-every n _ self) (and-both (all-every n 
     n : ℕ
     n = length rows
 
-    is : (r q : ℕ) → r < n → q < n → above rows r q ≡ eqb q r
+    is : (r q : ℕ) → r < n → q < n → dominates rows r q ≡ eqb q r
     is r q lr lq = ap (λ (w : ℕ). has w q) (h r lr) ∙ has-item r q (omega arith)
 
-    self : (r : ℕ) → r < n → above rows r r ≡ true
+    self : (r : ℕ) → r < n → dominates rows r r ≡ true
     self r l = is r r l l ∙ eq-eqb r r refl
 
-    along : (r : ℕ) → r < n → allTo n (λ q. allTo n (λ p. implies (above rows r q && above rows q p) (above rows r p))) ≡ true
+    along : (r : ℕ) → r < n → allTo n (λ q. allTo n (λ p. implies (dominates rows r q && dominates rows q p) (dominates rows r p))) ≡ true
     along r lr = all-every n _ λ q lq. all-every n _ λ p lp.
-        implied (above rows r q) (above rows q p) (above rows r p) λ a b.
+        implied (dominates rows r q) (dominates rows q p) (dominates rows r p) λ a b.
         is r p lr lp ∙ eq-eqb p r (eqb-true p q (sym (is q p lq lp) ∙ b) ∙ eqb-true q r (sym (is r q lr lq) ∙ a))
 
-    not-both : (r : ℕ) → r < n → allTo n (λ q. implies (above rows r q && above rows q r) (eqb r q)) ≡ true
+    not-both : (r : ℕ) → r < n → allTo n (λ q. implies (dominates rows r q && dominates rows q r) (eqb r q)) ≡ true
     not-both r lr = all-every n _ λ q lq.
-        implied (above rows r q) (above rows q r) (eqb r q) λ a b. eq-eqb r q (eqb-true r q (sym (is q r lq lr) ∙ b))
+        implied (dominates rows r q) (dominates rows q r) (eqb r q) λ a b. eq-eqb r q (eqb-true r q (sym (is q r lq lr) ∙ b))
 
 differing-apart : (ws : List ℕ) → ((i : ℕ) → i < length ws → getD ws i 0 ≡ i) → apart ws ≡ true
 unfolding apart

@@ -15,25 +15,25 @@ use Rattle.tables.specs.declared.Outcome.{Outcome}
 use Rattle.tables.specs.declared.Outcome.the-variants.{Refused, Accepted}
 use Rattle.tables.specs.Tables.{Tables}
 use Rattle.tables.specs.Checks.{ranked, inReach, apart}
-use Rattle.tables.specs.Reading.{Bytes, stop, took, next, refuse, sections, nothingLeft, whole, turned, taken, tablesOf, wordsOf, Reading}
+use Rattle.tables.specs.Reading.{Bytes, stop, took, next, refuse, sections, nothingLeft, whole, rejected, taken, tablesOf, wordsOf, Reading}
 use Rattle.tables.specs.Reading.{outcomeNumber, readingNumber}
 use Rattle.tables.specs.Flat.{flat}
-use Rattle.tables.specs.code.Reads.{outcomeOf, lateOf, Filled}
+use Rattle.tables.specs.code.Reads.{readingOutcome, lateOf, Filled}
 use Rattle.answers.proofs.AnswerLaws.{number-some, same-number}
 use Rattle.tables.proofs.ReadLaws.{Got}
 use Rattle.tables.proofs.FitsLaws.{Sound, sections-sound}
 use Rattle.tables.proofs.LaidLaws.{filled-flat}
 
-pub load-stop : (b : Bytes) {e : Refusal} → sections b ≡ stop e → tablesOf b ≡ turned e
+pub load-stop : (b : Bytes) {e : Refusal} → sections b ≡ stop e → tablesOf b ≡ rejected e
 unfolding tablesOf whole next
 load-stop b q = rw q
 
-pub left-over : (b : Bytes) {T : Tables} {t : Bytes} → sections b ≡ took T t → 0 < length t → tablesOf b ≡ turned LeftOver
+pub left-over : (b : Bytes) {T : Tables} {t : Bytes} → sections b ≡ took T t → 0 < length t → tablesOf b ≡ rejected LeftOver
 unfolding tablesOf whole next nothingLeft refuse
 left-over b {T} {t} q l = rw (q, lt-ltb 0 (length t) l)
 
 -- Once the sections are read, a refusal is one of 7 to 10.
-pub late-refusal : (b : Bytes) {T : Tables} {t : Bytes} {e : Refusal} → sections b ≡ took T t → tablesOf b ≡ turned e → 7 ≤ numberOf e
+pub late-refusal : (b : Bytes) {T : Tables} {t : Bytes} {e : Refusal} → sections b ≡ took T t → tablesOf b ≡ rejected e → 7 ≤ numberOf e
 unfolding tablesOf whole next nothingLeft refuse
 late-refusal b {T} {t} {e} q h =
     go (ltb 0 (length t)) (ranked (T .roleRows)) (inReach T) (apart (T .cr) && (apart (T .cu) && apart (T .cp))) refl refl refl refl
@@ -50,19 +50,19 @@ late-refusal b {T} {t} {e} q h =
     go false true true true e₀ e₁ e₂ e₃ = let o : _≡_ {A = ℕ} 0 1 = cc (rw (q, e₀, e₁, e₂, e₃) at h) in absurd (omega arith)
 
 module _ (b : Bytes) {T : Tables} {n : ℕ} (q : sections b ≡ took T (drop n b)) where
-  pub load-left : n < length b → tablesOf b ≡ turned LeftOver
+  pub load-left : n < length b → tablesOf b ≡ rejected LeftOver
   load-left l = left-over b q (rw length-drop (omega arith))
 
   module _ (l : length b ≤ n) where
     none : ltb 0 (length (drop n b)) ≡ false
     none = le-ltb 0 (length (drop n b)) (rw length-drop (omega arith))
 
-    pub late-outcome : lateOf T ≡ outcomeOf (tablesOf b)
+    pub late-outcome : lateOf T ≡ readingOutcome (tablesOf b)
     unfolding tablesOf whole next nothingLeft refuse lateOf
     late-outcome = go (ranked (T .roleRows)) (inReach T) (apart (T .cr) && (apart (T .cu) && apart (T .cp))) refl refl refl
       where
         go : (x y z : Bool) → ranked (T .roleRows) ≡ x → inReach T ≡ y → (apart (T .cr) && (apart (T .cu) && apart (T .cp))) ≡ z
-            → lateOf T ≡ outcomeOf (tablesOf b)
+            → lateOf T ≡ readingOutcome (tablesOf b)
         go false y z e₁ e₂ e₃ = rw (q, none, e₁)
         go true false z e₁ e₂ e₃ = rw (q, none, e₁, e₂)
         go true true false e₁ e₂ e₃ = rw (q, none, e₁, e₂, e₃)
@@ -95,17 +95,17 @@ pub never : {A : Type 0} {e : Refusal} → Refused e ≡ Accepted → A
 never q = let z : _≡_ {A = ℕ} 0 1 = cc in absurd (omega arith)
 
 -- Refused tables have no words.
-pub refused-words : (r : Reading) {o : Outcome} {e : Refusal} → o ≡ outcomeOf r → o ≡ Refused e → replicate 704 0 ≡ wordsOf r
-refused-words (turned e) p q = refl
+pub refused-words : (r : Reading) {o : Outcome} {e : Refusal} → o ≡ readingOutcome r → o ≡ Refused e → replicate 704 0 ≡ wordsOf r
+refused-words (rejected e) p q = refl
 refused-words (taken T) p q = never (sym q ∙ p)
 
 -- The number of an outcome says which case it is.
-pub outcome-number : (R : Reading) {o : Outcome} → o ≡ outcomeOf R → outcomeNumber o ≡ readingNumber R
-outcome-number (turned e) q = rw q
+pub outcome-number : (R : Reading) {o : Outcome} → o ≡ readingOutcome R → outcomeNumber o ≡ readingNumber R
+outcome-number (rejected e) q = rw q
 outcome-number (taken T) q = rw q
 
-pub outcome-case : (R : Reading) (o : Outcome) → outcomeNumber o ≡ readingNumber R → o ≡ outcomeOf R
-outcome-case (turned e) (Refused f) q = ap Refused (same-number f e q)
-outcome-case (turned e) Accepted q = absurd (omega (arith, number-some e))
+pub outcome-case : (R : Reading) (o : Outcome) → outcomeNumber o ≡ readingNumber R → o ≡ readingOutcome R
+outcome-case (rejected e) (Refused f) q = ap Refused (same-number f e q)
+outcome-case (rejected e) Accepted q = absurd (omega (arith, number-some e))
 outcome-case (taken T) (Refused f) q = absurd (omega (arith, number-some f))
 outcome-case (taken T) Accepted q = refl

@@ -17,7 +17,7 @@ use Rattle.answers.specs.Refusal.{numberOf}
 use Rattle.answers.proofs.AnswerLaws.{number-some, same-number}
 use Rattle.tables.specs.Tables.{Tables}
 use Rattle.tables.specs.Reading.{Bytes, Taken, Reader, stop, took, next, refuse, front, byte, count, wordFrom, wordWithin, wordRow, markedRow}
-use Rattle.tables.specs.Reading.{sessionRow, rows, section, permissions, rights, collections, sections, turned, taken, tablesOf}
+use Rattle.tables.specs.Reading.{sessionRow, rows, section, permissions, rights, collections, sections, rejected, taken, tablesOf}
 use Rattle.tables.proofs.SectionsLaws.{product-few}
 use Rattle.tables.proofs.FitsLaws.{next-case, count-few, Read, accepted-read}
 use Rattle.tables.proofs.LoadLaws.{load-stop, left-over, late-refusal}
@@ -174,20 +174,20 @@ local-sections =
     (λ q l. local-next Any 1539 0 (λ s a t q. tt) (local-collections _ _ _) (λ c m. local-give _)))))
 
 -- "the first refusal met is the answer and nothing further is read": a refusal 2 to 6 is the answer whatever bytes follow.
-pub first-refusal : (s x : Bytes) (e : Refusal) → sections s ≡ stop e → 2 ≤ numberOf e → tablesOf (s ++ x) ≡ turned e
+pub first-refusal : (s x : Bytes) (e : Refusal) → sections s ≡ stop e → 2 ≤ numberOf e → tablesOf (s ++ x) ≡ rejected e
 first-refusal s x e q l = load-stop (s ++ x) (local-sections .same s x (λ z. told l (sym q ∙ z)) ∙ ap (extend x) q)
 
-pub refusal-stays : (s x : Bytes) (e : Refusal) → tablesOf s ≡ turned e → 2 ≤ numberOf e → numberOf e ≤ 6 → tablesOf (s ++ x) ≡ turned e
+pub refusal-stays : (s x : Bytes) (e : Refusal) → tablesOf s ≡ rejected e → 2 ≤ numberOf e → numberOf e ≤ 6 → tablesOf (s ++ x) ≡ rejected e
 refusal-stays s x e h l k = go (sections s) refl
   where
-    go : (r : Taken Tables) → sections s ≡ r → tablesOf (s ++ x) ≡ turned e
+    go : (r : Taken Tables) → sections s ≡ r → tablesOf (s ++ x) ≡ rejected e
     go (stop f) q =
         let d : f ≡ e = cc (load-stop s q) in
         first-refusal s x e (rw d at q) l
     go (took T t) q = absurd (omega (arith, late-refusal s q h))
 
 -- 1: "bytes end where a count or row is due, or inside a row": accepted tables that are cut anywhere are cut short.
-pub cut-anywhere : (b : Bytes) {T : Tables} → tablesOf b ≡ taken T → (n : ℕ) → n < length b → tablesOf (take n b) ≡ turned CutShort
+pub cut-anywhere : (b : Bytes) {T : Tables} → tablesOf b ≡ taken T → (n : ℕ) → n < length b → tablesOf (take n b) ≡ rejected CutShort
 cut-anywhere b {T} q n l = go (sections s) refl
   where
     s : Bytes
@@ -202,14 +202,14 @@ cut-anywhere b {T} q n l = go (sections s) refl
     read : Read b T
     read = accepted-read b q
 
-    go : (r : Taken Tables) → sections s ≡ r → tablesOf s ≡ turned CutShort
+    go : (r : Taken Tables) → sections s ≡ r → tablesOf s ≡ rejected CutShort
     go (took U t) p =
         let e = local-sections .same s x (λ z. not-cut (sym p ∙ z)) ∙ ap (extend x) p in
         let d : t ++ x ≡ read .rest = cc (rw again at e, read .reads) in
         absurd (omega (arith, length-append t x, length-drop n b, ap length d, read .none))
     go (stop e) p = cases (ltb 1 (numberOf e)) refl
       where
-        cases : (c : Bool) → ltb 1 (numberOf e) ≡ c → tablesOf s ≡ turned CutShort
+        cases : (c : Bool) → ltb 1 (numberOf e) ≡ c → tablesOf s ≡ rejected CutShort
         cases false z =
             let one : numberOf e ≡ 1 = omega (arith, ltb-false 1 (numberOf e) z, number-some e) in
             load-stop s (p ∙ ap stop (same-number e CutShort one))

@@ -13,7 +13,7 @@ use Rattle.words.specs.Words.{has, anyTo}
 use Rattle.words.proofs.WordsLaws.{has-out, word-self, word-more, any-here, any-witness, both, and-true, and-both, word-lt}
 use Rattle.tables.specs.Tables.{Tables}
 use Rattle.tables.specs.Checks.{allTo, reflexive, transitive, antisymmetric, ranked, inReach, apart}
-use Rattle.tables.specs.Reading.{Bytes, stop, took, turned, taken, tablesOf, next, refuse, front, byte, count, wordFrom, wordWithin, wordRow, markedRow, sessionRow}
+use Rattle.tables.specs.Reading.{Bytes, stop, took, rejected, taken, tablesOf, next, refuse, front, byte, count, wordFrom, wordWithin, wordRow, markedRow, sessionRow}
 use Rattle.tables.specs.Reading.{rows, section, permissions, rights, collections, sections, nothingLeft, whole}
 use Rattle.tables.proofs.ReadLaws.{nine, word-row-cut, marked-cut, session-cut, word-row, marked-none, marked-bad, marked-row, session-none, within-over, within-took}
 
@@ -89,7 +89,7 @@ pub person-without-roles : tablesOf (oneUser 1 0) ≡ taken (small (1 ∷ []) (0
 unfolding everything
 person-without-roles = refl
 
-pub never-entered : tablesOf (oneUser 0 0) ≡ turned NotEntered
+pub never-entered : tablesOf (oneUser 0 0) ≡ rejected NotEntered
 unfolding everything
 never-entered = refl
 

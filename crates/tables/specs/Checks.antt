@@ -17,21 +17,21 @@ abbrev pub implies : Bool → Bool → Bool
 implies a b = not a || b
 
 -- Role r dominates role q by the role rows.
-abbrev pub above : List ℕ → ℕ → ℕ → Bool
-above rows r q = has (getD rows r 0) q
+abbrev pub dominates : List ℕ → ℕ → ℕ → Bool
+dominates rows r q = has (getD rows r 0) q
 
 -- 7, rank: "role rows not reflexive, transitive, antisymmetric".
 unfoldable pub reflexive : List ℕ → Bool
-reflexive rows = allTo (length rows) (λ r. above rows r r)
+reflexive rows = allTo (length rows) (λ r. dominates rows r r)
 
 unfoldable pub transitive : List ℕ → Bool
 transitive rows =
     allTo (length rows)
-    (λ r. allTo (length rows) (λ q. allTo (length rows) (λ p. implies (above rows r q && above rows q p) (above rows r p))))
+    (λ r. allTo (length rows) (λ q. allTo (length rows) (λ p. implies (dominates rows r q && dominates rows q p) (dominates rows r p))))
 
 unfoldable pub antisymmetric : List ℕ → Bool
 antisymmetric rows =
-    allTo (length rows) (λ r. allTo (length rows) (λ q. implies (above rows r q && above rows q r) (eqb r q)))
+    allTo (length rows) (λ r. allTo (length rows) (λ q. implies (dominates rows r q && dominates rows q r) (eqb r q)))
 
 unfoldable pub ranked : List ℕ → Bool
 ranked rows = reflexive rows && (transitive rows && antisymmetric rows)

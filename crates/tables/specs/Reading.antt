@@ -182,11 +182,11 @@ whole = do
 
 -- "Tables are accepted when no check on them refuses".
 pub data Reading : Type 0 where
-  turned : Refusal → Reading
+  rejected : Refusal → Reading
   taken : Tables → Reading
 
 abbrev pub readingOf : Taken Tables → Reading
-readingOf (stop e) = turned e
+readingOf (stop e) = rejected e
 readingOf (took T s) = taken T
 
 unfoldable pub tablesOf : Bytes → Reading
@@ -200,9 +200,9 @@ outcomeNumber Accepted = 0
 
 -- What `read` answers: the refusal's number, or 0 with the flat tables; the words of refused tables are all 0.
 abbrev pub readingNumber : Reading → ℕ
-readingNumber (turned e) = numberOf e
+readingNumber (rejected e) = numberOf e
 readingNumber (taken T) = 0
 
 abbrev pub wordsOf : Reading → List ℕ
-wordsOf (turned e) = replicate 704 0
+wordsOf (rejected e) = replicate 704 0
 wordsOf (taken T) = flat T

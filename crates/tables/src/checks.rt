@@ -21,12 +21,12 @@ pub fn rank(rows: &[u64], r: usize) -> bool
     requires { ⌜ (length (now rows) ≤ 64) × (r < length (now rows)) ⌝ }
     ensures { λ b. ⌜ b ≡ rankAt (now (rows .entry)) r ⌝ }
 {
-    let above = rows[r];
-    let below = image(rows, less(above, item(r)));
-    if !contains(above, r) {
+    let dominates = rows[r];
+    let below = image(rows, less(dominates, item(r)));
+    if !contains(dominates, r) {
         return false;
     }
-    if less(below, above) != 0 {
+    if less(below, dominates) != 0 {
         return false;
     }
     !contains(below, r)

@@ -4,7 +4,7 @@ ghost use mathlib.Core.Path.{_≡_};
 ghost use lib.ListN.{replicate};
 ghost use Rattle.tables.specs.declared.Outcome.the-variants.{Accepted as AcceptedOutcome};
 ghost use Rattle.tables.specs.Reading.{tablesOf, outcomeNumber, readingNumber, wordsOf};
-ghost use Rattle.tables.specs.code.Reads.{outcomeOf};
+ghost use Rattle.tables.specs.code.Reads.{readingOutcome};
 use crate::checks::checked;
 use crate::sections::sections;
 use answers::Refusal;
@@ -32,7 +32,7 @@ pub enum Step {
 // Reads the tables into words that are all 0.
 fn load(bytes: &[u8], words: &mut [u64]) -> Outcome
     requires { ⌜ now words ≡ replicate 704 0 ⌝ }
-    ensures { λ r. ⌜ r ≡ outcomeOf (tablesOf (now (bytes .entry))) ⌝ }
+    ensures { λ r. ⌜ r ≡ readingOutcome (tablesOf (now (bytes .entry))) ⌝ }
     ensures { λ r. ⌜ (r ≡ AcceptedOutcome → now (words .exit) ≡ wordsOf (tablesOf (now (bytes .entry)))) ⌝ }
 {
     let read = sections(bytes, words);

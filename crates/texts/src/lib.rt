@@ -3,7 +3,7 @@
 ghost use mathlib.Core.Path.{_≡_};
 ghost use Prim.Native.Nat.{_≤_, _<_, _+_};
 ghost use lib.ListN.{length, getElem?};
-ghost use Rattle.texts.specs.code.Written.{Written};
+ghost use Rattle.texts.specs.code.Overwritten.{Overwritten};
 ghost use Rattle.texts.specs.Decimal.{digitsTo, decimalOf};
 ghost use Rattle.texts.specs.Pieces.{lines, fields};
 ghost use Rattle.texts.specs.code.Spans.{Spans, Starts};
@@ -11,7 +11,7 @@ ghost use Rattle.texts.specs.code.Spans.{Spans, Starts};
 // Writes the bytes of w.
 pub fn put(w: &[u8], out: &mut [u8]) -> usize
     requires { ⌜ length (now w) ≤ length (now out) ⌝ }
-    ensures { λ r. ⌜ Written (now (w .entry)) (now (out .entry)) (now (out .exit)) r ⌝ }
+    ensures { λ r. ⌜ Overwritten (now (w .entry)) (now (out .entry)) (now (out .exit)) r ⌝ }
 {
     bytes::copy(w, out)
 }
@@ -19,14 +19,14 @@ pub fn put(w: &[u8], out: &mut [u8]) -> usize
 // Writes n's decimal digits.
 pub fn decimal(n: u64, out: &mut [u8]) -> usize
     requires { ⌜ 20 ≤ length (now out) ⌝ }
-    ensures { λ r. ⌜ Written (decimalOf n) (now (out .entry)) (now (out .exit)) r ⌝ }
+    ensures { λ r. ⌜ Overwritten (decimalOf n) (now (out .entry)) (now (out .exit)) r ⌝ }
 {
     digits(20, n, out)
 }
 
 fn digits(left: usize, n: u64, out: &mut [u8]) -> usize
     requires { ⌜ left ≤ length (now out) ⌝ }
-    ensures { λ r. ⌜ Written (digitsTo left n) (now (out .entry)) (now (out .exit)) r ⌝ }
+    ensures { λ r. ⌜ Overwritten (digitsTo left n) (now (out .entry)) (now (out .exit)) r ⌝ }
 {
     if left == 0 {
         return 0;

@@ -11,7 +11,7 @@ use syntax::nodes::RIGHT_UNIT;
 use syntax::places::seek;
 ghost use Prim.Native.Nat.{ℕ, _<_, _≤_};
 ghost use lib.ListN.{length};
-ghost use Rattle.values.specs.code.Nodes.{Ready};
+ghost use Rattle.values.specs.code.Nodes.{Evaluable};
 ghost use Rattle.values.specs.code.Levels.{Climbs};
 ghost use Rattle.values.specs.code.Cache.{StepAt, Settles};
 
@@ -26,7 +26,7 @@ fn step(
     cache: &[u64],
     k: usize,
 ) -> u64
-    requires { ⌜ Ready (now t) (now nodes) n (now kinds) k × (n ≤ length (now cache)) ⌝ }
+    requires { ⌜ Evaluable (now t) (now nodes) n (now kinds) k × (n ≤ length (now cache)) ⌝ }
     ensures { λ r. ⌜ StepAt (now (t .entry)) (now (nodes .entry)) n (now (kinds .entry)) (now (vars .entry)) (now (choice .entry)) k (now (cache .entry)) r ⌝ }
 {
     let node = nodes[k];
@@ -66,7 +66,7 @@ pub fn settle(
     next: &[u32],
     from: usize,
 )
-    requires { ⌜ ((k : ℕ) → k < n → Ready (now t) (now nodes) n (now kinds) k) × (n ≤ length (now cache)) × Climbs n (now next) ⌝ }
+    requires { ⌜ ((k : ℕ) → k < n → Evaluable (now t) (now nodes) n (now kinds) k) × (n ≤ length (now cache)) × Climbs n (now next) ⌝ }
     ensures { λ _. ⌜ Settles (now (t .entry)) (now (nodes .entry)) n (now (kinds .entry)) (now (vars .entry)) (now (choice .entry)) (now (next .entry)) from (now (cache .entry)) (now (cache .exit)) ⌝ }
 {
     let mut k = from;

@@ -11,11 +11,11 @@ use Rattle.answers.specs.declared.Refusal.{Refusal}
 use Rattle.tables.specs.Tables.{Tables}
 use Rattle.tables.specs.Bytes.{lowestFirst}
 use Rattle.tables.specs.Flat.{flat}
-use Rattle.tables.specs.Reading.{Reading, turned, taken, tablesOf, outcomeNumber, readingNumber, wordsOf}
-use Rattle.tables.specs.code.Reads.{outcomeOf}
+use Rattle.tables.specs.Reading.{Reading, rejected, taken, tablesOf, outcomeNumber, readingNumber, wordsOf}
+use Rattle.tables.specs.code.Reads.{readingOutcome}
 use Rattle.tables.specs.declared.Outcome.{Outcome as Reached}
 use Rattle.tables.proofs.LoadLaws.{outcome-case}
-use Rattle.tables.specs.declared.Outcome.the-variants.{Refused as Turned, Accepted as Taken}
+use Rattle.tables.specs.declared.Outcome.the-variants.{Refused as Rejected, Accepted as Taken}
 use Rattle.tables.proofs.FlatLaws.{length-flat}
 use Rattle.tables.specs.Accepted.{Sound}
 use Rattle.tables.proofs.FitsLaws.{accepted-sound}
@@ -72,13 +72,13 @@ module _ {s : Bytes} {ns : List ℕ} {n root : ℕ} {ks vs : List ℕ} {count : 
   rule-accepted T order r e = rw (ok, P .reads) e
 
 -- What reading the tables said.
-pub tables-refused : (b s order : Bytes) (e : Refusal) (o : Reached) → outcomeNumber o ≡ readingNumber (tablesOf b) → o ≡ Turned e
+pub tables-refused : (b s order : Bytes) (e : Refusal) (o : Reached) → outcomeNumber o ≡ readingNumber (tablesOf b) → o ≡ Rejected e
     → refusedBy e ≡ verdictOf b s order
 unfolding verdictOf tablesVerdict
 tables-refused b s order e o n h = go (tablesOf b) (sym (outcome-case (tablesOf b) o n) ∙ h)
   where
-    go : (q : Reading) → outcomeOf q ≡ Turned e → refusedBy e ≡ tablesVerdict q s order
-    go (turned p) k = let same : e ≡ p = cc in ap refusedBy same
+    go : (q : Reading) → readingOutcome q ≡ Rejected e → refusedBy e ≡ tablesVerdict q s order
+    go (rejected p) k = let same : e ≡ p = cc in ap refusedBy same
     go (taken T) k = let z : _≡_ {A = ℕ} 0 1 = cc in absurd (omega arith)
 
 pub record Took (b : Bytes) : Type 0 where
@@ -88,8 +88,8 @@ pub record Took (b : Bytes) : Type 0 where
 pub tables-taken : (b : Bytes) (o : Reached) → outcomeNumber o ≡ readingNumber (tablesOf b) → o ≡ Taken → Took b
 tables-taken b o n h = go (tablesOf b) refl (sym (outcome-case (tablesOf b) o n) ∙ h)
   where
-    go : (q : Reading) → tablesOf b ≡ q → outcomeOf q ≡ Taken → Took b
-    go (turned p) e k = let z : _≡_ {A = ℕ} 0 1 = cc in absurd (omega arith)
+    go : (q : Reading) → tablesOf b ≡ q → readingOutcome q ≡ Taken → Took b
+    go (rejected p) e k = let z : _≡_ {A = ℕ} 0 1 = cc in absurd (omega arith)
     go (taken T) e k = record { tables = T; is = e }
 
 pub took-words : (b ts : List ℕ) (q : Took b) → ts ≡ wordsOf (tablesOf b) → ts ≡ flat (q .tables)

@@ -11,16 +11,16 @@ use lib.ListN.{length}
 use Rattle.answers.specs.Answer.{refused, wrote, lent}
 use Rattle.answers.proofs.AnswerLaws.{lent-wrote}
 use Rattle.answers.specs.declared.Refusal.{Refusal}
-use Rattle.answers.specs.declared.Refusal.the-variants.{Disordered}
+use Rattle.answers.specs.declared.Refusal.the-variants.{NotAnOrder}
 use Rattle.tables.specs.Tables.{Tables}
-use Rattle.tables.specs.Reading.{Reading, turned, taken, tablesOf}
+use Rattle.tables.specs.Reading.{Reading, rejected, taken, tablesOf}
 use Rattle.syntax.specs.Bytes.{Bytes}
 use Rattle.syntax.specs.Rule.{Rule, ruleVars, ruleOf}
 use Rattle.rules.specs.Accept.{refusal}
 use Rattle.rules.proofs.AcceptLaws.{tree-few, accepted-rule, accepted-tree}
 use Rattle.tables.proofs.FitsLaws.{accepted-sound}
 use Rattle.walks.specs.Order.{variablesOf, isOrder}
-use Rattle.walks.specs.Walk.{bytesOf}
+use Rattle.walks.specs.Walk.{choiceBytes}
 use Rattle.walks.proofs.OrderLaws.{order-admissible}
 use Rattle.values.specs.Sets.{names}
 use Rattle.values.proofs.BoundLaws.{accepted-within}
@@ -35,13 +35,13 @@ use Rattle.verdicts.proofs.DecideLaws.{length-written}
 -- The refusals of judging, one after the other: "A refusal gives its number, .. counts 0, share 255 and choice all 255".
 
 module _ (tables rule order : Bytes) where
-  pub tables-turned : (e : Refusal) → tablesOf tables ≡ turned e → verdictOf tables rule order ≡ refusedBy e
+  pub tables-rejected : (e : Refusal) → tablesOf tables ≡ rejected e → verdictOf tables rule order ≡ refusedBy e
   unfolding verdictOf tablesVerdict
-  tables-turned e h = rw h
+  tables-rejected e h = rw h
 
-  pub rule-turned : (T : Tables) (e : Refusal) → tablesOf tables ≡ taken T → refusal rule ≡ some e → verdictOf tables rule order ≡ refusedBy e
+  pub rule-rejected : (T : Tables) (e : Refusal) → tablesOf tables ≡ taken T → refusal rule ≡ some e → verdictOf tables rule order ≡ refusedBy e
   unfolding verdictOf tablesVerdict acceptedVerdict
-  rule-turned T e h g = rw (h, g)
+  rule-rejected T e h g = rw (h, g)
 
   -- An order that the test holds of is one, and no other is.
   abbrev test : Rule → Bool
@@ -51,18 +51,18 @@ module _ (tables rule order : Bytes) where
   ordered ρ = order-admissible (names (ruleVars [] ρ)) (length (ruleVars [] ρ)) (variablesOf order)
 
   -- 18: "not an order as above".
-  pub order-turned : (T : Tables) (ρ : Rule) → tablesOf tables ≡ taken T → refusal rule ≡ none → ruleOf rule ≡ some ρ → (OrderOf ρ order → ⊥)
-      → verdictOf tables rule order ≡ refusedBy Disordered
+  pub order-rejected : (T : Tables) (ρ : Rule) → tablesOf tables ≡ taken T → refusal rule ≡ none → ruleOf rule ≡ some ρ → (OrderOf ρ order → ⊥)
+      → verdictOf tables rule order ≡ refusedBy NotAnOrder
   unfolding verdictOf tablesVerdict acceptedVerdict treeVerdict orderVerdict
-  order-turned T ρ h g t bad = rw (h, g, t) (go (test ρ) refl)
+  order-rejected T ρ h g t bad = rw (h, g, t) (go (test ρ) refl)
     where
-      go : (b : Bool) → test ρ ≡ b → ifOrdered b (verdictAlong T ρ (variablesOf order)) ≡ refusedBy Disordered
+      go : (b : Bool) → test ρ ≡ b → ifOrdered b (verdictAlong T ρ (variablesOf order)) ≡ refusedBy NotAnOrder
       go true q = absurd (bad (ordered ρ .0 q))
       go false q = refl
 
-  pub judged-turned : (e : Refusal) → verdictOf tables rule order ≡ refusedBy e → judged tables rule order ≡ refused e
+  pub judged-rejected : (e : Refusal) → verdictOf tables rule order ≡ refusedBy e → judged tables rule order ≡ refused e
   unfolding judged answerBy
-  judged-turned e h = rw h
+  judged-rejected e h = rw h
 
   -- Every input meets one of them, or is admitted.
   pub met : Met tables rule order
@@ -78,7 +78,7 @@ module _ (tables rule order : Bytes) where
       at-rule T t none r = let (ρ, h, _) = accepted-rule rule r in at-order T ρ t r h (test ρ) refl
 
       at-tables : (q : Reading) → tablesOf tables ≡ q → Met tables rule order
-      at-tables (turned e) t = badTables e t
+      at-tables (rejected e) t = badTables e t
       at-tables (taken T) t = at-rule T t (refusal rule) refl
 
 -- The rule of an admitted input has at most 8 variables, whose items are of their sorts under a full choice.
@@ -90,10 +90,10 @@ module _ {tables rule order : Bytes} {T : Tables} {ρ : Rule} (a : Admitted tabl
   in-sorts = accepted-within T (accepted-sound tables (a .reads)) rule ρ (a .accepts) (a .tree)
 
   -- The first breaking choice has 8 bytes.
-  pub first-length : length (bytesOf (firstBreaking T ρ (variablesOf order))) ≡ 8
+  pub first-length : length (choiceBytes (firstBreaking T ρ (variablesOf order))) ≡ 8
   first-length = go (firstBreaking T ρ (variablesOf order)) refl
     where
-      go : (o : Option (List ℕ)) → firstBreaking T ρ (variablesOf order) ≡ o → length (bytesOf o) ≡ 8
+      go : (o : Option (List ℕ)) → firstBreaking T ρ (variablesOf order) ≡ o → length (choiceBytes o) ≡ 8
       go none q = refl
       go (some d) q = first-least T ρ few-variables in-sorts (variablesOf order) d (a .ordered) q .choice .long
 
@@ -116,12 +116,12 @@ pub written-length : (tables rule order b : Bytes) → judged tables rule order 
 written-length tables rule order b q = go (met tables rule order)
   where
     never : (e : Refusal) → verdictOf tables rule order ≡ refusedBy e → {A : Type 0} → A
-    never e h = let z : _≡_ {A = ℕ} 0 1 = cc (judged-turned tables rule order e h, q) in absurd (omega arith)
+    never e h = let z : _≡_ {A = ℕ} 0 1 = cc (judged-rejected tables rule order e h, q) in absurd (omega arith)
 
     go : Met tables rule order → length b ≡ 26
-    go (badTables e t) = never e (tables-turned tables rule order e t)
-    go (badRule T e t r) = never e (rule-turned tables rule order T e t r)
-    go (badOrder T ρ t r h bad) = never Disordered (order-turned tables rule order T ρ t r h bad)
+    go (badTables e t) = never e (tables-rejected tables rule order e t)
+    go (badRule T e t r) = never e (rule-rejected tables rule order T e t r)
+    go (badOrder T ρ t r h bad) = never NotAnOrder (order-rejected tables rule order T ρ t r h bad)
     go (good T ρ a) = let s : b ≡ verdictBytes T ρ order = cc (admitted-wrote a, q) in rw s (bytes-length a)
 
 pub verdict-at-most : (tables rule order b : Bytes) (n : ℕ) → lent n (judged tables rule order) ≡ wrote b → length b ≤ 4096

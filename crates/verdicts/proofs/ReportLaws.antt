@@ -20,7 +20,7 @@ use Rattle.syntax.specs.Rule.{Rule, ruleOf}
 use Rattle.rules.specs.Accept.{refusal}
 use Rattle.rules.proofs.AcceptLaws.{accepted-rule}
 use Rattle.walks.specs.Choices.{nothingChosen}
-use Rattle.walks.specs.Walk.{bytesOf}
+use Rattle.walks.specs.Walk.{choiceBytes}
 use Rattle.walks.specs.Order.{variablesOf}
 use Rattle.walks.specs.Meaning.{there}
 use Rattle.walks.specs.Share.{shareOf}
@@ -38,22 +38,22 @@ module _ {tables rule order : Bytes} {T : Tables} {ρ : Rule} (a : Admitted tabl
   above : there (firstBreaking T ρ (variablesOf order)) ≡ ltb 0 (breakingCount T ρ)
   above = first-above T ρ (few-variables a) (in-sorts a) (variablesOf order) (a .ordered)
 
-  first-found : 0 < breakingCount T ρ → FirstOf T ρ order (bytesOf (firstBreaking T ρ (variablesOf order)))
+  first-found : 0 < breakingCount T ρ → FirstOf T ρ order (choiceBytes (firstBreaking T ρ (variablesOf order)))
   first-found h = go (firstBreaking T ρ (variablesOf order)) refl
     where
-      go : (o : Option (List ℕ)) → firstBreaking T ρ (variablesOf order) ≡ o → FirstOf T ρ order (bytesOf o)
+      go : (o : Option (List ℕ)) → firstBreaking T ρ (variablesOf order) ≡ o → FirstOf T ρ order (choiceBytes o)
       go none q = absurd (true≢false (sym (lt-ltb 0 (breakingCount T ρ) h) ∙ sym above ∙ ap there q))
       go (some d) q = first-least T ρ (few-variables a) (in-sorts a) (variablesOf order) d (a .ordered) q
 
-  first-none : breakingCount T ρ ≡ 0 → bytesOf (firstBreaking T ρ (variablesOf order)) ≡ nothingChosen
+  first-none : breakingCount T ρ ≡ 0 → choiceBytes (firstBreaking T ρ (variablesOf order)) ≡ nothingChosen
   first-none z = go (firstBreaking T ρ (variablesOf order)) refl
     where
-      go : (o : Option (List ℕ)) → firstBreaking T ρ (variablesOf order) ≡ o → bytesOf o ≡ nothingChosen
+      go : (o : Option (List ℕ)) → firstBreaking T ρ (variablesOf order) ≡ o → choiceBytes o ≡ nothingChosen
       go none q = refl
       go (some d) q = absurd (true≢false (sym (ap there q) ∙ above ∙ ap (ltb 0) z))
 
   pub along-reports : Reports T ρ order (wordNumber (outcomeOf (fullCount T ρ) (breakingCount T ρ))) (fullCount T ρ) (breakingCount T ρ)
-      (bytesOf (firstBreaking T ρ (variablesOf order))) (shareOf (fullCount T ρ) (breakingCount T ρ))
+      (choiceBytes (firstBreaking T ρ (variablesOf order))) (shareOf (fullCount T ρ) (breakingCount T ρ))
   along-reports = record {
     fulls = refl;
     breakings = refl;
@@ -110,7 +110,7 @@ module _ {tables rule order : Bytes} {T : Tables} {ρ : Rule} (a : Admitted tabl
       let word : ℕ = wordNumber (outcomeOf (fullCount T ρ) (breakingCount T ρ)) in
       let f : Bytes = lowestFirst 8 (fullCount T ρ) in
       let b : Bytes = lowestFirst 8 (breakingCount T ρ) in
-      let d : Bytes = bytesOf (firstBreaking T ρ (variablesOf order)) in
+      let d : Bytes = choiceBytes (firstBreaking T ρ (variablesOf order)) in
       let share : ℕ = shareOf (fullCount T ρ) (breakingCount T ρ) in
       let lf = lowest-length 8 (fullCount T ρ) in
       let lb = lowest-length 8 (breakingCount T ρ) in

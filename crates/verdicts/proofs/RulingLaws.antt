@@ -6,7 +6,7 @@ use mathlib.Core.List.{List, [], _∷_}
 use Prim.Native.Nat.{ℕ, suc, _-_, _≤_, _^_}
 use native.Mathlib.Omega.{arith}
 use lib.ListN.{length, drop}
-use Rattle.answers.specs.declared.Refusal.the-variants.{Disordered}
+use Rattle.answers.specs.declared.Refusal.the-variants.{NotAnOrder}
 use Rattle.tables.specs.Tables.{Tables}
 use Rattle.syntax.specs.Term.{Choices}
 use Rattle.syntax.specs.Rule.{Rule, ruleVars}
@@ -42,12 +42,12 @@ in-turn {vs = vs} words order few named ok σ w =
     order-after (names σ) (length vs) order (sym (named-order (length vs) words order σ few (named σ w)) ∙ ok)
 
 module _ (T : Tables) (ρ : Rule) where
-  not-ordered : (order : List ℕ) → isOrder (names (ruleVars [] ρ)) (length (ruleVars [] ρ)) (variablesOf order) ≡ false → refusedBy Disordered ≡ orderVerdict T ρ order
+  not-ordered : (order : List ℕ) → isOrder (names (ruleVars [] ρ)) (length (ruleVars [] ρ)) (variablesOf order) ≡ false → refusedBy NotAnOrder ≡ orderVerdict T ρ order
   unfolding orderVerdict
   not-ordered order e = rw e
 
   -- A list of another length is no order;
-  pub wrong-length : (order : List ℕ) → (length order ≡ length (ruleVars [] ρ) → ⊥) → refusedBy Disordered ≡ orderVerdict T ρ order
+  pub wrong-length : (order : List ℕ) → (length order ≡ length (ruleVars [] ρ) → ⊥) → refusedBy NotAnOrder ≡ orderVerdict T ρ order
   wrong-length order ne = not-ordered order (go (isOrder (names (ruleVars [] ρ)) (length (ruleVars [] ρ)) (variablesOf order)) refl)
     where
       go : (b : Bool) → isOrder (names (ruleVars [] ρ)) (length (ruleVars [] ρ)) (variablesOf order) ≡ b → b ≡ false
@@ -56,7 +56,7 @@ module _ (T : Tables) (ρ : Rule) where
 
   -- nor is one that the test refuses.
   pub wrong-order : (order : List ℕ) {f : Bool} → f ≡ isOrder (names (ruleVars [] ρ)) (length (ruleVars [] ρ)) (variablesOf order) → f ≡ false
-      → refusedBy Disordered ≡ orderVerdict T ρ order
+      → refusedBy NotAnOrder ≡ orderVerdict T ρ order
   wrong-order order e h = not-ordered order (sym e ∙ h)
 
   -- Along an order the walk's tally has the verdict's numbers.
@@ -98,7 +98,7 @@ module _ {ts ns : List ℕ} {n : ℕ} {ks vs : List ℕ} {root : ℕ} {T : Table
   pub few-variables : length (ruleVars [] ρ) ≤ 8
   few-variables = omega (arith, as-many)
 
-  pub other-length : (order : List ℕ) → (length order ≡ length vs → ⊥) → refusedBy Disordered ≡ orderVerdict T ρ order
+  pub other-length : (order : List ℕ) → (length order ≡ length vs → ⊥) → refusedBy NotAnOrder ≡ orderVerdict T ρ order
   other-length order ne = wrong-length T ρ order (λ e. ne (e ∙ sym as-many))
 
   module _ (words order listed : List ℕ) (f : Bool) (named : Named (length vs) words (ruleVars [] ρ)) (same : listed ≡ variablesOf order)
@@ -106,7 +106,7 @@ module _ {ts ns : List ℕ} {n : ℕ} {ks vs : List ℕ} {root : ℕ} {T : Table
     told : f ≡ isOrder (names (ruleVars [] ρ)) (length (ruleVars [] ρ)) listed
     told = test ∙ named-order (length vs) words listed (ruleVars [] ρ) few named ∙ ap (λ (k : ℕ). isOrder (names (ruleVars [] ρ)) k listed) as-many
 
-    pub no-order : f ≡ false → refusedBy Disordered ≡ orderVerdict T ρ order
+    pub no-order : f ≡ false → refusedBy NotAnOrder ≡ orderVerdict T ρ order
     no-order h = wrong-order T ρ order (told ∙ ap (isOrder (names (ruleVars [] ρ)) (length (ruleVars [] ρ))) same) h
 
     module _ (h : f ≡ true) (tally : Tally) (w : WalkedFrom T ρ listed (length listed) nothingChosen tally) where

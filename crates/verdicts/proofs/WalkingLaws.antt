@@ -25,12 +25,12 @@ use Rattle.walks.proofs.OrderLaws.{at, after-at}
 use Rattle.walks.proofs.StepLaws.{upto-none, upto-in, upto-out, upto-all, room}
 use Rattle.values.specs.Values.{value}
 use Rattle.values.specs.Sets.{setOf, inSet, names, breaks}
-use Rattle.values.specs.code.Nodes.{Ready, Variables}
+use Rattle.values.specs.code.Nodes.{Evaluable, Variables}
 use Rattle.values.specs.code.Levels.{Level, Levels, Chained, Climbs}
 use Rattle.values.specs.code.Cache.{Settles, Stored}
 use Rattle.values.proofs.LevelLaws.{stored-other}
 use Rattle.values.proofs.NamesLaws.{holds-at}
-use Rattle.verdicts.specs.code.Judging.{Leaf, Ends, Case, Lent, Listed, InTurn, Settled, Next, WalkedFrom, UptoFrom}
+use Rattle.verdicts.specs.code.Judging.{Leaf, Ends, Case, Lent, OrderList, InTurn, Settled, Next, WalkedFrom, UptoFrom}
 
 module _ (T : Tables) (ρ : Rule) where
   -- The end of the order: one full choice.
@@ -113,7 +113,7 @@ next-lowest w x r q l = record {
     no z = let o : _≡_ {A = ℕ} 0 1 = cc in absurd (omega arith)
 
 -- What is ready for one node is ready for each of the first n.
-pub ready-any : {ts ns : List ℕ} {n : ℕ} {ks : List ℕ} {k : ℕ} → Ready ts ns n ks k → (i : ℕ) → i < n → Ready ts ns n ks i
+pub ready-any : {ts ns : List ℕ} {n : ℕ} {ks : List ℕ} {k : ℕ} → Evaluable ts ns n ks k → (i : ℕ) → i < n → Evaluable ts ns n ks i
 ready-any R i l = record { whole = R .whole; tidy = R .tidy; kinded = R .kinded; below = l }
 
 -- A chain goes up.
@@ -121,7 +121,7 @@ pub climbs : {n : ℕ} {levels first next : List ℕ} → Chained n levels first
 climbs C = record { long = C .linked .long; up = λ k l. omega (arith, C .linked .each k l .start) }
 
 -- In an order each set's level is below its variable's turn.
-pub set-early : {ts ns : List ℕ} {n : ℕ} {ks vs : List ℕ} {root : ℕ} {levels : List ℕ} (order : List ℕ) → Lent ts ns n ks vs root → Listed vs order
+pub set-early : {ts ns : List ℕ} {n : ℕ} {ks vs : List ℕ} {root : ℕ} {levels : List ℕ} (order : List ℕ) → Lent ts ns n ks vs root → OrderList vs order
     → InTurn ns n vs order → Levels ns n vs order levels → (i : ℕ) → i < length order → getD levels (getD vs (getD order i 0) 0) 0 ≤ i
 set-early {ns = ns} {n = n} {vs = vs} {levels = levels} order L O A lev i l = ⊎-elim (λ (h : i < r). absurd (no h)) (λ (h : r ≤ i). h) (lt-or-le i r)
   where
@@ -167,7 +167,7 @@ module _ {ts ns : List ℕ} {n : ℕ} {ks vs order first next : List ℕ} where
       }
 
   -- The value of the next variable's set is in the cache.
-  pub set-known : {root : ℕ} {c cache : List ℕ} {m : ℕ} → Lent ts ns n ks vs root → Listed vs order → 0 < m → m ≤ length order
+  pub set-known : {root : ℕ} {c cache : List ℕ} {m : ℕ} → Lent ts ns n ks vs root → OrderList vs order → 0 < m → m ≤ length order
       → Settled ts ns n ks vs order c cache first next m → (T : Tables) (ρ : Rule) → Case ts ns n ks vs root T ρ
       → getD cache (getD vs (getD order (length order - m) 0) 0) 0 ≡ value T (ruleVars [] ρ) c (setOf (ruleVars [] ρ) (getD order (length order - m) 0))
   set-known {m = m} L O pos l S T ρ C =

@@ -8,7 +8,7 @@ use Prim.Native.Nat.{ℕ, _<_}
 use lib.ListN.{length, getD, take, drop}
 use Rattle.answers.specs.declared.Refusal.{Refusal}
 use Rattle.tables.specs.Tables.{Tables}
-use Rattle.tables.specs.Reading.{turned, taken, tablesOf, wordFrom}
+use Rattle.tables.specs.Reading.{rejected, taken, tablesOf, wordFrom}
 use Rattle.syntax.specs.Bytes.{Bytes}
 use Rattle.syntax.specs.Rule.{Rule, ruleVars, ruleOf}
 use Rattle.rules.specs.Accept.{refusal}
@@ -66,7 +66,7 @@ pub record Admitted (tables rule order : Bytes) (T : Tables) (ρ : Rule) : Type 
 
 -- "Judging checks tables, rule, order": what it meets first, and where nothing refuses the input is admitted.
 pub data Met (tables rule order : Bytes) : Type 0 where
-  badTables : (e : Refusal) → tablesOf tables ≡ turned e → Met tables rule order
+  badTables : (e : Refusal) → tablesOf tables ≡ rejected e → Met tables rule order
   badRule : (T : Tables) (e : Refusal) → tablesOf tables ≡ taken T → refusal rule ≡ some e → Met tables rule order
   badOrder : (T : Tables) (ρ : Rule) → tablesOf tables ≡ taken T → refusal rule ≡ none → ruleOf rule ≡ some ρ → (OrderOf ρ order → ⊥)
       → Met tables rule order

@@ -9,15 +9,15 @@ use lib.Dec.{eqb, ltb}
 use lib.ListN.{length}
 use Rattle.answers.specs.Answer.{Answer, refused, wrote, numberOrZero}
 use Rattle.answers.specs.declared.Refusal.{Refusal}
-use Rattle.answers.specs.declared.Refusal.the-variants.{NotARule, Disordered}
+use Rattle.answers.specs.declared.Refusal.the-variants.{NotARule, NotAnOrder}
 use Rattle.tables.specs.Tables.{Tables}
 use Rattle.tables.specs.Bytes.{lowestFirst}
-use Rattle.tables.specs.Reading.{Reading, turned, taken, tablesOf}
+use Rattle.tables.specs.Reading.{Reading, rejected, taken, tablesOf}
 use Rattle.syntax.specs.Bytes.{Bytes}
 use Rattle.syntax.specs.Rule.{Rule, ruleVars, ruleOf}
 use Rattle.rules.specs.Accept.{refusal}
 use Rattle.walks.specs.Choices.{nothingChosen, countFull, each, ifBreaks}
-use Rattle.walks.specs.Walk.{walkFirst, bytesOf}
+use Rattle.walks.specs.Walk.{walkFirst, choiceBytes}
 use Rattle.walks.specs.Order.{variablesOf, isOrder}
 use Rattle.walks.specs.Share.{shareOf}
 use Rattle.values.specs.Sets.{itemsOf, inSet, names, breaks}
@@ -75,7 +75,7 @@ module _ (T : Tables) (ρ : Rule) where
     outcome = outcomeOf fullCount breakingCount;
     full = fullCount;
     breaking = breakingCount;
-    first = bytesOf (firstBreaking order);
+    first = choiceBytes (firstBreaking order);
     share = shareOf fullCount breakingCount;
   }
 
@@ -86,7 +86,7 @@ refusedBy e = record { outcome = Refused e; full = 0; breaking = 0; first = noth
 -- 18: "not an order as above".
 abbrev pub ifOrdered : Bool → Verdict → Verdict
 ifOrdered true v = v
-ifOrdered false v = refusedBy Disordered
+ifOrdered false v = refusedBy NotAnOrder
 
 unfoldable pub orderVerdict : Tables → Rule → Bytes → Verdict
 orderVerdict T ρ order =
@@ -103,7 +103,7 @@ acceptedVerdict T none rule order = treeVerdict T (ruleOf rule) order
 
 -- "Judging checks tables, rule, order."
 unfoldable pub tablesVerdict : Reading → Bytes → Bytes → Verdict
-tablesVerdict (turned e) rule order = refusedBy e
+tablesVerdict (rejected e) rule order = refusedBy e
 tablesVerdict (taken T) rule order = acceptedVerdict T (refusal rule) rule order
 
 unfoldable pub verdictOf : Bytes → Bytes → Bytes → Verdict

@@ -9,7 +9,7 @@ ghost use Rattle.answers.specs.Answer.{lent};
 ghost use Rattle.verdicts.specs.Verdict.{Gives, verdictOf, judged};
 ghost use Rattle.verdicts.specs.code.Judging.{Loaded, JudgesOn};
 ghost use Rattle.answers.specs.Written.{Answers};
-ghost use Rattle.verdicts.specs.code.Writing.{Puts};
+ghost use Rattle.verdicts.specs.code.Writing.{PutsVerdict};
 
 mod ruling;
 mod sheet;
@@ -75,7 +75,7 @@ pub fn decide(tables: &[u8], rule: &[u8], order: &[u8]) -> Verdict
 
 // Writes the verdict with that word, or says that the lent output is too short for it.
 fn put(out: &mut [u8], word: u8, verdict: Verdict) -> Written
-    ensures { λ r. ⌜ Puts (now (out .entry)) (now (out .exit)) word verdict r ⌝ }
+    ensures { λ r. ⌜ PutsVerdict (now (out .entry)) (now (out .exit)) word verdict r ⌝ }
 {
     let mut sheet = [0u8; 26];
     sheet::write(&mut sheet, word, verdict);

@@ -63,7 +63,7 @@ pub fn along(
 {
     let count = vars.len();
     if order.len() != count {
-        return refused(Refusal::Disordered);
+        return refused(Refusal::NotAnOrder);
     }
     let all = walks::variables(order);
     let listed = &all[..count];
@@ -71,5 +71,5 @@ pub fn along(
     if walks::ordered(&names, listed, count) {
         return ruled(walking::whole(t, nodes, n, kinds, vars, root, listed));
     }
-    refused(Refusal::Disordered)
+    refused(Refusal::NotAnOrder)
 }

@@ -4,7 +4,7 @@ ghost use Prim.Native.Nat.{_<_, _≤_};
 ghost use lib.ListN.{length};
 ghost use Rattle.syntax.specs.code.Arena.{Tidy};
 ghost use Rattle.walks.specs.Choices.{nothingChosen};
-ghost use Rattle.verdicts.specs.code.Judging.{Leaf, Ends, Lent, Listed, InTurn, Settled, Next, Walks};
+ghost use Rattle.verdicts.specs.code.Judging.{Leaf, Ends, Lent, OrderList, InTurn, Settled, Next, Walks};
 
 // A whole choice is one full choice, which breaks the rule or not.
 fn leaf(breaks: bool, choice: [u8; 8]) -> Tally
@@ -56,7 +56,7 @@ fn walk(
     next: &[u32],
     left: usize,
 ) -> Tally
-    requires { ⌜ Lent (now t) (now nodes) n (now kinds) (now vars) root × Listed (now vars) (now order) × (left ≤ length (now order)) × Settled (now t) (now nodes) n (now kinds) (now vars) (now order) choice (now cache) (now first) (now next) left ⌝ }
+    requires { ⌜ Lent (now t) (now nodes) n (now kinds) (now vars) root × OrderList (now vars) (now order) × (left ≤ length (now order)) × Settled (now t) (now nodes) n (now kinds) (now vars) (now order) choice (now cache) (now first) (now next) left ⌝ }
     ensures { λ r. ⌜ Walks (now (t .entry)) (now (nodes .entry)) n (now (kinds .entry)) (now (vars .entry)) root (now (order .entry)) left choice r × Settled (now (t .entry)) (now (nodes .entry)) n (now (kinds .entry)) (now (vars .entry)) (now (order .entry)) choice (now (cache .exit)) (now (first .entry)) (now (next .entry)) left ⌝ }
 {
     if left == 0 {
@@ -110,7 +110,7 @@ pub fn whole(
     root: usize,
     order: &[u8],
 ) -> Tally
-    requires { ⌜ Lent (now t) (now nodes) n (now kinds) (now vars) root × Listed (now vars) (now order) × InTurn (now nodes) n (now vars) (now order) ⌝ }
+    requires { ⌜ Lent (now t) (now nodes) n (now kinds) (now vars) root × OrderList (now vars) (now order) × InTurn (now nodes) n (now vars) (now order) ⌝ }
     ensures { λ r. ⌜ Walks (now (t .entry)) (now (nodes .entry)) n (now (kinds .entry)) (now (vars .entry)) root (now (order .entry)) (length (now (order .entry))) nothingChosen r ⌝ }
 {
     let levels = values::levels::levels(nodes, n, vars, order);

@@ -10,7 +10,7 @@ use lib.ListN.{length, getD, set, take, drop}
 use lib.Seq.{take-take}
 use Rattle.words.specs.Words.{has}
 use Rattle.walks.specs.Choices.{Sets, each, ifBreaks, nothingChosen}
-use Rattle.walks.specs.Walk.{walk, bytesOf}
+use Rattle.walks.specs.Walk.{walk, choiceBytes}
 use Rattle.walks.specs.Meaning.{Once, After, Reads}
 use Rattle.walks.specs.code.Tally.{Walked}
 use Rattle.walks.specs.code.Clauses.{Clauses, breaksAny, Levelled, ModeIs, weightOf}
@@ -56,7 +56,7 @@ module _ (s : Sets) (names : ℕ → ℕ → Bool) (law : Reads s names) (K : Cl
     judged-none z = record {
       fulls = own-full refl p;
       breakings = own-breaking refl p right;
-      firsts = ap bytesOf (sym (none-breaks 64 s (breaksAny K) order base (sym (own-breaking refl p right) ∙ z)));
+      firsts = ap choiceBytes (sym (none-breaks 64 s (breaksAny K) order base (sym (own-breaking refl p right) ∙ z)));
     }
 
     pub judged-some : (d : ℕ) (first : List ℕ) → length order ≤ d → Descending s (breaksAny K) order base d first
@@ -64,5 +64,5 @@ module _ (s : Sets) (names : ℕ → ℕ → Bool) (law : Reads s names) (K : Cl
     judged-some d first l h = record {
       fulls = own-full refl p;
       breakings = own-breaking refl p right;
-      firsts = ap bytesOf (sym (descending-end s names law (breaksAny K) n order once after base d first l h));
+      firsts = ap choiceBytes (sym (descending-end s names law (breaksAny K) n order once after base d first l h));
     }

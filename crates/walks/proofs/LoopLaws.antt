@@ -11,7 +11,7 @@ use lib.Seq.{take-suc, take-suc-set}
 use lib.Dec.{eqb}
 use borrow.Author.Tests.{eq-eqb, ne-eqb, lt-ltb, le-ltb}
 use Rattle.words.specs.Words.{gate}
-use Rattle.walks.specs.Order.{numbered, variablesOf, isSmall, count, isOnce, isFree, isAfter}
+use Rattle.walks.specs.Order.{variableOf, variablesOf, isSmall, count, isOnce, isFree, isAfter}
 use Rattle.walks.proofs.OrderLaws.{at}
 
 module _ (s : List ℕ) (i : ℕ) where
@@ -83,20 +83,20 @@ pub once-none : (s : List ℕ) → isOnce 0 s ≡ true
 unfolding isOnce
 once-none s = refl
 
-pub number-none : (b : ℕ) → b ≡ 0 → 255 ≡ numbered b
+pub number-none : (b : ℕ) → b ≡ 0 → 255 ≡ variableOf b
 number-none b e = rw e
 
-pub number-one : (b : ℕ) → (b ≡ 0 → ⊥) → b - 1 ≡ numbered b
+pub number-one : (b : ℕ) → (b ≡ 0 → ⊥) → b - 1 ≡ variableOf b
 number-one zero ne = absurd (ne refl)
 number-one (suc b) ne = omega arith
 
-variables-snoc : (s : List ℕ) (x : ℕ) → variablesOf (s ++ (x ∷ [])) ≡ variablesOf s ++ (numbered x ∷ [])
+variables-snoc : (s : List ℕ) (x : ℕ) → variablesOf (s ++ (x ∷ [])) ≡ variablesOf s ++ (variableOf x ∷ [])
 unfolding variablesOf
 variables-snoc [] x = refl
-variables-snoc (y ∷ s) x = ap (λ (l : List ℕ). numbered y ∷ l) (variables-snoc s x)
+variables-snoc (y ∷ s) x = ap (λ (l : List ℕ). variableOf y ∷ l) (variables-snoc s x)
 
 -- one variable more
-pub variables-step : (s vs : List ℕ) (i x : ℕ) → i < length s → i < length vs → x ≡ numbered (getD s i 0)
+pub variables-step : (s vs : List ℕ) (i x : ℕ) → i < length s → i < length vs → x ≡ variableOf (getD s i 0)
     → take i vs ≡ variablesOf (take i s) → take (i + 1) (set vs i x) ≡ variablesOf (take (i + 1) s)
 variables-step s vs i x h l e q = rw (add-one, take-suc-set vs i x l, take-suc s i 0 h, variables-snoc (take i s) (getD s i 0), q, e)
 

@@ -12,7 +12,7 @@ use native.Mathlib.Nat.{le-trans, add-zero, pow-le-pow-right}
 use lib.ListN.{length, set}
 use Rattle.words.specs.Words.{gate}
 use Rattle.walks.specs.Choices.{Sets, sumTo, each, ifBreaks, nothingChosen}
-use Rattle.walks.specs.Walk.{walk, orElse, gateO, firstTo, walkFirst, bytesOf}
+use Rattle.walks.specs.Walk.{walk, orElse, gateO, firstTo, walkFirst, choiceBytes}
 use Rattle.walks.specs.Meaning.{there}
 use Rattle.walks.specs.code.Tally.{Says, Walked, Upto, Joined}
 use Rattle.walks.specs.declared.Tally.{Tally}
@@ -20,7 +20,7 @@ use Rattle.walks.proofs.SumLaws.{sum-le, gate-le}
 use Rattle.walks.proofs.PruneLaws.{walk-bound}
 use Rattle.walks.proofs.FirstLaws.{there-first, there-gate, there-walk}
 
-bytes-else : (a b : Option (List ℕ)) → cond (there a) (bytesOf a) (bytesOf b) ≡ bytesOf (orElse a b)
+bytes-else : (a b : Option (List ℕ)) → cond (there a) (choiceBytes a) (choiceBytes b) ≡ choiceBytes (orElse a b)
 bytes-else none b = refl
 bytes-else (some a) b = refl
 

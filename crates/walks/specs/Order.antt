@@ -8,13 +8,13 @@ use lib.ListN.{getD}
 use Rattle.words.specs.Words.{gate, has}
 
 -- The variable that a byte of an order numbers: v1 is the variable 0, and no byte 0 numbers a variable.
-abbrev pub numbered : ℕ → ℕ
-numbered zero = 255
-numbered (suc v) = v
+abbrev pub variableOf : ℕ → ℕ
+variableOf zero = 255
+variableOf (suc v) = v
 
 unfoldable pub variablesOf : List ℕ → List ℕ
 variablesOf [] = []
-variablesOf (b ∷ bs) = numbered b ∷ variablesOf bs
+variablesOf (b ∷ bs) = variableOf b ∷ variablesOf bs
 
 -- Each is below n.
 unfoldable pub isSmall : ℕ → List ℕ → Bool

@@ -32,6 +32,6 @@ walkFirst m s b [] c = gateO (b c) (some c)
 walkFirst m s b (v ∷ vs) c = firstTo m (λ x. gateO (s v c x) (walkFirst m s b vs (set c v x)))
 
 -- "8 bytes by variable number, 255 where unused or none"
-abbrev pub bytesOf : Option (List ℕ) → List ℕ
-bytesOf none = nothingChosen
-bytesOf (some c) = c
+abbrev pub choiceBytes : Option (List ℕ) → List ℕ
+choiceBytes none = nothingChosen
+choiceBytes (some c) = c

@@ -3,7 +3,7 @@
 ghost use mathlib.Core.Path.{_≡_};
 ghost use Prim.Native.Nat.{ℕ, _+_, _<_, _≤_, _^_};
 ghost use lib.ListN.{length, getD, drop, take};
-ghost use Rattle.walks.specs.Order.{count, isSmall, isOnce, isFree, isAfter, isOrder, namedBy, numbered, variablesOf};
+ghost use Rattle.walks.specs.Order.{count, isSmall, isOnce, isFree, isAfter, isOrder, namedBy, variableOf, variablesOf};
 ghost use Rattle.walks.specs.Share.{shareOf};
 ghost use Rattle.walks.specs.code.Tally.{Joined};
 
@@ -38,8 +38,8 @@ pub fn join(a: Tally, b: Tally) -> Tally
 }
 
 // The variable that a byte of an order numbers: v1 is the variable 0, and 0 numbers none.
-fn numbered_by(b: u8) -> u8
-    ensures { λ r. ⌜ r ≡ numbered b ⌝ }
+fn variable_of(b: u8) -> u8
+    ensures { λ r. ⌜ r ≡ variableOf b ⌝ }
 {
     if b == 0 {
         return 255;
@@ -55,7 +55,7 @@ pub fn variables(order: &[u8]) -> [u8; 8]
     let mut vs = [255u8; 8];
     let mut i = 0;
     while i < order.len() {
-        vs[i] = numbered_by(order[i]);
+        vs[i] = variable_of(order[i]);
         i += 1;
     }
     vs

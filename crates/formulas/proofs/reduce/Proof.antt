@@ -3,7 +3,7 @@
 use mathlib.Core.Path.{sym}
 use lib.Seq.{length-take-le}
 use borrow.Author.Needs.{needs}
-use Rattle.formulas.proofs.ReduceLaws.{answers-as, reduce-turned, reduce-few, reduce-ready, reduce-made}
+use Rattle.formulas.proofs.ReduceLaws.{answers-as, reduce-rejected, reduce-few, reduce-ready, reduce-made}
 use Rattle.formulas.proofs.reduce.Statement.{statement}
 use Rattle.formulas.proofs.reduce.Tie as tie
 
@@ -14,7 +14,7 @@ enum-known-outcome : tie.Need-enum-known-outcome
 enum-known-outcome c = search needs
 
 returns : tie.Need-returns
-returns c = reduce-turned (c .before .before .before .parse .ensures) _ _ (c .before .outcome .given .1)
+returns c = reduce-rejected (c .before .before .before .parse .ensures) _ _ (c .before .outcome .given .1)
 
 enum-told : tie.Need-enum-told
 enum-told c = search needs

@@ -10,15 +10,15 @@ use Rattle.functions.proofs.FunctionsLaws.{juniors-of-users}
 use Rattle.functions.proofs.juniors_of_users.Statement.{statement}
 use Rattle.functions.proofs.juniors_of_users.Tie as tie
 
-forth-requires : tie.Need-forth-requires
-forth-requires c κs = search needs
+image-requires : tie.Need-image-requires
+image-requires c κs = search needs
 
-forth-requires-2 : tie.Need-forth-requires-2
-forth-requires-2 c κs = search needs
+image-requires-2 : tie.Need-image-requires-2
+image-requires-2 c κs = search needs
 
 returns : tie.Need-returns
 returns c = λ T fits e.
-    c .forth2 .ensures T e ∙ ap (imageOf (getD (sections T) 1 [])) (c .before .forth .ensures T e) ∙ juniors-of-users T (c .before .before .before .args .w)
+    c .forth2 .ensures T e ∙ ap (imageOf (getD (sections T) 1 [])) (c .before .image .ensures T e) ∙ juniors-of-users T (c .before .before .before .args .w)
 
 pub juniors-of-users-spec : {M : Type 1} → statement M
-juniors-of-users-spec = tie.close (tie.spec forth-requires forth-requires-2 returns)
+juniors-of-users-spec = tie.close (tie.spec image-requires image-requires-2 returns)

@@ -10,25 +10,25 @@ use Rattle.functions.proofs.FunctionsLaws.{operations-on, counted-permi
 use Rattle.functions.proofs.operations_on.Statement.{statement}
 use Rattle.functions.proofs.operations_on.Tie as tie
 
-back-requires : tie.Need-back-requires
-back-requires c κs = search needs
+preimage-requires : tie.Need-preimage-requires
+preimage-requires c κs = search needs
 
-back-requires-2 : tie.Need-back-requires-2
-back-requires-2 c κs = search needs
+preimage-requires-2 : tie.Need-preimage-requires-2
+preimage-requires-2 c κs = search needs
 
 meet-requires : tie.Need-meet-requires
 meet-requires c κs = search needs
 
-forth-requires : tie.Need-forth-requires
-forth-requires c κs = search needs
+image-requires : tie.Need-image-requires
+image-requires c κs = search needs
 
 returns : tie.Need-returns
 returns c = λ T fits e.
     let S = c .before .before .before .before .before in
-    let held = c .before .before .before .back .ensures T e (counted-permissions T) in
+    let held = c .before .before .before .preimage .ensures T e (counted-permissions T) in
     let on = c .before .before .back2 .ensures T e (counted-objects T) in
-    c .forth .ensures T e ∙ ap (imageOf (getD (sections T) 10 [])) (c .before .meet .ensures ∙ ap₂ meetOf held on)
+    c .image .ensures T e ∙ ap (imageOf (getD (sections T) 10 [])) (c .before .meet .ensures ∙ ap₂ meetOf held on)
     ∙ operations-on T fits (S .args .w) (S .args .o)
 
 pub operations-on-spec : {M : Type 1} → statement M
-operations-on-spec = tie.close (tie.spec back-requires back-requires-2 meet-requires forth-requires returns)
+operations-on-spec = tie.close (tie.spec preimage-requires preimage-requires-2 meet-requires image-requires returns)

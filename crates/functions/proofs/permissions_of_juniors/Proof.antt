@@ -10,15 +10,15 @@ use Rattle.functions.proofs.FunctionsLaws.{permissions-of-juniors, coun
 use Rattle.functions.proofs.permissions_of_juniors.Statement.{statement}
 use Rattle.functions.proofs.permissions_of_juniors.Tie as tie
 
-forth-requires : tie.Need-forth-requires
-forth-requires c κs = search needs
+image-requires : tie.Need-image-requires
+image-requires c κs = search needs
 
-back-requires : tie.Need-back-requires
-back-requires c κs = search needs
+preimage-requires : tie.Need-preimage-requires
+preimage-requires c κs = search needs
 
 returns : tie.Need-returns
 returns c = λ T fits e.
-    c .back .ensures T e (counted-permissions T) ∙ ap (preimageOf (getD (sections T) 5 [])) (c .before .forth .ensures T e) ∙ permissions-of-juniors T (c .before .before .before .args .w)
+    c .preimage .ensures T e (counted-permissions T) ∙ ap (preimageOf (getD (sections T) 5 [])) (c .before .image .ensures T e) ∙ permissions-of-juniors T (c .before .before .before .args .w)
 
 pub permissions-of-juniors-spec : {M : Type 1} → statement M
-permissions-of-juniors-spec = tie.close (tie.spec forth-requires back-requires returns)
+permissions-of-juniors-spec = tie.close (tie.spec image-requires preimage-requires returns)

@@ -10,15 +10,15 @@ use Rattle.functions.proofs.FunctionsLaws.{seniors-of-permissions, coun
 use Rattle.functions.proofs.seniors_of_permissions.Statement.{statement}
 use Rattle.functions.proofs.seniors_of_permissions.Tie as tie
 
-forth-requires : tie.Need-forth-requires
-forth-requires c κs = search needs
+image-requires : tie.Need-image-requires
+image-requires c κs = search needs
 
-back-requires : tie.Need-back-requires
-back-requires c κs = search needs
+preimage-requires : tie.Need-preimage-requires
+preimage-requires c κs = search needs
 
 returns : tie.Need-returns
 returns c = λ T fits e.
-    c .back .ensures T e (counted-roles T) ∙ ap (preimageOf (getD (sections T) 1 [])) (c .before .forth .ensures T e) ∙ seniors-of-permissions T (c .before .before .before .args .w)
+    c .preimage .ensures T e (counted-roles T) ∙ ap (preimageOf (getD (sections T) 1 [])) (c .before .image .ensures T e) ∙ seniors-of-permissions T (c .before .before .before .args .w)
 
 pub seniors-of-permissions-spec : {M : Type 1} → statement M
-seniors-of-permissions-spec = tie.close (tie.spec forth-requires back-requires returns)
+seniors-of-permissions-spec = tie.close (tie.spec image-requires preimage-requires returns)

@@ -6,11 +6,11 @@ use Rattle.functions.proofs.FunctionsLaws.{user-of-sessions}
 use Rattle.functions.proofs.user_of_sessions.Statement.{statement}
 use Rattle.functions.proofs.user_of_sessions.Tie as tie
 
-forth-requires : tie.Need-forth-requires
-forth-requires c κs = search needs
+image-requires : tie.Need-image-requires
+image-requires c κs = search needs
 
 returns : tie.Need-returns
-returns c = λ T fits e. c .forth .ensures T e ∙ user-of-sessions T (c .before .before .args .w)
+returns c = λ T fits e. c .image .ensures T e ∙ user-of-sessions T (c .before .before .args .w)
 
 pub user-of-sessions-spec : {M : Type 1} → statement M
-user-of-sessions-spec = tie.close (tie.spec forth-requires returns)
+user-of-sessions-spec = tie.close (tie.spec image-requires returns)

@@ -32,7 +32,7 @@ pub record Prints {A : Type 0} (ns vs : List ℕ) (holds : A → Type 0) (shown 
   pub shows : (σ : Choices) (a : A) → HoldsAll ns vs σ → holds a → Puts (shown σ a) old new r
 
 -- What a writer is given: node k and the nodes of at most 8 choices are among n nodes, no two of them equal.
-pub record Ready (ns : List ℕ) (k : ℕ) (vs : List ℕ) : Type 0 where
+pub record Printable (ns : List ℕ) (k : ℕ) (vs : List ℕ) : Type 0 where
   pub n : ℕ
   pub tidy : Tidy ns n
   pub node : k < n

@@ -4,14 +4,14 @@ use mathlib.Core.Path.{_≡_}
 use mathlib.Core.List.{List}
 use mathlib.Core.Option.{Option, none, some}
 use Prim.Native.Nat.{ℕ}
-use Rattle.texts.specs.code.Written.{Written}
+use Rattle.texts.specs.code.Overwritten.{Overwritten}
 use Rattle.protocol.specs.declared.Taken.{Taken}
 use Rattle.protocol.specs.declared.Taken.the-variants.{Malformed, Took}
 
 -- The bytes b, if any, were written over the beginning of old.
 pub data Bytes (b : Option (List ℕ)) (old new : List ℕ) : Taken → Type 0 where
   no-bytes : b ≡ none → Bytes b old new Malformed
-  some-bytes : {w : List ℕ} {n : ℕ} → b ≡ some w → Written w old new n → Bytes b old new (Took n)
+  some-bytes : {w : List ℕ} {n : ℕ} → b ≡ some w → Overwritten w old new n → Bytes b old new (Took n)
 
 abbrev pub took : Option ℕ → Taken
 took none = Malformed

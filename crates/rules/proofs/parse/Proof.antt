@@ -1,6 +1,6 @@
 -- `rules::parse`: what was found, with the arrays.
 -- Assumes nothing.
-use Rattle.rules.proofs.ParseLaws.{parse-turned, parse-found}
+use Rattle.rules.proofs.ParseLaws.{parse-rejected, parse-found}
 use borrow.Author.Needs.{needs}
 use Rattle.rules.proofs.parse.Statement.{statement}
 use Rattle.rules.proofs.parse.Tie as tie
@@ -20,15 +20,15 @@ find-requires c κs = search needs
 enum-known-r : tie.Need-enum-known-r
 enum-known-r c = search needs
 
-turned-requires : tie.Need-turned-requires
-turned-requires c κs = search needs
+rejected-requires : tie.Need-rejected-requires
+rejected-requires c κs = search needs
 
 enum-known-n : tie.Need-enum-known-n
 enum-known-n c = search needs
 
 returns : tie.Need-returns
 returns c =
-    parse-turned (c .before .before .before .before .before .before .before .find .ensures) (c .before .before .r .given .1) (c .turned .ensures .0) (c .turned .ensures .1)
+    parse-rejected (c .before .before .before .before .before .before .before .find .ensures) (c .before .before .r .given .1) (c .rejected .ensures .0) (c .rejected .ensures .1)
 
 returns-2 : tie.Need-returns-2
 returns-2 c = parse-found (c .before .before .before .before .before .before .find .ensures) (c .before .n .given .1)
@@ -42,7 +42,7 @@ parse-spec =
     slice-aggregate-find-3
     find-requires
     enum-known-r
-    turned-requires
+    rejected-requires
     enum-known-n
     returns
     returns-2)

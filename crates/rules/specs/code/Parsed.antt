@@ -12,10 +12,10 @@ use Rattle.syntax.specs.code.Arena.{HoldsRule, Tidy}
 use Rattle.syntax.specs.code.Reading.{mk, Knows}
 use Rattle.rules.specs.declared.Checked.{Checked}
 use Rattle.rules.specs.declared.Checked.the-variants.{Refused, Accepted}
-use Rattle.rules.specs.declared.Weighed.{Weighed}
-use Rattle.rules.specs.declared.Weighed.the-variants.{Unfit, Variables}
+use Rattle.rules.specs.declared.TreeCheck.{TreeCheck}
+use Rattle.rules.specs.declared.TreeCheck.the-variants.{Unfit, Variables}
 use Rattle.rules.specs.declared.Found.{Found}
-use Rattle.rules.specs.declared.Found.the-variants.{Turned, Rule as Tree}
+use Rattle.rules.specs.declared.Found.the-variants.{Rejected, Rule as Tree}
 use Rattle.rules.specs.Accept.{treeRefusal, refusal}
 use Rattle.rules.specs.code.Numbers.{Kinded}
 
@@ -39,13 +39,13 @@ pub record Fitted (ns : List ℕ) (n : ℕ) (ks vs : List ℕ) (count : ℕ) (ρ
   pub counted : count ≡ length (ruleVars [] ρ)
   pub few : count ≤ 8
 
-pub data Weighs (ns : List ℕ) (n root : ℕ) (ks vs : List ℕ) : Weighed → Type 0 where
-  unfit : {r : Refusal} → ((ρ : Rule) → HoldsRule ns root ρ → treeRefusal ρ ≡ some r) → Weighs ns n root ks vs (Unfit r)
-  fit : {count : ℕ} → ((ρ : Rule) → HoldsRule ns root ρ → Fitted ns n ks vs count ρ) → Weighs ns n root ks vs (Variables count)
+pub data ChecksTree (ns : List ℕ) (n root : ℕ) (ks vs : List ℕ) : TreeCheck → Type 0 where
+  unfit : {r : Refusal} → ((ρ : Rule) → HoldsRule ns root ρ → treeRefusal ρ ≡ some r) → ChecksTree ns n root ks vs (Unfit r)
+  fit : {count : ℕ} → ((ρ : Rule) → HoldsRule ns root ρ → Fitted ns n ks vs count ρ) → ChecksTree ns n root ks vs (Variables count)
 
 -- What the checks on a text find.
 pub data Finds (s : Bytes) (ns ks vs : List ℕ) : Found → Type 0 where
-  turned : {r : Refusal} → refusal s ≡ some r → Finds s ns ks vs (Turned r)
+  rejected : {r : Refusal} → refusal s ≡ some r → Finds s ns ks vs (Rejected r)
   found : {n root count : ℕ} → refusal s ≡ none → RuleAt s ns n root ks vs count → Finds s ns ks vs (Tree n root count)
 
 -- Nothing of a tree: no node has a kind, and there is no variable.

@@ -19,7 +19,7 @@ findFrom d [] v = none
 findFrom d (x ∷ vs) v = cond (eqb x v) (some d) (findFrom (suc d) vs v)
 
 -- The first c of vs are the nodes of the choices σ; c is 9 where σ are more than 8.
-pub record Listed (ns : List ℕ) (n : ℕ) (vs : List ℕ) (c : ℕ) (σ : Choices) : Type 0 where
+pub record VariableList (ns : List ℕ) (n : ℕ) (vs : List ℕ) (c : ℕ) (σ : Choices) : Type 0 where
   pub few : c ≤ 9
   pub more : 8 < c → 8 < length σ
   pub held : c ≤ 8 → HoldsAll ns (take c vs) σ
@@ -28,7 +28,7 @@ pub record Listed (ns : List ℕ) (n : ℕ) (vs : List ℕ) (c : ℕ) (σ : Choi
 -- A walk over what node k holds has turned the list vs with count c into ws with count d.
 pub record Walked (ns : List ℕ) (n k : ℕ) (vs : List ℕ) (c : ℕ) (ws : List ℕ) (d : ℕ) : Type 0 where
   pub size : length ws ≡ length vs
-  pub adds : (x : Thing) → HoldsThing ns k x → (σ : Choices) → Listed ns n vs c σ → Listed ns n ws d (thingVars σ x)
+  pub adds : (x : Thing) → HoldsThing ns k x → (σ : Choices) → VariableList ns n vs c σ → VariableList ns n ws d (thingVars σ x)
 
 -- The node v came behind the first c of vs, unless it is one of them: the list is ws, and the count d.
 pub data Added (vs : List ℕ) (c v : ℕ) : List ℕ → ℕ → Type 0 where
@@ -40,4 +40,4 @@ pub data Added (vs : List ℕ) (c v : ℕ) : List ℕ → ℕ → Type 0 where
 -- The variables of the rule at a node, in an array of 8.
 pub record VarsOf (ns : List ℕ) (n root : ℕ) (vs : List ℕ) (c : ℕ) : Type 0 where
   pub size : length vs ≡ 8
-  pub listed : (ρ : Rule) → HoldsRule ns root ρ → Listed ns n vs c (ruleVars [] ρ)
+  pub listed : (ρ : Rule) → HoldsRule ns root ρ → VariableList ns n vs c (ruleVars [] ρ)

@@ -1,6 +1,6 @@
 -- `sheets::line` lends the line at a place.
 -- Assumes nothing.
-use Rattle.texts.proofs.WrittenLaws.{written-part, part-length}
+use Rattle.texts.proofs.OverwrittenLaws.{written-part, part-length}
 use borrow.Author.Needs.{needs}
 use Rattle.sheets.proofs.line.Statement.{statement}
 use Rattle.sheets.proofs.line.Tie as tie

@@ -1,6 +1,6 @@
 -- `sheets::write_line` writes the line of any tables and rules.
 -- Assumes nothing.
-use Rattle.sheets.proofs.JudgedLaws.{turned-made, taken-made}
+use Rattle.sheets.proofs.JudgedLaws.{rejected-made, taken-made}
 use borrow.Author.Needs.{needs}
 use Rattle.sheets.proofs.write_line.Statement.{statement}
 use Rattle.sheets.proofs.write_line.Tie as tie
@@ -24,7 +24,7 @@ same-length : tie.Need-same-length
 same-length c = search needs
 
 returns : tie.Need-returns
-returns c = turned-made _ _ _ _ (c .before .before .before .before .before .before .before .read .ensures .0) (c .before .before .before .before .before .outcome .given .1) (c .before .before .refused-tables .ensures)
+returns c = rejected-made _ _ _ _ (c .before .before .before .before .before .before .before .read .ensures .0) (c .before .before .before .before .before .outcome .given .1) (c .before .before .refused-tables .ensures)
 
 same-length-2 : tie.Need-same-length-2
 same-length-2 c = search needs

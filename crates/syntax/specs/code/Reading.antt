@@ -32,7 +32,7 @@ pub record Stands (s : Bytes) (at : ℕ) (w : Bytes) (r : Bool) : Type 0 where
 pub record Signed {A : Type 0} (number : A → ℕ) (s : Bytes) (at o e : ℕ) (r : Read A) : Type 0 where
   pub thing : A
   pub is : r ≡ got thing (drop e s)
-  pub numbered : number thing ≡ o
+  pub numberIs : number thing ≡ o
   pub more : at + 1 ≤ e
   pub fits : e ≤ length s
 
@@ -128,7 +128,7 @@ pub record Knows (a : Arena) (vars : List ℕ) (σ : Choices) : Type 0 where
   pub below : (i : ℕ) → i < length vars → getD vars i 0 < a .n
 
 -- What a reader is given: no more nodes than bytes were read, and the nodes of some choices.
-pub record Ready (s : Bytes) (at : ℕ) (vars : List ℕ) (a : Arena) : Type 0 where
+pub record Readable (s : Bytes) (at : ℕ) (vars : List ℕ) (a : Arena) : Type 0 where
   pub room : length s ≤ length (a .nodes)
   pub within : at ≤ length s
   pub count : a .n ≤ at
@@ -207,7 +207,7 @@ graft [] ρ = ρ
 graft (c ∷ cs) ρ = also c (graft cs ρ)
 
 -- The nodes of a list hold the clauses cs and then d; there are c of them.
-pub record Listed (a : Arena) (list : List ℕ) (c : ℕ) (cs : List Clause) (d : Clause) : Type 0 where
+pub record ClauseList (a : Arena) (list : List ℕ) (c : ℕ) (cs : List Clause) (d : Clause) : Type 0 where
   pub size : length cs + 1 ≡ c
   pub each : (i : ℕ) → i < c → HoldsClause (a .nodes) (getD list i 0) (getD cs i d)
 
@@ -216,7 +216,7 @@ pub record Collected (s : Bytes) (at : ℕ) (a b : Arena) (list : List ℕ) (c e
   pub before : List Clause
   pub final : Clause
   pub reads : r ≡ got (graft before (last final)) (drop e s)
-  pub listed : Listed b list c before final
+  pub listed : ClauseList b list c before final
   pub below : (i : ℕ) → i < c → getD list i 0 < b .n
   pub many : c ≤ length list
   pub count : b .n + at + c ≤ a .n + e + 1
@@ -238,7 +238,7 @@ pub record Joinable (a : Arena) (list : List ℕ) (c next : ℕ) : Type 0 where
 
 -- Node k of b holds the rule of the clauses.
 pub record JoinedAt (a : Arena) (list : List ℕ) (c : ℕ) (b : Arena) (k : ℕ) : Type 0 where
-  pub holds : (cs : List Clause) (d : Clause) → Listed a list c cs d → HoldsRule (b .nodes) k (graft cs (last d))
+  pub holds : (cs : List Clause) (d : Clause) → ClauseList a list c cs d → HoldsRule (b .nodes) k (graft cs (last d))
   pub within : k < b .n
   pub few : b .n + 1 ≤ a .n + c
   pub stays : Stays a b

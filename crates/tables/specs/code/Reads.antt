@@ -14,8 +14,8 @@ use Rattle.tables.specs.declared.Step.the-variants.{Stopped, Took}
 use Rattle.tables.specs.declared.Outcome.{Outcome}
 use Rattle.tables.specs.declared.Outcome.the-variants.{Refused, Accepted}
 use Rattle.tables.specs.Tables.{Tables}
-use Rattle.tables.specs.Reading.{Bytes, Taken, stop, took, Session, Rights, Collections, Reading, turned, taken}
-use Rattle.tables.specs.Checks.{allTo, above, ranked, inReach, apart}
+use Rattle.tables.specs.Reading.{Bytes, Taken, stop, took, Session, Rights, Collections, Reading, rejected, taken}
+use Rattle.tables.specs.Checks.{allTo, dominates, ranked, inReach, apart}
 use Rattle.tables.specs.Flat.{tabulate}
 unfoldable pub use Rattle.tables.specs.Accepted.{Below}
 pub use Rattle.tables.specs.Accepted.{Bounded}
@@ -26,9 +26,9 @@ pub data Reads {A : Type 0} (s : Bytes) (Holds : A → ℕ → Type 0) : Step �
   takes : {v n : ℕ} {a : A} {r : Taken A} → r ≡ took a (drop n s) → n ≤ length s → Holds a v → Reads s Holds (Took v n) r
 
 -- The case of the outcome that a reading has.
-abbrev pub outcomeOf : Reading → Outcome
-outcomeOf (turned e) = Refused e
-outcomeOf (taken T) = Accepted
+abbrev pub readingOutcome : Reading → Outcome
+readingOutcome (rejected e) = Refused e
+readingOutcome (taken T) = Accepted
 
 -- A count within its limit.
 pub record IsCount (limit a v : ℕ) : Type 0 where
@@ -117,7 +117,7 @@ abbrev pub belowAt : List ℕ → ℕ → ℕ
 belowAt rows r = imageOf rows (lessOf (getD rows r 0) (itemOf r))
 
 unfoldable pub rankAt : List ℕ → ℕ → Bool
-rankAt rows r = above rows r r && (eqb (lessOf (belowAt rows r) (getD rows r 0)) 0 && not (has (belowAt rows r) r))
+rankAt rows r = dominates rows r r && (eqb (lessOf (belowAt rows r) (getD rows r 0)) 0 && not (has (belowAt rows r) r))
 
 unfoldable pub reaching : List ℕ → List ℕ → List ℕ → Bool
 reaching assigned users active =

@@ -3,7 +3,7 @@
 use native.Mathlib.Omega.{arith}
 use borrow.Author.Needs.{needs}
 use Rattle.texts.proofs.DecimalLaws.{digits-none, digits-one, digits-more, digits-room}
-use Rattle.texts.proofs.WrittenLaws.{written-length}
+use Rattle.texts.proofs.OverwrittenLaws.{written-length}
 use Prim.Native.Nat.{ℕ, _<_}
 use borrow.Fn.Kinds.{In}
 use borrow.Fn.PlainCycle.{Measures, is, falls, and}

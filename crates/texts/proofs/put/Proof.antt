@@ -1,7 +1,7 @@
 -- `texts::put` writes the whole of w: it is a copy.
 -- Assumes nothing.
 use borrow.Author.Needs.{needs}
-use Rattle.texts.proofs.WrittenLaws.{copied}
+use Rattle.texts.proofs.OverwrittenLaws.{copied}
 use Rattle.texts.proofs.put.Statement.{statement}
 use Rattle.texts.proofs.put.Tie as tie
 

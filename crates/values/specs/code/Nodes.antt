@@ -42,7 +42,7 @@ placeIn k [] = 0
 placeIn k (v ∷ vs) = cond (eqb v k) 0 (suc (placeIn k vs))
 
 -- What a walk over nodes needs to stay within its slices: the tables are whole, node k is one of the first n, which are tidy and have kinds.
-pub record Ready (ts ns : List ℕ) (n : ℕ) (ks : List ℕ) (k : ℕ) : Type 0 where
+pub record Evaluable (ts ns : List ℕ) (n : ℕ) (ks : List ℕ) (k : ℕ) : Type 0 where
   pub whole : length ts ≡ 704
   pub tidy : Tidy ns n
   pub kinded : n ≤ length ks

@@ -15,7 +15,7 @@ use Rattle.syntax.specs.Rule.{Rule, ruleVars}
 use Rattle.syntax.specs.code.Arena.{HoldsRule}
 use Rattle.rules.specs.Accept.{refusal}
 use Rattle.walks.specs.declared.Tally.{Tally}
-use Rattle.walks.specs.Walk.{gateO, bytesOf}
+use Rattle.walks.specs.Walk.{gateO, choiceBytes}
 use Rattle.walks.specs.Meaning.{After}
 use Rattle.walks.specs.code.Among.{Within}
 use Rattle.walks.specs.code.Tally.{Walked, Upto}
@@ -23,7 +23,7 @@ use Rattle.walks.specs.Share.{shareOf}
 use Rattle.verdicts.specs.Verdict.{outcomeOf, orderVerdict, acceptedVerdict}
 use Rattle.verdicts.specs.declared.Verdict.{Verdict}
 use Rattle.values.specs.Sets.{itemsOf, inSet, names, breaks}
-use Rattle.values.specs.code.Nodes.{Ready, Variables, World}
+use Rattle.values.specs.code.Nodes.{Evaluable, Variables, World}
 use Rattle.values.specs.code.Levels.{Levels, Chained}
 use Rattle.values.specs.code.Cache.{Valued, Stored}
 
@@ -39,7 +39,7 @@ pub record Case (ts ns : List ℕ) (n : ℕ) (ks vs : List ℕ) (root : ℕ) (T 
 
 -- The slices hold some tables and some rule with at most 8 variables, whose nodes are among the first n.
 pub record Lent (ts ns : List ℕ) (n : ℕ) (ks vs : List ℕ) (root : ℕ) : Type 0 where
-  pub ready : Ready ts ns n ks root
+  pub ready : Evaluable ts ns n ks root
   pub small : n ≤ 256
   pub few : length vs ≤ 8
   pub nodes : (i : ℕ) → i < length vs → getD vs i 0 < n
@@ -48,7 +48,7 @@ pub record Lent (ts ns : List ℕ) (n : ℕ) (ks vs : List ℕ) (root : ℕ) : T
   pub isCase : Case ts ns n ks vs root tables rule
 
 -- The order lists variables, each fewer than there are nodes of variables.
-pub record Listed (vs order : List ℕ) : Type 0 where
+pub record OrderList (vs order : List ℕ) : Type 0 where
   pub short : length order ≤ 8
   pub small : (i : ℕ) → i < length order → getD order i 0 < length vs
 
@@ -80,7 +80,7 @@ pub record Next (w x r : ℕ) : Type 0 where
 pub record Leaf (b : Bool) (c : List ℕ) (r : Tally) : Type 0 where
   pub full : r .full ≡ 1
   pub breaking : r .breaking ≡ gate b 1
-  pub first : r .first ≡ bytesOf (gateO b (some c))
+  pub first : r .first ≡ choiceBytes (gateO b (some c))
 
 -- r is what a whole choice gives where the cache has the values under it.
 abbrev pub Ends : List ℕ → ℕ → ℕ → List ℕ → List ℕ → Tally → Type 0

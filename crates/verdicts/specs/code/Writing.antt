@@ -9,5 +9,5 @@ use Rattle.answers.specs.declared.Written.{Written}
 use Rattle.verdicts.specs.declared.Verdict.{Verdict}
 use Rattle.verdicts.specs.Verdict.{written}
 
-abbrev pub Puts : List ℕ → List ℕ → ℕ → Verdict → Written → Type 0
-Puts old new word v r = Answers (lent (length old) (wrote (written word v))) old new r
+abbrev pub PutsVerdict : List ℕ → List ℕ → ℕ → Verdict → Written → Type 0
+PutsVerdict old new word v r = Answers (lent (length old) (wrote (written word v))) old new r

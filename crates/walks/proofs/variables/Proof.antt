@@ -21,11 +21,11 @@ abbrev μ-loop : tie.MeasureT-loop
 loop-holds : tie.Need-loop-holds Inv-loop μ-loop
 loop-holds c = (omega arith, refl, variables-none)
 
-shared-slice-read-numbered-by : tie.Need-shared-slice-read-numbered-by Inv-loop μ-loop
-shared-slice-read-numbered-by c = omega arith
+shared-slice-read-variable-of : tie.Need-shared-slice-read-variable-of Inv-loop μ-loop
+shared-slice-read-variable-of c = omega arith
 
-numbered-by-requires : tie.Need-numbered-by-requires Inv-loop μ-loop
-numbered-by-requires c κs = search needs
+variable-of-requires : tie.Need-variable-of-requires Inv-loop μ-loop
+variable-of-requires c κs = search needs
 
 array-write-vs : tie.Need-array-write-vs Inv-loop μ-loop
 array-write-vs c = search needs
@@ -40,8 +40,8 @@ loop-again : tie.Need-loop-again Inv-loop μ-loop
 loop-again c =
     let room : c .before .before .before .loop .i < length (c .before .before .before .loop .vs) = omega (arith, c .before .before .before .before .before .pre, c .before .before .before .loop .inv .1) in (
       omega arith,
-      length-set (c .before .before .before .loop .vs) (c .before .before .before .loop .i) (c .numbered-by .result) ∙ c .before .before .before .loop .inv .1,
-      variables-step (c .before .before .before .before .before .args .order .now) (c .before .before .before .loop .vs) (c .before .before .before .loop .i) (c .numbered-by .result) (c .before .before .loop-test .taken) room (c .numbered-by .ensures) (c .before .before .before .loop .inv .2),
+      length-set (c .before .before .before .loop .vs) (c .before .before .before .loop .i) (c .variable-of .result) ∙ c .before .before .before .loop .inv .1,
+      variables-step (c .before .before .before .before .before .args .order .now) (c .before .before .before .loop .vs) (c .before .before .before .loop .i) (c .variable-of .result) (c .before .before .loop-test .taken) room (c .variable-of .ensures) (c .before .before .before .loop .inv .2),
     )
 
 returns : tie.Need-returns Inv-loop μ-loop
@@ -57,8 +57,8 @@ variables-spec =
     Inv-loop
     μ-loop
     loop-holds
-    shared-slice-read-numbered-by
-    numbered-by-requires
+    shared-slice-read-variable-of
+    variable-of-requires
     array-write-vs
     add-i
     loop-less

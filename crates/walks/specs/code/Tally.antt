@@ -9,14 +9,14 @@ use lib.ListN.{set}
 use lib.Dec.{ltb}
 use Rattle.words.specs.Words.{gate}
 use Rattle.walks.specs.Choices.{Sets, sumTo, each, ifBreaks}
-use Rattle.walks.specs.Walk.{walk, walkFirst, gateO, firstTo, bytesOf}
+use Rattle.walks.specs.Walk.{walk, walkFirst, gateO, firstTo, choiceBytes}
 use Rattle.walks.specs.declared.Tally.{Tally}
 
 -- r carries these two counts and this first breaking choice.
 pub record Says (full breaking : ℕ) (first : Option (List ℕ)) (r : Tally) : Type 0 where
   pub fulls : r .full ≡ full
   pub breakings : r .breaking ≡ breaking
-  pub firsts : r .first ≡ bytesOf first
+  pub firsts : r .first ≡ choiceBytes first
 
 -- r is what the walk along vs from the choice c gives.
 abbrev pub Walked : Sets → (List ℕ → Bool) → List ℕ → List ℕ → Tally → Type 0

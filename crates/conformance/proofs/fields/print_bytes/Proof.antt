@@ -1,6 +1,6 @@
 -- `conformance::fields::print_bytes` is safe: what was written is a part of the text's bytes.
 -- Assumes nothing.
-use Rattle.texts.proofs.WrittenLaws.{part-length}
+use Rattle.texts.proofs.OverwrittenLaws.{part-length}
 use borrow.Author.Needs.{needs}
 use Rattle.conformance.proofs.fields.print_bytes.Statement.{statement}
 use Rattle.conformance.proofs.fields.print_bytes.Tie as tie

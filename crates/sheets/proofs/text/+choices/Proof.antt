@@ -3,7 +3,7 @@
 use native.Mathlib.Omega.{arith}
 use lib.ListN.{length, getD}
 use borrow.Author.Needs.{needs}
-use Rattle.texts.proofs.WrittenLaws.{written-rest, rest-room}
+use Rattle.texts.proofs.OverwrittenLaws.{written-rest, rest-room}
 use Rattle.sheets.proofs.LineLaws.{choice-short, none-left, none-chosen, one-chosen}
 use Prim.Native.Nat.{ℕ, _<_, _+_, _-_, _*_}
 use borrow.Fn.Kinds.{In}

@@ -5,7 +5,7 @@ use mathlib.Core.Path.{_≡_}
 use native.Mathlib.Omega.{arith}
 use lib.ListN.{length}
 use Rattle.syntax.specs.Bytes.{ascii}
-use Rattle.texts.proofs.WrittenLaws.{written-rest, rest-room}
+use Rattle.texts.proofs.OverwrittenLaws.{written-rest, rest-room}
 use Rattle.sheets.proofs.LineLaws.{shared-short}
 use borrow.Author.Needs.{needs}
 use Rattle.sheets.proofs.text.broken.Statement.{statement}

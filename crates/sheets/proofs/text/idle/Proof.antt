@@ -2,7 +2,7 @@
 -- Assumes nothing.
 use native.Mathlib.Omega.{arith}
 use Rattle.syntax.specs.Bytes.{ascii}
-use Rattle.texts.proofs.WrittenLaws.{written-rest, rest-room}
+use Rattle.texts.proofs.OverwrittenLaws.{written-rest, rest-room}
 use Rattle.sheets.proofs.LineLaws.{counts-short}
 use borrow.Author.Needs.{needs}
 use Rattle.sheets.proofs.text.idle.Statement.{statement}

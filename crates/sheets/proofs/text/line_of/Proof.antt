@@ -1,7 +1,7 @@
 -- `sheets::text::line_of` writes the place and what the verdict says.
 -- Assumes nothing.
 use native.Mathlib.Omega.{arith}
-use Rattle.texts.proofs.WrittenLaws.{written-rest, rest-room}
+use Rattle.texts.proofs.OverwrittenLaws.{written-rest, rest-room}
 use Rattle.texts.proofs.DecimalLaws.{digits-short}
 use borrow.Author.Needs.{needs}
 use Rattle.sheets.proofs.text.line_of.Statement.{statement}

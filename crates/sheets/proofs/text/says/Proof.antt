@@ -8,17 +8,17 @@ use Rattle.sheets.proofs.text.says.Tie as tie
 enum-known-outcome : tie.Need-enum-known-outcome
 enum-known-outcome c = search needs
 
-slice-aggregate-numbered-by : tie.Need-slice-aggregate-numbered-by
-slice-aggregate-numbered-by c = search needs
+slice-aggregate-labelled : tie.Need-slice-aggregate-labelled
+slice-aggregate-labelled c = search needs
 
 number-requires : tie.Need-number-requires
 number-requires c κs = search needs
 
-cast-numbered-by : tie.Need-cast-numbered-by
-cast-numbered-by c = search needs
+cast-labelled : tie.Need-cast-labelled
+cast-labelled c = search needs
 
-numbered-by-requires : tie.Need-numbered-by-requires
-numbered-by-requires c κs = search needs
+labelled-requires : tie.Need-labelled-requires
+labelled-requires c κs = search needs
 
 enum-told : tie.Need-enum-told
 enum-told c = search needs
@@ -46,7 +46,7 @@ same-length c = search needs
 
 returns : tie.Need-returns
 unfolding saysOf sharedOf countsOf
-returns c = rw (c .before .before .before .before .before .before .before .outcome .given .1) (rw (c .before .before .before .before .number .ensures) at (c .before .before .numbered-by .ensures))
+returns c = rw (c .before .before .before .before .before .before .before .outcome .given .1) (rw (c .before .before .before .before .number .ensures) at (c .before .before .labelled .ensures))
 
 same-length-2 : tie.Need-same-length-2
 same-length-2 c = search needs
@@ -74,10 +74,10 @@ says-spec =
     tie.close
     (tie.spec
     enum-known-outcome
-    slice-aggregate-numbered-by
+    slice-aggregate-labelled
     number-requires
-    cast-numbered-by
-    numbered-by-requires
+    cast-labelled
+    labelled-requires
     enum-told
     slice-aggregate-shared
     shared-requires

@@ -48,7 +48,7 @@ empty-at-requires c κs = as-name (c .before .before .before .between-at .ensure
 add-intern : tie.Need-add-intern
 add-intern c =
     let x = as-name (c .before .before .before .before .before .before .between-at .ensures) (c .before .before .before .before .h .given .1) in
-    omega (arith, x .numbered, between-range (x .thing) .high)
+    omega (arith, x .numberIs, between-range (x .thing) .high)
 
 add-intern-2 : tie.Need-add-intern-2
 add-intern-2 c =

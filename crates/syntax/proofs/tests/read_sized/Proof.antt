@@ -69,7 +69,7 @@ read-count-requires : tie.Need-read-count-requires
 read-count-requires c κs =
     let f = as-some (c .before .before .before .before .before .before .before .before .before .before .before .before .before .read-term .ensures (c .before .before .before .before .before .before .before .before .before .before .before .before .before .before .before .before .before .before .pre .choices) (c .before .before .before .before .before .before .before .before .before .before .before .before .before .before .before .before .before .before .pre .knows)) (c .before .before .before .before .before .before .before .before .before .p .given .1) in
     let x = as-name (c .before .before .before .before .cmp-at .ensures) (c .before .before .h .given .1) in
-    (ready-on (c .before .before .before .before .before .before .before .before .before .before .before .before .before .before .before .before .before .before .pre) f (omega (arith, x .more)) (x .fits), (omega (arith, x .numbered, cmp-small (x .thing)), f .within))
+    (ready-on (c .before .before .before .before .before .before .before .before .before .before .before .before .before .before .before .before .before .before .pre) f (omega (arith, x .more)) (x .fits), (omega (arith, x .numberIs, cmp-small (x .thing)), f .within))
 
 same-length-4 : tie.Need-same-length-4
 same-length-4 c = search needs
@@ -79,7 +79,7 @@ returns-4 c = λ σ w.
     let f = as-some (c .before .before .before .before .before .before .before .before .before .before .before .before .before .before .before .before .read-term .ensures σ w) (c .before .before .before .before .before .before .before .before .before .before .before .before .p .given .1) in
     let h = hit (c .before .before .before .before .before .before .before .before .before .stands .ensures) (not-false _ (c .before .before .before .before .before .before .before .before .if1 .left)) (f .end) in
     let x = as-name (c .before .before .before .before .before .before .before .cmp-at .ensures) (c .before .before .before .before .before .h .given .1) in
-    sized-found (c .before .before .before .before .before .before .before .before .before .before .before .before .before .before .before .before .before .before .before .before .before .args .left) σ f h x (c .before .before .read-count .ensures σ (x .thing) (f .thing) (knows-later (f .stays) w) (x .numbered) (f .holds))
+    sized-found (c .before .before .before .before .before .before .before .before .before .before .before .before .before .before .before .before .before .before .before .before .before .args .left) σ f h x (c .before .before .read-count .ensures σ (x .thing) (f .thing) (knows-later (f .stays) w) (x .numberIs) (f .holds))
 
 pub read-sized-spec : {M : Type 1} → statement M
 read-sized-spec =

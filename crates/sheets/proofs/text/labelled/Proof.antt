@@ -1,9 +1,9 @@
--- `sheets::text::numbered_by` writes the text and the digits behind it.
+-- `sheets::text::labelled` writes the text and the digits behind it.
 -- Assumes nothing.
-use Rattle.texts.proofs.WrittenLaws.{written-rest}
+use Rattle.texts.proofs.OverwrittenLaws.{written-rest}
 use borrow.Author.Needs.{needs}
-use Rattle.sheets.proofs.text.numbered_by.Statement.{statement}
-use Rattle.sheets.proofs.text.numbered_by.Tie as tie
+use Rattle.sheets.proofs.text.labelled.Statement.{statement}
+use Rattle.sheets.proofs.text.labelled.Tie as tie
 
 put-requires : tie.Need-put-requires
 put-requires c κs = search needs
@@ -29,8 +29,8 @@ same-length c = search needs
 returns : tie.Need-returns
 returns c = written-rest (c .before .before .before .before .before .before .put .ensures) (c .before .before .decimal .ensures)
 
-pub numbered-by-spec : {M : Type 1} → statement M
-numbered-by-spec =
+pub labelled-spec : {M : Type 1} → statement M
+labelled-spec =
     tie.close
     (tie.spec
     put-requires

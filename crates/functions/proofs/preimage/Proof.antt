@@ -9,8 +9,8 @@ use lib.ListN.{getD}
 use Rattle.tables.specs.Flat.{counts}
 use Rattle.tables.proofs.FlatLaws.{count-at}
 use Rattle.functions.proofs.SectionLaws.{preimage-section}
-use Rattle.functions.proofs.back.Statement.{statement}
-use Rattle.functions.proofs.back.Tie as tie
+use Rattle.functions.proofs.preimage.Statement.{statement}
+use Rattle.functions.proofs.preimage.Tie as tie
 
 mul-at : tie.Need-mul-at
 mul-at c = search needs
@@ -50,5 +50,5 @@ returns c = λ T e h.
     ap (λ (l : List ℕ). getD l (S .args .n) 0) e ∙ count-at T (S .args .n) (omega (arith, S .pre)) in
     c .preimage .ensures ∙ preimage-section T (S .args .k) ((64 * S .args .k + n) - 64 * S .args .k) (S .args .w) e (omega (arith, c .before .before .least .ensures))
 
-pub back-spec : {M : Type 1} → statement M
-back-spec = tie.close (tie.spec mul-at mul-least shared-slice-read-least least-requires add-end mul-preimage sub-preimage part-preimage-start part-preimage-end preimage-requires returns)
+pub preimage-spec : {M : Type 1} → statement M
+preimage-spec = tie.close (tie.spec mul-at mul-least shared-slice-read-least least-requires add-end mul-preimage sub-preimage part-preimage-start part-preimage-end preimage-requires returns)

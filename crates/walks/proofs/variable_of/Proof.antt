@@ -1,9 +1,9 @@
--- `walks::numbered_by` meets its contract.
+-- `walks::variable_of` meets its contract.
 -- Assumes nothing.
 use borrow.Author.Needs.{needs}
 use Rattle.walks.proofs.LoopLaws.{number-none, number-one}
-use Rattle.walks.proofs.numbered_by.Statement.{statement}
-use Rattle.walks.proofs.numbered_by.Tie as tie
+use Rattle.walks.proofs.variable_of.Statement.{statement}
+use Rattle.walks.proofs.variable_of.Tie as tie
 
 returns : tie.Need-returns
 returns c = number-none (c .before .args .b) (c .if1 .taken)
@@ -14,5 +14,5 @@ sub-result c = search needs
 returns-2 : tie.Need-returns-2
 returns-2 c = number-one (c .before .args .b) (c .if1 .left)
 
-pub numbered-by-spec : {M : Type 1} → statement M
-numbered-by-spec = tie.close (tie.spec returns sub-result returns-2)
+pub variable-of-spec : {M : Type 1} → statement M
+variable-of-spec = tie.close (tie.spec returns sub-result returns-2)

@@ -10,7 +10,7 @@ abbrev pub over : List ℕ → List ℕ → List ℕ
 over w old = w ++ drop (length w) old
 
 -- The n bytes w were written over the beginning of old, which gives new.
-pub record Written (w old new : List ℕ) (n : ℕ) : Type 0 where
+pub record Overwritten (w old new : List ℕ) (n : ℕ) : Type 0 where
   pub count : n ≡ length w
   pub bytes : new ≡ over w old
   pub fits : length w ≤ length old

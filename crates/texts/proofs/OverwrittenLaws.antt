@@ -7,23 +7,23 @@ use native.Mathlib.Omega.{arith}
 use lib.ListN.{length, take, drop, getD, set, length-append, length-drop, length-take, drop-of-length-le}
 use borrow.Rule.Slice.PartMut.{midOf, postOf, putMid}
 use lib.Seq.{drop-cons, set-at, take-length, take-all, take-at, drop-at, drop-drop}
-use Rattle.texts.specs.code.Written.{Written, over}
+use Rattle.texts.specs.code.Overwritten.{Overwritten, over}
 
 pub over-length : (w old : List ℕ) → length w ≤ length old → length (over w old) ≡ length old
 over-length w old h = simp (length-append, length-drop) (omega arith)
 
-pub written-length : {w old new : List ℕ} {n : ℕ} → Written w old new n → length new ≡ length old
+pub written-length : {w old new : List ℕ} {n : ℕ} → Overwritten w old new n → length new ≡ length old
 written-length {w} {old} r = rw (r .bytes) (over-length w old (r .fits))
 
-pub none-written : (old : List ℕ) → Written [] old old 0
+pub none-written : (old : List ℕ) → Overwritten [] old old 0
 none-written old = record { count = refl; bytes = refl; fits = omega arith }
 
 -- The whole of w, copied.
-pub copied : (w old : List ℕ) {new : List ℕ} {n : ℕ} → n ≡ length w → new ≡ take (length w) w ++ drop (length w) old → length w ≤ length old → Written w old new n
+pub copied : (w old : List ℕ) {new : List ℕ} {n : ℕ} → n ≡ length w → new ≡ take (length w) w ++ drop (length w) old → length w ≤ length old → Overwritten w old new n
 copied w old c e h = record { count = c; bytes = rw take-length at e; fits = h }
 
 -- One byte, set behind the text w.
-pub written-byte : {w old mid : List ℕ} {k : ℕ} (v : ℕ) → Written w old mid k → k < length old → Written (w ++ (v ∷ [])) old (set mid k v) (k + 1)
+pub written-byte : {w old mid : List ℕ} {k : ℕ} (v : ℕ) → Overwritten w old mid k → k < length old → Overwritten (w ++ (v ∷ [])) old (set mid k v) (k + 1)
 written-byte {w} {old} {mid} {k} v r h =
     let k′ : k ≡ length w = r .count in
     let l : length w < length old = omega arith in
@@ -36,7 +36,7 @@ written-byte {w} {old} {mid} {k} v r h =
     }
 
 -- The text v, written to the rest of the bytes behind w.
-pub written-then : {w v old mid tail : List ℕ} {n m : ℕ} → Written w old mid n → Written v (drop n mid) tail m → Written (w ++ v) old (take n mid ++ tail) (n + m)
+pub written-then : {w v old mid tail : List ℕ} {n m : ℕ} → Overwritten w old mid n → Overwritten v (drop n mid) tail m → Overwritten (w ++ v) old (take n mid ++ tail) (n + m)
 written-then {w} {v} {old} {mid} {tail} {n} {m} r s =
     let n′ : length w ≡ n = sym (r .count) in
     let t : take n mid ≡ w = rw (r .bytes, take-at w _ n n′) in
@@ -50,8 +50,8 @@ written-then {w} {v} {old} {mid} {tail} {n} {m} r s =
     }
 
 -- The same where the rest was lent as a part, up to the end, and came back.
-pub written-rest : {w v old mid tail : List ℕ} {n m : ℕ} → Written w old mid n → Written v (midOf n (length mid - n) mid) tail m
-    → Written (w ++ v) old (putMid n (length mid - n) mid tail) (n + m)
+pub written-rest : {w v old mid tail : List ℕ} {n m : ℕ} → Overwritten w old mid n → Overwritten v (midOf n (length mid - n) mid) tail m
+    → Overwritten (w ++ v) old (putMid n (length mid - n) mid tail) (n + m)
 written-rest {v = v} {mid = mid} {tail = tail} {n = n} {m = m} r s =
     let l : length (drop n mid) ≤ length mid - n = omega (arith, length-drop n mid) in
     let t : midOf n (length mid - n) mid ≡ drop n mid = take-all (length mid - n) (drop n mid) l in
@@ -59,13 +59,13 @@ written-rest {v = v} {mid = mid} {tail = tail} {n = n} {m = m} r s =
     rw (d, append-nil) (written-then r (rw t at s))
 
 -- The part lent behind w has room for what old had room for.
-pub rest-room : {w old mid : List ℕ} {n : ℕ} (k : ℕ) → Written w old mid n → length w + k ≤ length old → k ≤ length (midOf n (length mid - n) mid)
+pub rest-room : {w old mid : List ℕ} {n : ℕ} (k : ℕ) → Overwritten w old mid n → length w + k ≤ length old → k ≤ length (midOf n (length mid - n) mid)
 rest-room {w} {old} {mid} {n} k r h =
     simp (length-take, length-drop) (omega (arith, written-length r, r .count))
 
 -- What was written is a part of the lent bytes, and is the text.
-pub written-part : {w old new : List ℕ} {n : ℕ} → Written w old new n → take n new ≡ w
+pub written-part : {w old new : List ℕ} {n : ℕ} → Overwritten w old new n → take n new ≡ w
 written-part {w} {n = n} r = rw (r .bytes, take-at w _ n (sym (r .count)))
 
-pub part-length : {w old new : List ℕ} {n : ℕ} → Written w old new n → n ≡ length (take n new)
+pub part-length : {w old new : List ℕ} {n : ℕ} → Overwritten w old new n → n ≡ length (take n new)
 part-length r = rw (written-part r) (r .count)

@@ -6,8 +6,8 @@ use native.Mathlib.Omega.{arith}
 use borrow.Author.Needs.{needs}
 use lib.ListN.{length}
 use Rattle.functions.proofs.SectionLaws.{image-section}
-use Rattle.functions.proofs.forth.Statement.{statement}
-use Rattle.functions.proofs.forth.Tie as tie
+use Rattle.functions.proofs.image.Statement.{statement}
+use Rattle.functions.proofs.image.Tie as tie
 
 mul-at : tie.Need-mul-at
 mul-at c = search needs
@@ -32,5 +32,5 @@ returns c = λ T e.
     let S = c .before .before .before in
     c .image .ensures ∙ image-section T (S .args .k) (length (S .args .t .now) - 64 * S .args .k) (S .args .w) e (omega (arith, S .pre .0))
 
-pub forth-spec : {M : Type 1} → statement M
-forth-spec = tie.close (tie.spec mul-at mul-image sub-image part-image-start part-image-end image-requires returns)
+pub image-spec : {M : Type 1} → statement M
+image-spec = tie.close (tie.spec mul-at mul-image sub-image part-image-start part-image-end image-requires returns)
