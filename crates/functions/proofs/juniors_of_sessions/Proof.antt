@@ -18,7 +18,7 @@ image-requires-2 c κs = search needs
 
 returns : tie.Need-returns
 returns c = λ T fits e.
-    c .forth2 .ensures T e ∙ ap (imageOf (getD (sections T) 1 [])) (c .before .image .ensures T e) ∙ juniors-of-sessions T (c .before .before .before .args .w)
+    c .image2 .ensures T e ∙ ap (imageOf (getD (sections T) 1 [])) (c .before .image .ensures T e) ∙ juniors-of-sessions T (c .before .before .before .args .w)
 
 pub juniors-of-sessions-spec : {M : Type 1} → statement M
 juniors-of-sessions-spec = tie.close (tie.spec image-requires image-requires-2 returns)

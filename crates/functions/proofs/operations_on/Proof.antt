@@ -26,7 +26,7 @@ returns : tie.Need-returns
 returns c = λ T fits e.
     let S = c .before .before .before .before .before in
     let held = c .before .before .before .preimage .ensures T e (counted-permissions T) in
-    let on = c .before .before .back2 .ensures T e (counted-objects T) in
+    let on = c .before .before .preimage2 .ensures T e (counted-objects T) in
     c .image .ensures T e ∙ ap (imageOf (getD (sections T) 10 [])) (c .before .meet .ensures ∙ ap₂ meetOf held on)
     ∙ operations-on T fits (S .args .w) (S .args .o)
 

@@ -18,11 +18,11 @@ below-is c =
     let S = c .before .before .before .before .before in
     c .image .ensures ∙ ap (imageOf (S .args .rows .now)) (c .before .less .ensures ∙ ap (lessOf (getD (S .args .rows .now) (S .args .r) 0)) (c .before .before .item .ensures))
 
-mul-above : tie.Need-mul-above
-mul-above c = search needs
+mul-dominates : tie.Need-mul-dominates
+mul-dominates c = search needs
 
-shared-slice-read-above : tie.Need-shared-slice-read-above
-shared-slice-read-above c = search needs
+shared-slice-read-dominates : tie.Need-shared-slice-read-dominates
+shared-slice-read-dominates c = search needs
 
 item-requires : tie.Need-item-requires
 item-requires c κs = search needs
@@ -62,8 +62,8 @@ pub rank-spec : {M : Type 1} → statement M
 rank-spec =
     tie.close
     (tie.spec
-    mul-above
-    shared-slice-read-above
+    mul-dominates
+    shared-slice-read-dominates
     item-requires
     less-requires
     image-requires
