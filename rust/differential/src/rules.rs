@@ -54,6 +54,33 @@ pub const PAPER: [&str; 10] = [
     "|(roles*(OE(sessions(OE(OE(CU)))))&OE(CR))|<=1",
 ];
 
+/// Rules of a committee, each of several that share their choices: C1 to C9.
+pub const COMMITTEE: [&str; 9] = [
+    "|(roles*(OE(U))&OE(CR))|<=1^|(permissions*(OE(R))&OE(CP))|<=1\
+     ^(permissions(OE(R))&OE(CP))!={}=>(OE(R)&OE(CR))!={}^|(user(OE(CR))&OE(CU))|<=1\
+     ^|(roles*(OE(S))&OE(CR))|<=1",
+    "|(roles*(OE(U))&OE(CR))|<=1^|(roles*(OE(sessions(OE(U))))&OE(CR))|<=1\
+     ^|(permissions(roles*(OE(U)))&OE(CP))|<=1^|(user(OE(CR))&OE(CU))|<=1\
+     ^|(roles*(OE(OE(CU)))&OE(CR))|<=1",
+    "|(roles*(OE(U))&OE(CR))|<=1^|(permissions*(OE(R))&OE(CP))|<=1^|(user(OE(S))&OE(CU))|<=1",
+    "|(roles*(OE(U))&OE(CR))|<=1^|(roles*(OE(S))&OE(CR))|<=1^|(OE(R)&OE(CR))|<=1\
+     ^|(roles*(OE(P))&OE(CR))|<=1^|(user(OE(CR))&OE(CU))|<=1\
+     ^|(permissions(OE(CR))&OE(CP))|<=1",
+    "|(roles*(OE(U))&OE(CR))|<=1^|(permissions(OE(CR))&OE(CP))|<=1\
+     ^|(permissions*(OE(R))&OE(CP))|<=1^|(user(OE(R))&OE(CU))|<=1^|(user(OE(S))&OE(CU))|<=1\
+     ^|(roles(OE(S))&roles(OE(P)))|<=9^OE(OBJ)@object(OE(P))",
+    "|(roles*(OE(U))&OE(CR))|<=1^|(user(OE(CR))&OE(CU))|<=1^|(user(OE(R))&OE(CU))|<=1\
+     ^|(permissions*(OE(R))&OE(CP))|<=1^|(permissions(roles*(OE(U)))&OE(CP))|<=1\
+     ^|(roles*(OE(S))&OE(CR))|<=1",
+    "|(roles*(OE(sessions(OE(OE(CU)))))&OE(CR))|<=1^|(roles*(OE(U))&OE(CR))|<=1\
+     ^|(permissions*(OE(R))&OE(CP))|<=1",
+    "OE(OE(CR))@roles(OE(U))=>(AO(OE(CR))&roles(OE(U)))={}\
+     ^OE(OE(CP))@permissions(roles*(OE(U)))=>(AO(OE(CP))&permissions(roles*(OE(U))))={}\
+     ^|(user(OE(CR))&OE(CU))|<=1",
+    "|((roles(OE(U))+roles(OE(S)))&OE(CR))|<=1\
+     ^|((permissions(OE(R))+permissions(OE(OE(CR))))&OE(CP))|<=2^|(roles*(OE(U))&OE(CR))|<=1",
+];
+
 /// A rule of some sort: from the grammar, damaged, or at a limit.
 pub fn any(random: &mut Random) -> Vec<u8> {
     let mut text = match random.below(10) {
@@ -223,6 +250,21 @@ impl Grower<'_> {
 
 fn name<T: PartialEq>(names: &[(&'static str, T)], item: T) -> &'static str {
     names.iter().find(|(_, other)| *other == item).unwrap().0
+}
+
+/// A rule of clauses of the papers and of the committee, with 5 to 8 variables.
+pub fn joined(random: &mut Random) -> String {
+    let rules = PAPER.iter().chain(&COMMITTEE);
+    let pool: Vec<&str> = rules.flat_map(|rule| rule.split('^')).collect();
+    loop {
+        let count = random.between(2, 6);
+        let clauses: Vec<&str> = (0..count).map(|_| *random.pick(&pool)).collect();
+        let text = clauses.join("^");
+        let read = reference::rule::read(text.as_bytes());
+        if read.is_ok_and(|rule| rule.variables.len() >= 5) {
+            return text;
+        }
+    }
 }
 
 /// A rule about as long, as deep or with as many choices as is allowed, or a little more.

@@ -33,7 +33,7 @@ pub struct Subject {
 }
 
 /// Tables, rules, formulas and verdicts, in turn.
-pub const SUBJECTS: [Subject; 5] = [
+pub const SUBJECTS: [Subject; 6] = [
     Subject {
         name: "tables",
         count: 70_000,
@@ -75,6 +75,15 @@ pub const SUBJECTS: [Subject; 5] = [
         answers: &[0],
         plain: false,
         ask: |random| judged(random, 64, MANY),
+    },
+    // Five to eight variables, many of whose choices have the same below them.
+    Subject {
+        name: "many variables",
+        count: 2_000,
+        seed: 6,
+        answers: &[0],
+        plain: false,
+        ask: |random| repeated(random, MANY),
     },
 ];
 
@@ -125,17 +134,48 @@ fn judged(random: &mut Random, most: usize, limit: u128) -> Question {
     }
 }
 
-/// A question whose verdict has more than [`LARGE`] full choices, with the fast modules' answer.
+/// A rule with 5 to 8 variables in an admissible order, on an office's tables or others, cut so that
+/// the walk has at most `limit` steps.
+fn repeated(random: &mut Random, limit: u128) -> Question {
+    let text = rules::joined(random).into_bytes();
+    let rule = reference::rule::read(&text).expect("made to be accepted");
+    let order = orders::admissible(random, &rule);
+    let mut most = 64;
+    loop {
+        let tables = match random.below(2) {
+            0 => tables::filled(random, most),
+            _ => tables::office(random, most),
+        };
+        let tables = tables.bytes();
+        let read = reference::tables::read(&tables).expect("made to be accepted");
+        if steps(&read, &rule) <= limit {
+            return Question::judge(tables, text, order);
+        }
+        most = (most - most / 8 - 1).max(1);
+    }
+}
+
+/// A question whose verdict has more than [`LARGE`] full choices, with the fast modules' answer: one
+/// in two with 5 to 8 variables, on an office's tables.
 pub fn large(random: &mut Random) -> (Question, Answer<Vec<u8>>) {
     loop {
+        let many = random.once_in(2);
         let text = match random.below(4) {
+            _ if many => rules::joined(random).into_bytes(),
             0 => random.pick(&rules::PAPER).as_bytes().to_vec(),
             _ => rules::grown(random, 0).into_bytes(),
         };
         let Ok(rule) = reference::rule::read(&text) else {
             continue;
         };
-        let tables = tables::accepted(random, 64).bytes();
+        let tables = match many {
+            true => {
+                let most = random.between(4, 24);
+                tables::office(random, most)
+            }
+            false => tables::accepted(random, 64),
+        };
+        let tables = tables.bytes();
         let read = reference::tables::read(&tables).expect("made to be accepted");
         if !(u128::from(LARGE)..=LARGEST).contains(&steps(&read, &rule)) {
             continue;

@@ -21,7 +21,16 @@ pub struct Plain {
 
 /// Accepted tables with at most `most` items in a section (operations and objects: 8).
 pub fn accepted(random: &mut Random, most: usize) -> Plain {
-    let mut size = |limit: usize| random.between(0, limit);
+    sized(random, 0, most)
+}
+
+/// Accepted tables with 1 to `most` items in a section (operations and objects: 8).
+pub fn filled(random: &mut Random, most: usize) -> Plain {
+    sized(random, 1, most)
+}
+
+fn sized(random: &mut Random, least: usize, most: usize) -> Plain {
+    let mut size = |limit: usize| random.between(least, limit);
     let (roles, users, sessions) = (size(most), size(most), size(most));
     let (operations, objects) = (size(most.min(8)), size(most.min(8)));
     let (cr, cu, cp) = (size(most), size(most), size(most));
@@ -34,6 +43,49 @@ pub fn accepted(random: &mut Random, most: usize) -> Plain {
 /// Accepted tables with every section as long as it may be.
 pub fn full(random: &mut Random) -> Plain {
     with_sizes(random, [64, 64, 64, 8, 8, 64, 64, 64])
+}
+
+/// Tables of an office with at most `most` items in a section: eight departments of as many ranks,
+/// users with one role of their department, each permission held by one role, and pairs across
+/// departments in conflict. Few users differ, so that the papers' rules hold of almost every choice;
+/// one user has roles of two departments.
+pub fn office(random: &mut Random, most: usize) -> Plain {
+    let ranks = (most / 8).max(1);
+    let side = most.min(8);
+    let senior =
+        |role: usize| (role - role % ranks..=role).fold(0, |row, junior| row | 1 << junior);
+    let duty = |department: usize| 1 << (department * ranks + ranks / 2);
+    let roles = u64::MAX.checked_shr(64 - most as u32).unwrap_or(0);
+    let mut users: Vec<u64> = (0..most).map(|user| duty(user % 6) & roles).collect();
+    if most > 0 {
+        let breaker = random.below(most);
+        users[breaker] |= duty(breaker % 6 + 1) & roles;
+    }
+    Plain {
+        roles: (0..most).map(senior).collect(),
+        sessions: (0..most).map(|user| (user as u8, users[user])).collect(),
+        users,
+        operations: side,
+        objects: side,
+        permissions: (0..side * side).map(|number| 1 << number & roles).collect(),
+        cr: pairs(random, most, most),
+        cu: pairs(random, most, most),
+        cp: pairs(random, most, side * side),
+    }
+}
+
+/// At most `count` pairs of items that stand in different eighths.
+fn pairs(random: &mut Random, count: usize, items: usize) -> Vec<u64> {
+    let mut words = Vec::new();
+    for _ in 0..8 * count {
+        let (one, other) = (random.below(items), random.below(items));
+        let word = 1 << one | 1 << other;
+        let apart = one * 8 / items != other * 8 / items;
+        if apart && words.len() < count && !words.contains(&word) {
+            words.push(word);
+        }
+    }
+    words
 }
 
 fn with_sizes(random: &mut Random, sizes: [usize; 8]) -> Plain {

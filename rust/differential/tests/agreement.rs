@@ -12,11 +12,11 @@ use rcl2000::{BuildError, Unencodable, Verdict};
 /// How many large verdicts are compared.
 const LARGE_ONES: u64 = 8;
 
-/// The gate asks 312,000 questions.
+/// The gate asks 314,000 questions.
 #[test]
 fn the_gate_asks_enough() {
     let asked: u64 = SUBJECTS.iter().map(|subject| subject.count).sum();
-    assert_eq!(asked, 312_000);
+    assert_eq!(asked, 314_000);
 }
 
 /// Asks a subject's questions, which must meet each of its answers.
@@ -52,6 +52,11 @@ fn verdicts_agree() {
 #[test]
 fn wide_verdicts_agree() {
     agree("wide verdicts");
+}
+
+#[test]
+fn verdicts_on_many_variables_agree() {
+    agree("many variables");
 }
 
 /// Verdicts with more than a million full choices, by the fast modules.
