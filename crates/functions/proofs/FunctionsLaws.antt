@@ -17,9 +17,9 @@ use Rattle.tables.specs.Tables.{Tables}
 use Rattle.tables.specs.Accepted.{Fits}
 use Rattle.tables.specs.Flat.{counts, objectRows, operationRows, sections}
 use Rattle.tables.proofs.FlatLaws.{map-at, length-tabulate, tabulate-at}
-use Rattle.functions.specs.Functions.{sessionOf, isPermission, userOfSessions, userOfRoles, rolesOfUsers, rolesOfSessions, rolesOfPermissions}
-use Rattle.functions.specs.Functions.{juniorsOfUsers, juniorsOfSessions, seniorsOfPermissions, sessionsOfUsers}
-use Rattle.functions.specs.Functions.{permissionsOfRoles, permissionsOfJuniors, objectsOfPermissions, operationsOn}
+use Rattle.tables.specs.Functions.{sessionOf, isPermission, userOfSessions, userOfRoles, rolesOfUsers, rolesOfSessions, rolesOfPermissions}
+use Rattle.tables.specs.Functions.{juniorsOfUsers, juniorsOfSessions, seniorsOfPermissions, sessionsOfUsers}
+use Rattle.tables.specs.Functions.{permissionsOfRoles, permissionsOfJuniors, objectsOfPermissions, operationsOn}
 
 -- ---- the rows of one item
 

@@ -11,10 +11,10 @@ use Rattle.words.specs.Words.{has, anyTo, itemOf, joinOf}
 use Rattle.words.proofs.WordsLaws.{word-ext, word-in, both, and-true, and-both, any-here, any-witness, any-ext, has-item, has-join}
 use Rattle.tables.specs.Tables.{Tables}
 use Rattle.tables.specs.Accepted.{Sound}
-use Rattle.functions.specs.Functions.{dominates, assigned, active, heldBy, sessionOf, isPermission, those, someIn}
-use Rattle.functions.specs.Functions.{userOfSessions, userOfRoles, rolesOfUsers, rolesOfSessions, rolesOfPermissions}
-use Rattle.functions.specs.Functions.{juniorsOfUsers, juniorsOfSessions, seniorsOfPermissions, sessionsOfUsers}
-use Rattle.functions.specs.Functions.{permissionsOfRoles, permissionsOfJuniors, objectsOfPermissions, operationsOn}
+use Rattle.tables.specs.Functions.{dominates, assigned, active, heldBy, sessionOf, isPermission, those, someIn}
+use Rattle.tables.specs.Functions.{userOfSessions, userOfRoles, rolesOfUsers, rolesOfSessions, rolesOfPermissions}
+use Rattle.tables.specs.Functions.{juniorsOfUsers, juniorsOfSessions, seniorsOfPermissions, sessionsOfUsers}
+use Rattle.tables.specs.Functions.{permissionsOfRoles, permissionsOfJuniors, objectsOfPermissions, operationsOn}
 use Rattle.functions.specs.Union.{Unites}
 use Rattle.functions.proofs.FunctionsLaws.{eqb-comm}
 
@@ -97,15 +97,15 @@ module _ (T : Tables) where
 
   pub juniors-of-users : Unites (juniorsOfUsers T)
   unfolding juniorsOfUsers
-  juniors-of-users = unites (λ q u. anyTo 64 (λ r. assigned T u r && dominates T r q))
+  juniors-of-users = unites (λ q u. anyTo 64 (λ r. assigned T u r && dominates (T .roleRows) r q))
 
   pub juniors-of-sessions : Unites (juniorsOfSessions T)
   unfolding juniorsOfSessions
-  juniors-of-sessions = unites (λ q s. anyTo 64 (λ r. active T s r && dominates T r q))
+  juniors-of-sessions = unites (λ q s. anyTo 64 (λ r. active T s r && dominates (T .roleRows) r q))
 
   pub seniors-of-permissions : Unites (seniorsOfPermissions T)
   unfolding seniorsOfPermissions
-  seniors-of-permissions = unites (λ q p. anyTo 64 (λ r. heldBy T p r && dominates T q r))
+  seniors-of-permissions = unites (λ q p. anyTo 64 (λ r. heldBy T p r && dominates (T .roleRows) q r))
 
   pub sessions-of-users : Unites (sessionsOfUsers T)
   unfolding sessionsOfUsers
@@ -117,7 +117,7 @@ module _ (T : Tables) where
 
   pub permissions-of-juniors : Unites (permissionsOfJuniors T)
   unfolding permissionsOfJuniors
-  permissions-of-juniors = unites (λ p r. anyTo 64 (λ q. dominates T r q && heldBy T p q))
+  permissions-of-juniors = unites (λ p r. anyTo 64 (λ q. dominates (T .roleRows) r q && heldBy T p q))
 
   pub objects-of-permissions : Unites (objectsOfPermissions T)
   unfolding objectsOfPermissions

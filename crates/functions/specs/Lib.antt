@@ -1,3 +1,2 @@
--- The functions of Figure 2, and what "the union over its members" is.
-pub mod Functions
+-- What "the union over its members" is; the functions themselves are defined beside the tables.
 pub mod Union

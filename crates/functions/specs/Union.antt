@@ -3,7 +3,7 @@
 use mathlib.Core.Path.{_≡_}
 use Prim.Native.Nat.{ℕ}
 use Rattle.words.specs.Words.{has, itemOf, joinOf}
-use Rattle.functions.specs.Functions.{those, someIn}
+use Rattle.tables.specs.Functions.{those, someIn}
 
 -- What f gives of w is what it gives of w's members one by one, and so of a union the union.
 pub record Unites (f : ℕ → ℕ) : Type 0 where

@@ -8,9 +8,9 @@ ghost use Rattle.words.specs.Words.{imageOf, preimageOf};
 ghost use Rattle.tables.specs.Tables.{Tables};
 ghost use Rattle.tables.specs.Accepted.{Fits};
 ghost use Rattle.tables.specs.Flat.{counts, sections, flat};
-ghost use Rattle.functions.specs.Functions.{userOfSessions, userOfRoles, rolesOfUsers, rolesOfSessions, rolesOfPermissions};
-ghost use Rattle.functions.specs.Functions.{juniorsOfUsers, juniorsOfSessions, seniorsOfPermissions, sessionsOfUsers};
-ghost use Rattle.functions.specs.Functions.{permissionsOfRoles, permissionsOfJuniors, objectsOfPermissions, operationsOn};
+ghost use Rattle.tables.specs.Functions.{userOfSessions, userOfRoles, rolesOfUsers, rolesOfSessions, rolesOfPermissions};
+ghost use Rattle.tables.specs.Functions.{juniorsOfUsers, juniorsOfSessions, seniorsOfPermissions, sessionsOfUsers};
+ghost use Rattle.tables.specs.Functions.{permissionsOfRoles, permissionsOfJuniors, objectsOfPermissions, operationsOn};
 
 // Sections: domination, UA, sessions' users, sessions' roles, PA, permissions' objects and operations.
 const DOM: usize = 1;

@@ -12,7 +12,8 @@ use Rattle.words.specs.Words.{has, itemOf, lessOf, imageOf, anyTo}
 use Rattle.words.proofs.WordsLaws.{word-none, has-zero, has-out, has-in, has-less, has-item, both, and-true, and-both, any-here, any-witness}
 use Rattle.words.proofs.RelationLaws.{has-image}
 use Rattle.tables.specs.Tables.{Tables}
-use Rattle.tables.specs.Checks.{allTo, implies, dominates, reflexive, transitive, antisymmetric, ranked, inReach}
+use Rattle.tables.specs.Functions.{dominates}
+use Rattle.tables.specs.Checks.{allTo, implies, reflexive, transitive, antisymmetric, ranked, inReach}
 use Rattle.tables.specs.Accepted.{Fits, Below, Bounded}
 use Rattle.tables.specs.code.Reads.{belowAt, rankAt, reaching}
 use Rattle.tables.proofs.FlatLaws.{map-at}

@@ -16,7 +16,7 @@ use Rattle.tables.specs.Tables.{Tables}
 use Rattle.tables.specs.Bytes.{Bytes, AreBytes, wordFrom, lowestFirst}
 use Rattle.tables.specs.Accepted.{Below, Sound, Passes}
 use Rattle.tables.specs.Reading.{Taken, Reader, stop, took, next, refuse, front, byte, count, wordWithin, wordRow, markedRow, sessionRow}
-use Rattle.tables.specs.Reading.{Session, rows, section, permissions, Rights, rights, Collections, collections, sections, nothingLeft, whole}
+use Rattle.tables.specs.Reading.{Session, rows, section, permissions, Rights, rights, Collections, collections, sections, nothingLeft, settle, whole}
 use Rattle.tables.specs.Reading.{assembled, taken, tablesOf}
 use Rattle.tables.specs.Encode.{wordBytes, markedBytes, sessionBytes, joined, counted, sessionsOf, sectionBytes, encode}
 use Rattle.tables.proofs.BytesLaws.{lowest-length, word-lowest, lowest-word, bytes-behind, bytes-before}
@@ -395,8 +395,8 @@ sections-encodes s h {T} e =
 
 -- "Tables are accepted when no check on them refuses": tables that pass are what is read from their bytes.
 pub passes-accepted : (T : Tables) → Passes T → tablesOf (encode T) ≡ taken T
-unfolding tablesOf whole next nothingLeft refuse
-passes-accepted T p = rw (sections-decodes T (p .sound), p .rank, p .reach, p .crs, p .cus, p .cps)
+unfolding tablesOf whole next nothingLeft refuse settle
+passes-accepted T p = rw (sections-decodes T (p .sound), p .late)
 
 -- Accepted bytes are those of their tables, and of no others.
 pub accepted-bytes : (b : Bytes) → AreBytes b → {T : Tables} → tablesOf b ≡ taken T → b ≡ encode T

@@ -1,7 +1,7 @@
 -- What reading leaves: accepted tables keep document 01's limits, and no word has a bit at or above its count.
 -- Assumes nothing.
 use mathlib.Core.Path.{_≡_, refl, sym, ap, _∙_}
-use mathlib.Core.Bool.{Bool, true, false, _&&_, not}
+use mathlib.Core.Bool.{Bool, true, false, not}
 use mathlib.Core.List.{List, [], _∷_, map}
 use Prim.Native.Nat.{ℕ, zero, suc, _*_, _^_, _≤_, _<_}
 use native.Mathlib.Omega.{arith}
@@ -11,14 +11,15 @@ use lib.Pow.{pow-pos}
 use borrow.Author.Tests.{ltb-false, leb-false, eqb-true, not-false}
 use Rattle.answers.specs.declared.Refusal.{Refusal}
 use Rattle.answers.specs.declared.Refusal.the-variants.{NoSuchItem}
-use Rattle.words.proofs.WordsLaws.{and-true}
 use Rattle.tables.specs.Tables.{Tables}
-use Rattle.tables.specs.Checks.{ranked, inReach, apart}
+use Rattle.tables.specs.declared.Outcome.{Outcome}
+use Rattle.tables.specs.declared.Outcome.the-variants.{Refused, Accepted}
+use Rattle.tables.specs.Checks.{late}
 pub use Rattle.tables.specs.Accepted.{Sound}
 use Rattle.tables.specs.Accepted.{Below, Passes}
 use Rattle.tables.specs.Reading.{Bytes, Taken, Reader, stop, took, next, refuse, front, byte, count, wordFrom, wordWithin}
 use Rattle.tables.specs.Reading.{wordRow, markedRow, sessionRow, Session, rows, section, permissions, Rights, rights, Collections, collections}
-use Rattle.tables.specs.Reading.{sections, nothingLeft, whole, taken, readingOf, tablesOf, assembled}
+use Rattle.tables.specs.Reading.{sections, nothingLeft, settle, whole, taken, readingOf, tablesOf, assembled}
 
 -- Where something was taken, all that was read on the way was.
 module _ {A B : Type 0} {C : Type 0} where
@@ -34,6 +35,12 @@ module _ {B : Type 0} {C : Type 0} where
   unfolding next refuse
   refuse-case true e s f q k = let z : _≡_ {A = ℕ} 0 1 = cc in absurd (omega arith)
   refuse-case false e s f q k = k refl q
+
+  settle-case : (o : Outcome) (s : Bytes) (f : Bytes → Taken B) {b : B} {t : Bytes} → next (settle o s) (λ _. f) ≡ took b t
+      → (o ≡ Accepted → f s ≡ took b t → C) → C
+  unfolding next settle
+  settle-case (Refused e) s f q k = let z : _≡_ {A = ℕ} 0 1 = cc in absurd (omega arith)
+  settle-case Accepted s f q k = k refl q
 
 pub count-few : (limit : ℕ) (s : Bytes) {n : ℕ} {t : Bytes} → count limit s ≡ took n t → n ≤ limit
 unfolding count
@@ -247,27 +254,11 @@ accepted-read b {T} q = go (whole b) refl q
     go (took U u) p k =
         next-case (sections b) _ p
         λ S v e h. refuse-case (ltb 0 (length v)) _ v _ h
-        λ c₀ h₀. refuse-case (not (ranked (S .roleRows))) _ v _ h₀
-        λ c₁ h₁. refuse-case (not (inReach S)) _ v _ h₁
-        λ c₂ h₂. refuse-case (not (apart (S .cr) && (apart (S .cu) && apart (S .cp)))) _ v _ h₂
-        λ c₃ h₃.
+        λ c₀ h₀. settle-case (late S) v _ h₀
+        λ c₁ h₁.
         let d : S ≡ T = cc in
-        let (r, up) = and-true (apart (S .cr)) (apart (S .cu) && apart (S .cp)) (not-false _ c₃) in
-        let (u, p) = and-true (apart (S .cu)) (apart (S .cp)) up in
         let x : Read b S =
-        record {
-          rest = v;
-          reads = e;
-          none = ltb-false 0 (length v) c₀;
-          passes = record {
-            sound = sections-sound b e;
-            rank = not-false (ranked (S .roleRows)) c₁;
-            reach = not-false (inReach S) c₂;
-            crs = r;
-            cus = u;
-            cps = p;
-          };
-        } in
+        record { rest = v; reads = e; none = ltb-false 0 (length v) c₀; passes = record { sound = sections-sound b e; late = c₁ } } in
         rw d at x
 
 -- What accepted tables are.

@@ -11,7 +11,8 @@ use borrow.Author.Tests.{eqb-true, eq-eqb, ne-eqb}
 use Rattle.words.specs.Words.{has, itemOf}
 use Rattle.words.proofs.WordsLaws.{has-zero, has-item, item-lt, and-both}
 use Rattle.tables.specs.Tables.{Tables}
-use Rattle.tables.specs.Checks.{allTo, implies, dominates, reflexive, transitive, antisymmetric, ranked, inReach, apart}
+use Rattle.tables.specs.Functions.{dominates}
+use Rattle.tables.specs.Checks.{allTo, implies, reflexive, transitive, antisymmetric, ranked, inReach, apart, lateChecks, firstFailing}
 use Rattle.tables.specs.Bytes.{Bytes, AreBytes}
 use Rattle.tables.specs.Accepted.{Below, Passes}
 use Rattle.tables.specs.Reading.{taken, tablesOf}
@@ -92,12 +93,14 @@ unfolding Below
 sixty-four n f m e h = rw e (tabulate-less (2 ^ 64) n f (omega arith) h)
 
 full-passes : Passes full
-unfolding full
+unfolding full lateChecks firstFailing
 full-passes =
     let la : length alone ≡ 64 = length-tabulate 64 itemOf in
     let lz : length zeros ≡ 64 = length-tabulate 64 (λ _. 0) in
     let lf : length first ≡ 64 = length-tabulate 64 (λ i. i) in
     let none : Below (length alone) zeros = sixty-four 64 (λ _. 0) (length alone) la (λ i l. omega arith) in
+    let rank : ranked alone ≡ true = single-ranked alone (omega arith) (λ r l. tabulate-at 64 itemOf r (omega arith)) in
+    let reach : inReach full ≡ true = idle-reach full (λ s l. tabulate-at 64 (λ _. 0) s (omega arith)) in
     let apart : apart first ≡ true = differing-apart first (λ i l. tabulate-at 64 (λ i. i) i (omega arith)) in
     record {
       sound = record {
@@ -125,11 +128,7 @@ full-passes =
           numbers = λ i l. tabulate-less (length zeros) 64 (λ _. 0) (omega arith) (λ j k. omega arith) i;
         };
       };
-      rank = single-ranked alone (omega arith) (λ r l. tabulate-at 64 itemOf r (omega arith));
-      reach = idle-reach full (λ s l. tabulate-at 64 (λ _. 0) s (omega arith));
-      crs = apart;
-      cus = apart;
-      cps = apart;
+      late = rw (rank, reach, apart);
     }
 
 -- "The largest tables take 3,785 bytes": that many bytes are accepted.

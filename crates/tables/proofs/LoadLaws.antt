@@ -1,28 +1,31 @@
 -- Laws of the whole reading: what follows the sections, in the order 10, 7, 8, 9.
 -- Assumes nothing.
 use mathlib.Core.Path.{_≡_, refl, sym, ap, _∙_}
-use mathlib.Core.Bool.{Bool, true, false, _&&_}
-use mathlib.Core.List.{List}
+use mathlib.Core.Bool.{Bool, true, false}
+use mathlib.Core.List.{List, [], _∷_}
 use Prim.Native.Nat.{ℕ, _≤_, _<_}
 use native.Mathlib.Omega.{arith}
 use lib.Dec.{ltb}
 use lib.ListN.{length, drop, length-drop, replicate}
 use borrow.Author.Tests.{lt-ltb, le-ltb}
 use Rattle.answers.specs.declared.Refusal.{Refusal}
-use Rattle.answers.specs.declared.Refusal.the-variants.{Rank, Overreach, Twin, LeftOver}
+use Rattle.answers.specs.declared.Refusal.the-variants.{LeftOver}
 use Rattle.answers.specs.Refusal.{numberOf}
 use Rattle.tables.specs.declared.Outcome.{Outcome}
 use Rattle.tables.specs.declared.Outcome.the-variants.{Refused, Accepted}
 use Rattle.tables.specs.Tables.{Tables}
-use Rattle.tables.specs.Checks.{ranked, inReach, apart}
-use Rattle.tables.specs.Reading.{Bytes, stop, took, next, refuse, sections, nothingLeft, whole, rejected, taken, tablesOf, wordsOf, Reading}
+use Rattle.tables.specs.Checks.{Check, lateChecks, firstFailing, late}
+use Rattle.tables.specs.Reading.{Bytes, stop, took, next, refuse, sections, nothingLeft, settle, whole, rejected, taken, tablesOf, wordsOf, Reading}
 use Rattle.tables.specs.Reading.{outcomeNumber, readingNumber}
 use Rattle.tables.specs.Flat.{flat}
-use Rattle.tables.specs.code.Reads.{readingOutcome, lateOf, Filled}
+use Rattle.tables.specs.code.Reads.{readingOutcome, Filled}
 use Rattle.answers.proofs.AnswerLaws.{number-some, same-number}
 use Rattle.tables.proofs.ReadLaws.{Got}
-use Rattle.tables.proofs.FitsLaws.{Sound, sections-sound}
+use Rattle.tables.proofs.FitsLaws.{Sound, Every, sections-sound}
 use Rattle.tables.proofs.LaidLaws.{filled-flat}
+
+pub never : {A : Type 0} {e : Refusal} → Refused e ≡ Accepted → A
+never q = let z : _≡_ {A = ℕ} 0 1 = cc in absurd (omega arith)
 
 pub load-stop : (b : Bytes) {e : Refusal} → sections b ≡ stop e → tablesOf b ≡ rejected e
 unfolding tablesOf whole next
@@ -33,21 +36,27 @@ unfolding tablesOf whole next nothingLeft refuse
 left-over b {T} {t} q l = rw (q, lt-ltb 0 (length t) l)
 
 -- Once the sections are read, a refusal is one of 7 to 10.
-pub late-refusal : (b : Bytes) {T : Tables} {t : Bytes} {e : Refusal} → sections b ≡ took T t → tablesOf b ≡ rejected e → 7 ≤ numberOf e
-unfolding tablesOf whole next nothingLeft refuse
-late-refusal b {T} {t} {e} q h =
-    go (ltb 0 (length t)) (ranked (T .roleRows)) (inReach T) (apart (T .cr) && (apart (T .cu) && apart (T .cp))) refl refl refl refl
+failing-late : (cs : List Check) → Every (λ c. 7 ≤ numberOf (c .refusal)) cs → {e : Refusal} → firstFailing cs ≡ Refused e → 7 ≤ numberOf e
+unfolding firstFailing
+failing-late [] h q = never (sym q)
+failing-late (c ∷ cs) h {e} q = go (c .holds) refl (λ k. failing-late cs (h .1) k)
   where
-    late : (f : Refusal) → 7 ≤ numberOf f → f ≡ e → 7 ≤ numberOf e
-    late f l d = rw (← d) l
+    go : (b : Bool) → c .holds ≡ b → (firstFailing cs ≡ Refused e → 7 ≤ numberOf e) → 7 ≤ numberOf e
+    go true k on = on (rw k at q)
+    go false k on = let d : c .refusal ≡ e = cc (rw k at q) in rw (← d) (h .0)
 
-    go : (w x y z : Bool) → ltb 0 (length t) ≡ w → ranked (T .roleRows) ≡ x → inReach T ≡ y → (apart (T .cr) && (apart (T .cu) && apart (T .cp))) ≡ z
-        → 7 ≤ numberOf e
-    go true x y z e₀ e₁ e₂ e₃ = late LeftOver (omega arith) (cc (rw (q, e₀) at h))
-    go false false y z e₀ e₁ e₂ e₃ = late Rank (omega arith) (cc (rw (q, e₀, e₁) at h))
-    go false true false z e₀ e₁ e₂ e₃ = late Overreach (omega arith) (cc (rw (q, e₀, e₁, e₂) at h))
-    go false true true false e₀ e₁ e₂ e₃ = late Twin (omega arith) (cc (rw (q, e₀, e₁, e₂, e₃) at h))
-    go false true true true e₀ e₁ e₂ e₃ = let o : _≡_ {A = ℕ} 0 1 = cc (rw (q, e₀, e₁, e₂, e₃) at h) in absurd (omega arith)
+late-refusals : (T : Tables) → Every (λ c. 7 ≤ numberOf (c .refusal)) (lateChecks T)
+unfolding lateChecks
+late-refusals T = (omega arith, (omega arith, (omega arith, tt)))
+
+pub late-refusal : (b : Bytes) {T : Tables} {t : Bytes} {e : Refusal} → sections b ≡ took T t → tablesOf b ≡ rejected e → 7 ≤ numberOf e
+unfolding tablesOf whole next nothingLeft refuse settle
+late-refusal b {T} {t} {e} q h = go (ltb 0 (length t)) (late T) refl refl
+  where
+    go : (w : Bool) (o : Outcome) → ltb 0 (length t) ≡ w → late T ≡ o → 7 ≤ numberOf e
+    go true o e₀ e₁ = let d : LeftOver ≡ e = cc (rw (q, e₀) at h) in rw (← d) (omega arith)
+    go false (Refused f) e₀ e₁ = let d : f ≡ e = cc (rw (q, e₀, e₁) at h) in rw d at (failing-late (lateChecks T) (late-refusals T) e₁)
+    go false Accepted e₀ e₁ = let o : _≡_ {A = ℕ} 0 1 = cc (rw (q, e₀, e₁) at h) in absurd (omega arith)
 
 module _ (b : Bytes) {T : Tables} {n : ℕ} (q : sections b ≡ took T (drop n b)) where
   pub load-left : n < length b → tablesOf b ≡ rejected LeftOver
@@ -57,27 +66,17 @@ module _ (b : Bytes) {T : Tables} {n : ℕ} (q : sections b ≡ took T (drop n b
     none : ltb 0 (length (drop n b)) ≡ false
     none = le-ltb 0 (length (drop n b)) (rw length-drop (omega arith))
 
-    pub late-outcome : lateOf T ≡ readingOutcome (tablesOf b)
-    unfolding tablesOf whole next nothingLeft refuse lateOf
-    late-outcome = go (ranked (T .roleRows)) (inReach T) (apart (T .cr) && (apart (T .cu) && apart (T .cp))) refl refl refl
-      where
-        go : (x y z : Bool) → ranked (T .roleRows) ≡ x → inReach T ≡ y → (apart (T .cr) && (apart (T .cu) && apart (T .cp))) ≡ z
-            → lateOf T ≡ readingOutcome (tablesOf b)
-        go false y z e₁ e₂ e₃ = rw (q, none, e₁)
-        go true false z e₁ e₂ e₃ = rw (q, none, e₁, e₂)
-        go true true false e₁ e₂ e₃ = rw (q, none, e₁, e₂, e₃)
-        go true true true e₁ e₂ e₃ = rw (q, none, e₁, e₂, e₃)
+    pub late-taken : late T ≡ Accepted → tablesOf b ≡ taken T
+    unfolding tablesOf whole next nothingLeft refuse settle
+    late-taken h = rw (q, none, h)
 
-    pub late-taken : lateOf T ≡ Accepted → tablesOf b ≡ taken T
-    unfolding tablesOf whole next nothingLeft refuse lateOf
-    late-taken h = go (ranked (T .roleRows)) (inReach T) (apart (T .cr) && (apart (T .cu) && apart (T .cp))) refl refl refl
+    pub late-outcome : late T ≡ readingOutcome (tablesOf b)
+    unfolding tablesOf whole next nothingLeft refuse settle
+    late-outcome = go (late T) refl
       where
-        go : (x y z : Bool) → ranked (T .roleRows) ≡ x → inReach T ≡ y → (apart (T .cr) && (apart (T .cu) && apart (T .cp))) ≡ z
-            → tablesOf b ≡ taken T
-        go false y z e₁ e₂ e₃ = let w : _≡_ {A = ℕ} 0 1 = cc (rw e₁ at h) in absurd (omega arith)
-        go true false z e₁ e₂ e₃ = let w : _≡_ {A = ℕ} 0 1 = cc (rw (e₁, e₂) at h) in absurd (omega arith)
-        go true true false e₁ e₂ e₃ = let w : _≡_ {A = ℕ} 0 1 = cc (rw (e₁, e₂, e₃) at h) in absurd (omega arith)
-        go true true true e₁ e₂ e₃ = rw (q, none, e₁, e₂, e₃)
+        go : (o : Outcome) → late T ≡ o → late T ≡ readingOutcome (tablesOf b)
+        go (Refused f) e = rw (q, none, e)
+        go Accepted e = rw (q, none, e)
 
 -- What reading the sections into empty words gives.
 pub record Whole (b : Bytes) (new : List ℕ) (n : ℕ) : Type 0 where
@@ -90,9 +89,6 @@ pub whole-of : {b : Bytes} {old new : List ℕ} {v n : ℕ} → old ≡ replicat
 whole-of {b} e g =
     let x = sections-sound b (g .reads) in
     record { tables = g .value; reads = g .reads; sound = x; flatly = filled-flat (x .fits) (rw e at (g .holds)) }
-
-pub never : {A : Type 0} {e : Refusal} → Refused e ≡ Accepted → A
-never q = let z : _≡_ {A = ℕ} 0 1 = cc in absurd (omega arith)
 
 -- Refused tables have no words.
 pub refused-words : (r : Reading) {o : Outcome} {e : Refusal} → o ≡ readingOutcome r → o ≡ Refused e → replicate 704 0 ≡ wordsOf r

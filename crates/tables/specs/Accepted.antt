@@ -1,12 +1,12 @@
 -- Document 01, "Tables" and "Turned back" 2 to 9: what accepted tables are.
 -- Assumes nothing.
 use mathlib.Core.Path.{_≡_}
-use mathlib.Core.Bool.{true}
 use mathlib.Core.List.{List}
 use Prim.Native.Nat.{ℕ, _*_, _^_, _≤_, _<_}
 use lib.ListN.{length, getD}
 use Rattle.tables.specs.Tables.{Tables}
-use Rattle.tables.specs.Checks.{ranked, inReach, apart}
+use Rattle.tables.specs.declared.Outcome.the-variants.{Accepted}
+use Rattle.tables.specs.Checks.{late}
 
 -- The counts: "Roles, at most 64", "Users, at most 64", "Sessions, at most 64", "Operations, at most 8", "Objects, at most 8",
 -- "Permissions, exactly operations × objects", CR, CU, CP: "At most 64 words each".
@@ -46,8 +46,4 @@ pub record Sound (T : Tables) : Type 0 where
 -- "Tables are accepted when no check on them refuses": those, and "After the last section" rank, overreach and twin.
 pub record Passes (T : Tables) : Type 0 where
   pub sound : Sound T
-  pub rank : ranked (T .roleRows) ≡ true
-  pub reach : inReach T ≡ true
-  pub crs : apart (T .cr) ≡ true
-  pub cus : apart (T .cu) ≡ true
-  pub cps : apart (T .cp) ≡ true
+  pub late : late T ≡ Accepted

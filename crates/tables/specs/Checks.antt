@@ -1,12 +1,16 @@
 -- Document 01, "Turned back" 7 to 9: what is asked of the tables as a whole, once all sections are read.
 -- Assumes nothing.
-use mathlib.Core.Bool.{Bool, true, _&&_, _||_, not}
-use mathlib.Core.List.{List}
+use mathlib.Core.Bool.{Bool, true, _&&_, _||_, not, cond}
+use mathlib.Core.List.{List, [], _∷_}
 use Prim.Native.Nat.{ℕ, zero, suc}
 use lib.Dec.{eqb}
 use lib.ListN.{length, getD}
-use Rattle.words.specs.Words.{has}
+use Rattle.answers.specs.declared.Refusal.{Refusal}
+use Rattle.answers.specs.declared.Refusal.the-variants.{Rank, Overreach, Twin}
+use Rattle.tables.specs.declared.Outcome.{Outcome}
+use Rattle.tables.specs.declared.Outcome.the-variants.{Refused, Accepted}
 use Rattle.tables.specs.Tables.{Tables}
+use Rattle.tables.specs.Functions.{dominates, assigned, active}
 
 -- f holds of every number below n.
 unfoldable pub allTo : ℕ → (ℕ → Bool) → Bool
@@ -15,10 +19,6 @@ allTo (suc n) f = allTo n f && f n
 
 abbrev pub implies : Bool → Bool → Bool
 implies a b = not a || b
-
--- Role r dominates role q by the role rows.
-abbrev pub dominates : List ℕ → ℕ → ℕ → Bool
-dominates rows r q = has (getD rows r 0) q
 
 -- 7, rank: "role rows not reflexive, transitive, antisymmetric".
 unfoldable pub reflexive : List ℕ → Bool
@@ -41,8 +41,30 @@ unfoldable pub inReach : Tables → Bool
 inReach T =
     allTo (length (T .sessionRows))
     (λ s. allTo (length (T .roleRows))
-    (λ r. implies (has (getD (T .sessionRows) s 0) r) (has (getD (T .userRows) (getD (T .sessionUsers) s 0) 0) r)))
+    (λ r. implies (active T s r) (assigned T (getD (T .sessionUsers) s 0) r)))
 
 -- 9, twin: "equal words in one collection".
 unfoldable pub apart : List ℕ → Bool
 apart ws = allTo (length ws) (λ i. allTo i (λ j. not (eqb (getD ws j 0) (getD ws i 0))))
+
+abbrev pub noTwin : Tables → Bool
+noTwin T = apart (T .cr) && (apart (T .cu) && apart (T .cp))
+
+-- "After the last section come 10, 7, 8, 9 in that order": the checks of the whole, each with its refusal; the first that fails is the answer.
+pub record Check : Type 0 where
+  pub refusal : Refusal
+  pub holds : Bool
+
+unfoldable pub lateChecks : Tables → List Check
+lateChecks T =
+    record { refusal = Rank; holds = ranked (T .roleRows) }
+    ∷ record { refusal = Overreach; holds = inReach T }
+    ∷ record { refusal = Twin; holds = noTwin T }
+    ∷ []
+
+unfoldable pub firstFailing : List Check → Outcome
+firstFailing [] = Accepted
+firstFailing (c ∷ cs) = cond (c .holds) (firstFailing cs) (Refused (c .refusal))
+
+abbrev pub late : Tables → Outcome
+late T = firstFailing (lateChecks T)

@@ -1,6 +1,7 @@
--- The tables: their record, the checks on the whole, what accepted tables are, reading them from bytes, their bytes, the flat words that hold
--- them, and what the readers in code give.
+-- The tables: their record, the functions of Figure 2 on them, the checks on the whole, what accepted tables are, reading them from bytes,
+-- their bytes, the flat words that hold them, and what the readers in code give.
 pub mod Tables
+pub mod Functions
 pub mod Checks
 pub mod Accepted
 pub mod Bytes

@@ -1,18 +1,17 @@
 -- Document 01, "Tables" and "Turned back" 1 to 10: from bytes to a refusal or the tables, front to back.
 -- Assumes nothing.
-use mathlib.Core.Bool.{Bool, true, false, _&&_, not, cond}
+use mathlib.Core.Bool.{Bool, true, false, not, cond}
 use mathlib.Core.List.{List, [], _∷_, map}
 use Prim.Native.Nat.{ℕ, zero, suc, _*_, _^_}
 use lib.Dec.{eqb, ltb, leb}
 use lib.ListN.{length, getD, take, drop, replicate}
 use Rattle.answers.specs.Refusal.{numberOf}
 use Rattle.answers.specs.declared.Refusal.{Refusal}
-use Rattle.answers.specs.declared.Refusal.the-variants.{CutShort, Overfull, NotEntered, BadMark, NoSuchItem, Miscounted}
-use Rattle.answers.specs.declared.Refusal.the-variants.{Rank, Overreach, Twin, LeftOver}
+use Rattle.answers.specs.declared.Refusal.the-variants.{CutShort, Overfull, NotEntered, BadMark, NoSuchItem, Miscounted, LeftOver}
 use Rattle.tables.specs.declared.Outcome.{Outcome}
 use Rattle.tables.specs.declared.Outcome.the-variants.{Refused, Accepted}
 use Rattle.tables.specs.Tables.{Tables}
-use Rattle.tables.specs.Checks.{ranked, inReach, apart}
+use Rattle.tables.specs.Checks.{late}
 use Rattle.tables.specs.Flat.{flat}
 unfoldable pub use Rattle.tables.specs.Bytes.{Bytes, wordFrom}
 
@@ -170,14 +169,16 @@ sections = do
 unfoldable pub nothingLeft : Reader (Unit {0})
 nothingLeft s = refuse (ltb 0 (length s)) LeftOver s
 
--- "After the last section come 10, 7, 8, 9 in that order."
+-- "After the last section come 10, 7, 8, 9 in that order": 10 here, the others in `late`.
+unfoldable pub settle : Outcome → Reader (Unit {0})
+settle (Refused e) s = stop e
+settle Accepted s = took tt s
+
 unfoldable pub whole : Reader Tables
 whole = do
   T ← sections
   nothingLeft
-  refuse (not (ranked (T .roleRows))) Rank
-  refuse (not (inReach T)) Overreach
-  refuse (not (apart (T .cr) && (apart (T .cu) && apart (T .cp)))) Twin
+  settle (late T)
   give T
 
 -- "Tables are accepted when no check on them refuses".

@@ -3,9 +3,8 @@
 ghost use mathlib.Core.Path.{_≡_};
 ghost use Prim.Native.Nat.{ℕ, _+_, _≤_, _<_, _^_};
 ghost use lib.ListN.{length, take, drop};
-ghost use mathlib.Core.Bool.{_&&_};
-ghost use Rattle.tables.specs.Checks.{ranked as rankedOf, inReach as inReachOf, apart as apartOf};
-ghost use Rattle.tables.specs.code.Reads.{rankAt, reaching, newAt, CountsFit, lateOf};
+ghost use Rattle.tables.specs.Checks.{ranked as rankedOf, inReach as inReachOf, apart as apartOf, noTwin, late};
+ghost use Rattle.tables.specs.code.Reads.{rankAt, reaching, newAt, CountsFit};
 ghost use Rattle.tables.specs.Tables.{Tables};
 ghost use Rattle.tables.specs.Accepted.{Fits, Below, Bounded};
 ghost use Rattle.tables.specs.Flat.{flat};
@@ -116,7 +115,7 @@ pub fn reaches(words: &[u64]) -> bool
 // Whether no collection has a word twice.
 pub fn collections_apart(words: &[u64]) -> bool
     requires { ⌜ CountsFit (now words) ⌝ }
-    ensures { λ b. ⌜ ((T : Tables) → Fits T → now (words .entry) ≡ flat T → b ≡ (apartOf (T .cr) && (apartOf (T .cu) && apartOf (T .cp)))) ⌝ }
+    ensures { λ b. ⌜ ((T : Tables) → Fits T → now (words .entry) ≡ flat T → b ≡ noTwin T) ⌝ }
 {
     if !apart(part(words, 384, words[6] as usize)) {
         return false;
@@ -130,7 +129,7 @@ pub fn collections_apart(words: &[u64]) -> bool
 // The checks 7, 8 and 9, in that order.
 pub fn checked(words: &[u64]) -> Outcome
     requires { ⌜ CountsFit (now words) ⌝ }
-    ensures { λ r. ⌜ ((T : Tables) → Fits T → Bounded T → now (words .entry) ≡ flat T → r ≡ lateOf T) ⌝ }
+    ensures { λ r. ⌜ ((T : Tables) → Fits T → Bounded T → now (words .entry) ≡ flat T → r ≡ late T) ⌝ }
 {
     if !ranked(part(words, 64, words[0] as usize)) {
         return Outcome::Refused(Refusal::Rank);

@@ -16,9 +16,9 @@ use Rattle.words.proofs.WordsLaws.{has-out, has-zero, has-all, word-has, and-tr
 use Rattle.tables.specs.Tables.{Tables}
 use Rattle.tables.specs.Flat.{Fits}
 use Rattle.tables.specs.code.Reads.{Below, Bounded}
-use Rattle.functions.specs.Functions.{dominates, assigned, active, heldBy, sessionOf, those, someIn, isPermission, userOfSessions, userOfRoles}
-use Rattle.functions.specs.Functions.{rolesOfUsers, rolesOfSessions, rolesOfPermissions, juniorsOfUsers, juniorsOfSessions, seniorsOfPermissions}
-use Rattle.functions.specs.Functions.{sessionsOfUsers, permissionsOfRoles, permissionsOfJuniors, objectsOfPermissions, operationsOn}
+use Rattle.tables.specs.Functions.{dominates, assigned, active, heldBy, sessionOf, those, someIn, isPermission, userOfSessions, userOfRoles}
+use Rattle.tables.specs.Functions.{rolesOfUsers, rolesOfSessions, rolesOfPermissions, juniorsOfUsers, juniorsOfSessions, seniorsOfPermissions}
+use Rattle.tables.specs.Functions.{sessionsOfUsers, permissionsOfRoles, permissionsOfJuniors, objectsOfPermissions, operationsOn}
 use Rattle.syntax.specs.Term.{Fn, user, roles, roles*, sessions, permissions, permissions*, object, Fn2, operations}
 use Rattle.rules.specs.Kind.{Kind, sU, sR, sP, makes, row}
 use Rattle.values.specs.Values.{ofSort, if, callValue, call2Value}
@@ -102,23 +102,23 @@ module _ (T : Tables) (fits : Fits T) (b : Bounded T) (w : ℕ) where
   juniors-of-users : Inside (length (T .roleRows)) (juniorsOfUsers T w)
   unfolding juniorsOfUsers
   juniors-of-users r h =
-      let q = one-in w (λ u. anyTo 64 (λ q. assigned T u q && dominates T q r)) (of-those (λ r. someIn w (λ u. anyTo 64 (λ q. assigned T u q && dominates T q r))) r h) in
-      let p = one-of (λ k. assigned T (q .item) k && dominates T k r) (q .has-it) in
-      row-inside (length (T .roleRows)) (T .roleRows) (b .roles) (p .item) r (and-true (assigned T (q .item) (p .item)) (dominates T (p .item) r) (p .has-it) .1)
+      let q = one-in w (λ u. anyTo 64 (λ q. assigned T u q && dominates (T .roleRows) q r)) (of-those (λ r. someIn w (λ u. anyTo 64 (λ q. assigned T u q && dominates (T .roleRows) q r))) r h) in
+      let p = one-of (λ k. assigned T (q .item) k && dominates (T .roleRows) k r) (q .has-it) in
+      row-inside (length (T .roleRows)) (T .roleRows) (b .roles) (p .item) r (and-true (assigned T (q .item) (p .item)) (dominates (T .roleRows) (p .item) r) (p .has-it) .1)
 
   juniors-of-sessions : Inside (length (T .roleRows)) (juniorsOfSessions T w)
   unfolding juniorsOfSessions
   juniors-of-sessions r h =
-      let q = one-in w (λ s. anyTo 64 (λ q. active T s q && dominates T q r)) (of-those (λ r. someIn w (λ s. anyTo 64 (λ q. active T s q && dominates T q r))) r h) in
-      let p = one-of (λ k. active T (q .item) k && dominates T k r) (q .has-it) in
-      row-inside (length (T .roleRows)) (T .roleRows) (b .roles) (p .item) r (and-true (active T (q .item) (p .item)) (dominates T (p .item) r) (p .has-it) .1)
+      let q = one-in w (λ s. anyTo 64 (λ q. active T s q && dominates (T .roleRows) q r)) (of-those (λ r. someIn w (λ s. anyTo 64 (λ q. active T s q && dominates (T .roleRows) q r))) r h) in
+      let p = one-of (λ k. active T (q .item) k && dominates (T .roleRows) k r) (q .has-it) in
+      row-inside (length (T .roleRows)) (T .roleRows) (b .roles) (p .item) r (and-true (active T (q .item) (p .item)) (dominates (T .roleRows) (p .item) r) (p .has-it) .1)
 
   seniors-of-permissions : Inside (length (T .roleRows)) (seniorsOfPermissions T w)
   unfolding seniorsOfPermissions
   seniors-of-permissions r h =
-      let q = one-in w (λ p. anyTo 64 (λ k. heldBy T p k && dominates T r k)) (of-those (λ r. someIn w (λ p. anyTo 64 (λ k. heldBy T p k && dominates T r k))) r h) in
-      let p = one-of (λ k. heldBy T (q .item) k && dominates T r k) (q .has-it) in
-      row-there (T .roleRows) r (p .item) (and-true (heldBy T (q .item) (p .item)) (dominates T r (p .item)) (p .has-it) .1)
+      let q = one-in w (λ p. anyTo 64 (λ k. heldBy T p k && dominates (T .roleRows) r k)) (of-those (λ r. someIn w (λ p. anyTo 64 (λ k. heldBy T p k && dominates (T .roleRows) r k))) r h) in
+      let p = one-of (λ k. heldBy T (q .item) k && dominates (T .roleRows) r k) (q .has-it) in
+      row-there (T .roleRows) r (p .item) (and-true (heldBy T (q .item) (p .item)) (dominates (T .roleRows) r (p .item)) (p .has-it) .1)
 
   sessions-of-users : Inside (length (T .sessionUsers)) (sessionsOfUsers T w)
   unfolding sessionsOfUsers
@@ -135,9 +135,9 @@ module _ (T : Tables) (fits : Fits T) (b : Bounded T) (w : ℕ) where
   permissions-of-juniors : Inside (length (T .permissionRows)) (permissionsOfJuniors T w)
   unfolding permissionsOfJuniors
   permissions-of-juniors p h =
-      let q = one-in w (λ r. anyTo 64 (λ k. dominates T r k && heldBy T p k)) (of-those (λ p. someIn w (λ r. anyTo 64 (λ k. dominates T r k && heldBy T p k))) p h) in
-      let k = one-of (λ k. dominates T (q .item) k && heldBy T p k) (q .has-it) in
-      row-there (T .permissionRows) p (k .item) (and-true (dominates T (q .item) (k .item)) (heldBy T p (k .item)) (k .has-it) .1)
+      let q = one-in w (λ r. anyTo 64 (λ k. dominates (T .roleRows) r k && heldBy T p k)) (of-those (λ p. someIn w (λ r. anyTo 64 (λ k. dominates (T .roleRows) r k && heldBy T p k))) p h) in
+      let k = one-of (λ k. dominates (T .roleRows) (q .item) k && heldBy T p k) (q .has-it) in
+      row-there (T .permissionRows) p (k .item) (and-true (dominates (T .roleRows) (q .item) (k .item)) (heldBy T p (k .item)) (k .has-it) .1)
 
   -- What a permission is: its number is there, and so is its object.
   abbrev Parts : ℕ → ℕ → ℕ → Type 0

@@ -7,9 +7,9 @@ use Prim.Native.Nat.{ℕ, suc}
 use lib.ListN.{getD}
 use Rattle.words.specs.Words.{itemOf, meetOf, joinOf, lessOf}
 use Rattle.tables.specs.Tables.{Tables}
-use Rattle.functions.specs.Functions.{userOfSessions, userOfRoles, rolesOfUsers, rolesOfSessions, rolesOfPermissions, juniorsOfUsers}
-use Rattle.functions.specs.Functions.{juniorsOfSessions, seniorsOfPermissions, sessionsOfUsers, permissionsOfRoles, permissionsOfJuniors}
-use Rattle.functions.specs.Functions.{objectsOfPermissions, operationsOn}
+use Rattle.tables.specs.Functions.{userOfSessions, userOfRoles, rolesOfUsers, rolesOfSessions, rolesOfPermissions, juniorsOfUsers}
+use Rattle.tables.specs.Functions.{juniorsOfSessions, seniorsOfPermissions, sessionsOfUsers, permissionsOfRoles, permissionsOfJuniors}
+use Rattle.tables.specs.Functions.{objectsOfPermissions, operationsOn}
 use Rattle.syntax.specs.Term.{Fn, user, roles, roles*, sessions, permissions, permissions*, object, Fn2, operations, Op, meet, join, Pair, calls, joins, Term, base, call, oe, ao, two, Term≟, Choices}
 use Rattle.rules.specs.Kind.{Sort, Sort≟, sU, sR, sOP, sOBJ, sP, sS, CR, CP, CU, Kind, element, set, collection, holds, baseKind, kind}
 use Rattle.values.specs.Items.{kindItems}

@@ -2,12 +2,11 @@
 -- Assumes nothing.
 use mathlib.Core.Path.{_≡_}
 use mathlib.Core.List.{List, [], _∷_, map}
-use mathlib.Core.Bool.{Bool, _&&_, not, cond}
+use mathlib.Core.Bool.{Bool, _&&_, not}
 use Prim.Native.Nat.{ℕ, suc, _%_, _/_, _≤_, _<_}
 use lib.Dec.{eqb}
 use lib.ListN.{length, getD, drop, set}
 use Rattle.answers.specs.declared.Refusal.{Refusal}
-use Rattle.answers.specs.declared.Refusal.the-variants.{Rank, Overreach, Twin}
 use Rattle.words.specs.Words.{has, itemOf, lessOf, imageOf}
 use Rattle.tables.specs.declared.Step.{Step}
 use Rattle.tables.specs.declared.Step.the-variants.{Stopped, Took}
@@ -15,7 +14,8 @@ use Rattle.tables.specs.declared.Outcome.{Outcome}
 use Rattle.tables.specs.declared.Outcome.the-variants.{Refused, Accepted}
 use Rattle.tables.specs.Tables.{Tables}
 use Rattle.tables.specs.Reading.{Bytes, Taken, stop, took, Session, Rights, Collections, Reading, rejected, taken}
-use Rattle.tables.specs.Checks.{allTo, dominates, ranked, inReach, apart}
+use Rattle.tables.specs.Functions.{dominates}
+use Rattle.tables.specs.Checks.{allTo}
 use Rattle.tables.specs.Flat.{tabulate}
 unfoldable pub use Rattle.tables.specs.Accepted.{Below}
 pub use Rattle.tables.specs.Accepted.{Bounded}
@@ -135,10 +135,3 @@ pub record CountsFit (ws : List ℕ) : Type 0 where
   pub crs : getD ws 6 0 ≤ 64
   pub cus : getD ws 7 0 ≤ 64
   pub cps : getD ws 8 0 ≤ 64
-
--- The outcome of 7, 8 and 9.
-unfoldable pub lateOf : Tables → Outcome
-lateOf T =
-    cond (ranked (T .roleRows))
-    (cond (inReach T) (cond (apart (T .cr) && (apart (T .cu) && apart (T .cp))) Accepted (Refused Twin)) (Refused Overreach))
-    (Refused Rank)

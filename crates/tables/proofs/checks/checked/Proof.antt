@@ -3,7 +3,7 @@
 use mathlib.Core.Path.{sym, _∙_}
 use native.Mathlib.Omega.{arith}
 use borrow.Author.Tests.{not-true, not-false}
-use Rattle.tables.specs.code.Reads.{lateOf}
+use Rattle.tables.specs.Checks.{lateChecks, firstFailing}
 use Rattle.tables.proofs.PartLaws.{part-length, rank-part}
 use borrow.Author.Needs.{needs}
 use Rattle.tables.proofs.checks.checked.Statement.{statement}
@@ -22,7 +22,7 @@ ranked-requires c κs =
     omega (arith, part-length (args .words .now) 64 _ (pre .long) (omega arith) (pre .roles) (c .part .ensures), pre .roles)
 
 returns : tie.Need-returns
-unfolding lateOf
+unfolding lateChecks firstFailing
 returns c =
     let part = c .before .before .part in
     λ T f b e.
@@ -33,7 +33,7 @@ reaches-requires : tie.Need-reaches-requires
 reaches-requires c κs = search needs
 
 returns-2 : tie.Need-returns-2
-unfolding lateOf
+unfolding lateChecks firstFailing
 returns-2 c =
     let part = c .before .before .before .before .part in
     let ranked = c .before .before .before .ranked in
@@ -47,7 +47,7 @@ collections-apart-requires : tie.Need-collections-apart-requires
 collections-apart-requires c κs = search needs
 
 returns-3 : tie.Need-returns-3
-unfolding lateOf
+unfolding lateChecks firstFailing
 returns-3 c =
     let part = c .before .before .before .before .before .before .part in
     let ranked = c .before .before .before .before .before .ranked in
@@ -61,7 +61,7 @@ returns-3 c =
     rw (r, o, w)
 
 returns-4 : tie.Need-returns-4
-unfolding lateOf
+unfolding lateChecks firstFailing
 returns-4 c =
     let part = c .before .before .before .before .before .before .part in
     let ranked = c .before .before .before .before .before .ranked in

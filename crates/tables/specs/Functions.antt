@@ -1,15 +1,16 @@
 -- The functions of Figure 2 of source document 002 as document 01 fixes them ("Functions"), on words; each is the union over the members of its argument.
 -- Assumes nothing.
 use mathlib.Core.Bool.{Bool, _&&_}
+use mathlib.Core.List.{List}
 use Prim.Native.Nat.{ℕ, _+_, _*_}
 use lib.Dec.{eqb, ltb}
 use lib.ListN.{length, getD}
 use Rattle.words.specs.Words.{has, wordOf, anyTo}
 use Rattle.tables.specs.Tables.{Tables}
 
--- "Junior or equal" is domination by the role rows: r is senior or equal to q.
-abbrev pub dominates : Tables → ℕ → ℕ → Bool
-dominates T r q = has (getD (T .roleRows) r 0) q
+-- "Junior or equal" is domination by the role rows: role r is senior or equal to q.
+abbrev pub dominates : List ℕ → ℕ → ℕ → Bool
+dominates rows r q = has (getD rows r 0) q
 
 -- UA: user u is assigned role r. Session s has the role r active. PA: permission p is held by role r.
 abbrev pub assigned : Tables → ℕ → ℕ → Bool
@@ -51,14 +52,14 @@ rolesOfPermissions T w = those (λ r. someIn w (λ p. heldBy T p r))
 
 -- `roles*` of a user or session: each role junior or equal to one it has;
 unfoldable pub juniorsOfUsers : Tables → ℕ → ℕ
-juniorsOfUsers T w = those (λ q. someIn w (λ u. anyTo 64 (λ r. assigned T u r && dominates T r q)))
+juniorsOfUsers T w = those (λ q. someIn w (λ u. anyTo 64 (λ r. assigned T u r && dominates (T .roleRows) r q)))
 
 unfoldable pub juniorsOfSessions : Tables → ℕ → ℕ
-juniorsOfSessions T w = those (λ q. someIn w (λ s. anyTo 64 (λ r. active T s r && dominates T r q)))
+juniorsOfSessions T w = those (λ q. someIn w (λ s. anyTo 64 (λ r. active T s r && dominates (T .roleRows) r q)))
 
 -- of a permission: each role senior or equal to one holding it.
 unfoldable pub seniorsOfPermissions : Tables → ℕ → ℕ
-seniorsOfPermissions T w = those (λ q. someIn w (λ p. anyTo 64 (λ r. heldBy T p r && dominates T q r)))
+seniorsOfPermissions T w = those (λ q. someIn w (λ p. anyTo 64 (λ r. heldBy T p r && dominates (T .roleRows) q r)))
 
 -- `sessions` of users.
 unfoldable pub sessionsOfUsers : Tables → ℕ → ℕ
@@ -69,7 +70,7 @@ unfoldable pub permissionsOfRoles : Tables → ℕ → ℕ
 permissionsOfRoles T w = those (λ p. someIn w (λ r. heldBy T p r))
 
 unfoldable pub permissionsOfJuniors : Tables → ℕ → ℕ
-permissionsOfJuniors T w = those (λ p. someIn w (λ r. anyTo 64 (λ q. dominates T r q && heldBy T p q)))
+permissionsOfJuniors T w = those (λ p. someIn w (λ r. anyTo 64 (λ q. dominates (T .roleRows) r q && heldBy T p q)))
 
 -- Permission p is the operation a on the object b: "Permission number = operation × object count + object".
 abbrev pub isPermission : Tables → ℕ → ℕ → ℕ → Bool
