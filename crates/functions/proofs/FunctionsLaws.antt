@@ -15,7 +15,9 @@ use Rattle.words.proofs.WordsLaws.{word-ext, both, and-true, and-both, any-here
 use Rattle.words.proofs.RelationLaws.{reach, reach-ext, image-reach, preimage-reach, image-image, preimage-image, has-preimage}
 use Rattle.tables.specs.Tables.{Tables}
 use Rattle.tables.specs.Accepted.{Fits}
-use Rattle.tables.specs.Flat.{counts, objectRows, operationRows, sections}
+use Rattle.tables.specs.Layout.{roleCountAt, userCountAt, sessionCountAt, permissionCountAt, roleRowsAt, userRowsAt, sessionUsersAt, sessionRolesAt}
+use Rattle.tables.specs.Layout.{permissionRowsAt, objectRowsAt, operationRowsAt}
+use Rattle.tables.specs.Flat.{counts, objectRows, operationRows, sections, sectionAt}
 use Rattle.tables.proofs.FlatLaws.{map-at, length-tabulate, tabulate-at}
 use Rattle.tables.specs.Functions.{sessionOf, isPermission, userOfSessions, userOfRoles, rolesOfUsers, rolesOfSessions, rolesOfPermissions}
 use Rattle.tables.specs.Functions.{juniorsOfUsers, juniorsOfSessions, seniorsOfPermissions, sessionsOfUsers}
@@ -116,61 +118,61 @@ object-is T fits p b lp lb = both (has (getD (objectRows T) p 0) b) (anyTo 64 (�
 
 -- ---- the count of each section that is gone back along
 
-pub counted-roles : (T : Tables) → getD (counts T) 0 0 ≡ length (getD (sections T) 1 [])
+pub counted-roles : (T : Tables) → getD (counts T) roleCountAt 0 ≡ length (sectionAt T roleRowsAt)
 unfolding counts sections
 counted-roles T = refl
 
-pub counted-users : (T : Tables) → getD (counts T) 1 0 ≡ length (getD (sections T) 2 [])
+pub counted-users : (T : Tables) → getD (counts T) userCountAt 0 ≡ length (sectionAt T userRowsAt)
 unfolding counts sections
 counted-users T = refl
 
-pub counted-sessions : (T : Tables) → getD (counts T) 2 0 ≡ length (getD (sections T) 3 [])
+pub counted-sessions : (T : Tables) → getD (counts T) sessionCountAt 0 ≡ length (sectionAt T sessionUsersAt)
 unfolding counts sections
 counted-sessions T = sym (length-map (T .sessionUsers) itemOf)
 
-pub counted-permissions : (T : Tables) → getD (counts T) 5 0 ≡ length (getD (sections T) 5 [])
+pub counted-permissions : (T : Tables) → getD (counts T) permissionCountAt 0 ≡ length (sectionAt T permissionRowsAt)
 unfolding counts sections
 counted-permissions T = refl
 
-pub counted-objects : (T : Tables) → getD (counts T) 5 0 ≡ length (getD (sections T) 9 [])
+pub counted-objects : (T : Tables) → getD (counts T) permissionCountAt 0 ≡ length (sectionAt T objectRowsAt)
 unfolding counts sections objectRows
 counted-objects T = sym (length-tabulate (length (T .permissionRows)) (λ p. itemOf (p % T .objectCount)))
 
 -- ---- one step
 
-pub user-of-sessions : (T : Tables) (w : ℕ) → imageOf (getD (sections T) 3 []) w ≡ userOfSessions T w
+pub user-of-sessions : (T : Tables) (w : ℕ) → imageOf (sectionAt T sessionUsersAt) w ≡ userOfSessions T w
 unfolding sections userOfSessions reach
 user-of-sessions T w =
     image-reach (map itemOf (T .sessionUsers)) w
     ∙ reach-ext (λ s u. has (getD (map itemOf (T .sessionUsers)) s 0) u) (sessionOf T) w (λ s u _ l. session-row T s u l)
 
-pub sessions-of-users : (T : Tables) (w : ℕ) → preimageOf (getD (sections T) 3 []) w ≡ sessionsOfUsers T w
+pub sessions-of-users : (T : Tables) (w : ℕ) → preimageOf (sectionAt T sessionUsersAt) w ≡ sessionsOfUsers T w
 unfolding sections sessionsOfUsers reach
 sessions-of-users T w =
     preimage-reach (map itemOf (T .sessionUsers)) w
     ∙ reach-ext (λ u s. has (getD (map itemOf (T .sessionUsers)) s 0) u) (λ u s. sessionOf T s u) w (λ u s l _. session-row T s u l)
 
-pub user-of-roles : (T : Tables) (w : ℕ) → preimageOf (getD (sections T) 2 []) w ≡ userOfRoles T w
+pub user-of-roles : (T : Tables) (w : ℕ) → preimageOf (sectionAt T userRowsAt) w ≡ userOfRoles T w
 unfolding sections userOfRoles reach
 user-of-roles T w = preimage-reach (T .userRows) w
 
-pub roles-of-users : (T : Tables) (w : ℕ) → imageOf (getD (sections T) 2 []) w ≡ rolesOfUsers T w
+pub roles-of-users : (T : Tables) (w : ℕ) → imageOf (sectionAt T userRowsAt) w ≡ rolesOfUsers T w
 unfolding sections rolesOfUsers reach
 roles-of-users T w = image-reach (T .userRows) w
 
-pub roles-of-sessions : (T : Tables) (w : ℕ) → imageOf (getD (sections T) 4 []) w ≡ rolesOfSessions T w
+pub roles-of-sessions : (T : Tables) (w : ℕ) → imageOf (sectionAt T sessionRolesAt) w ≡ rolesOfSessions T w
 unfolding sections rolesOfSessions reach
 roles-of-sessions T w = image-reach (T .sessionRows) w
 
-pub roles-of-permissions : (T : Tables) (w : ℕ) → imageOf (getD (sections T) 5 []) w ≡ rolesOfPermissions T w
+pub roles-of-permissions : (T : Tables) (w : ℕ) → imageOf (sectionAt T permissionRowsAt) w ≡ rolesOfPermissions T w
 unfolding sections rolesOfPermissions reach
 roles-of-permissions T w = image-reach (T .permissionRows) w
 
-pub permissions-of-roles : (T : Tables) (w : ℕ) → preimageOf (getD (sections T) 5 []) w ≡ permissionsOfRoles T w
+pub permissions-of-roles : (T : Tables) (w : ℕ) → preimageOf (sectionAt T permissionRowsAt) w ≡ permissionsOfRoles T w
 unfolding sections permissionsOfRoles reach
 permissions-of-roles T w = preimage-reach (T .permissionRows) w
 
-pub objects-of-permissions : (T : Tables) → Fits T → (w : ℕ) → imageOf (getD (sections T) 9 []) w ≡ objectsOfPermissions T w
+pub objects-of-permissions : (T : Tables) → Fits T → (w : ℕ) → imageOf (sectionAt T objectRowsAt) w ≡ objectsOfPermissions T w
 unfolding sections objectsOfPermissions reach
 objects-of-permissions T fits w =
     image-reach (objectRows T) w
@@ -178,21 +180,21 @@ objects-of-permissions T fits w =
 
 -- ---- two steps
 
-pub juniors-of-users : (T : Tables) (w : ℕ) → imageOf (getD (sections T) 1 []) (imageOf (getD (sections T) 2 []) w) ≡ juniorsOfUsers T w
+pub juniors-of-users : (T : Tables) (w : ℕ) → imageOf (sectionAt T roleRowsAt) (imageOf (sectionAt T userRowsAt) w) ≡ juniorsOfUsers T w
 unfolding sections juniorsOfUsers reach
 juniors-of-users T w = image-image (T .userRows) (T .roleRows) w
 
-pub juniors-of-sessions : (T : Tables) (w : ℕ) → imageOf (getD (sections T) 1 []) (imageOf (getD (sections T) 4 []) w) ≡ juniorsOfSessions T w
+pub juniors-of-sessions : (T : Tables) (w : ℕ) → imageOf (sectionAt T roleRowsAt) (imageOf (sectionAt T sessionRolesAt) w) ≡ juniorsOfSessions T w
 unfolding sections juniorsOfSessions reach
 juniors-of-sessions T w = image-image (T .sessionRows) (T .roleRows) w
 
 pub seniors-of-permissions : (T : Tables) (w : ℕ)
-    → preimageOf (getD (sections T) 1 []) (imageOf (getD (sections T) 5 []) w) ≡ seniorsOfPermissions T w
+    → preimageOf (sectionAt T roleRowsAt) (imageOf (sectionAt T permissionRowsAt) w) ≡ seniorsOfPermissions T w
 unfolding sections seniorsOfPermissions reach
 seniors-of-permissions T w = preimage-image (T .permissionRows) (T .roleRows) w
 
 pub permissions-of-juniors : (T : Tables) (w : ℕ)
-    → preimageOf (getD (sections T) 5 []) (imageOf (getD (sections T) 1 []) w) ≡ permissionsOfJuniors T w
+    → preimageOf (sectionAt T permissionRowsAt) (imageOf (sectionAt T roleRowsAt) w) ≡ permissionsOfJuniors T w
 unfolding sections permissionsOfJuniors reach
 permissions-of-juniors T w = preimage-image (T .roleRows) (T .permissionRows) w
 
@@ -248,7 +250,7 @@ regroup W B A H O = both (anyTo 64 first) (anyTo 64 outer) there back
         to-first p r b lp lr lb q w v
 
 pub operations-on : (T : Tables) → Fits T → (w o : ℕ)
-    → imageOf (getD (sections T) 10 []) (meetOf (preimageOf (getD (sections T) 5 []) w) (preimageOf (getD (sections T) 9 []) o)) ≡ operationsOn T w o
+    → imageOf (sectionAt T operationRowsAt) (meetOf (preimageOf (sectionAt T permissionRowsAt) w) (preimageOf (sectionAt T objectRowsAt) o)) ≡ operationsOn T w o
 unfolding sections operationsOn imageOf
 operations-on T fits w o = word-ext 64 (λ a. anyTo 64 (code a)) (λ a. anyTo 64 (told a)) bit
   where

@@ -15,8 +15,7 @@ use Rattle.tables.specs.Tables.{Tables}
 use Rattle.tables.specs.declared.Outcome.{Outcome}
 use Rattle.tables.specs.declared.Outcome.the-variants.{Refused, Accepted}
 use Rattle.tables.specs.Checks.{late}
-pub use Rattle.tables.specs.Accepted.{Sound}
-use Rattle.tables.specs.Accepted.{Below, Passes}
+use Rattle.tables.specs.Accepted.{Below, Sound, Passes}
 use Rattle.tables.specs.Reading.{Bytes, Taken, Reader, stop, took, next, refuse, front, byte, count, wordFrom, wordWithin}
 use Rattle.tables.specs.Reading.{wordRow, markedRow, sessionRow, Session, rows, section, permissions, Rights, rights, Collections, collections}
 use Rattle.tables.specs.Reading.{sections, nothingLeft, settle, whole, taken, readingOf, tablesOf, assembled}

@@ -1,13 +1,14 @@
--- Laws of the flat tables: word i of section k stands at 64 × k + i, and is 0 past the section's list.
+-- Laws of the flat tables: word i of section k stands at room × k + i, and is 0 past the section's list.
 -- Assumes nothing.
 use mathlib.Core.Path.{_≡_, refl, ap, _∙_}
 use mathlib.Core.List.{List, [], _∷_, _++_, map}
-use Prim.Native.Nat.{ℕ, zero, suc, _+_, _*_, _<_}
+use Prim.Native.Nat.{ℕ, zero, suc, _+_, _*_, _/_, _%_, _<_}
 use native.Mathlib.Omega.{arith}
 use lib.ListN.{length, getD, drop, length-append, List·getD-append}
 use lib.Seq.{getD-append-add, getD-drop}
 use Rattle.tables.specs.Tables.{Tables}
-use Rattle.tables.specs.Flat.{padded, tabulate, counts, sections, laid, flat}
+use Rattle.tables.specs.Layout.{room, Whole}
+use Rattle.tables.specs.Flat.{padded, tabulate, counts, sections, sectionAt, laid, flat}
 
 pub length-padded : (n : ℕ) (xs : List ℕ) → length (padded n xs) ≡ n
 unfolding padded
@@ -39,37 +40,39 @@ map-at f [] i l = absurd (omega arith)
 map-at f (x ∷ xs) zero l = refl
 map-at f (x ∷ xs) (suc i) l = map-at f xs i (omega arith)
 
-pub length-laid : (ss : List (List ℕ)) → length (laid ss) ≡ 64 * length ss
+pub length-laid : (ss : List (List ℕ)) → length (laid ss) ≡ room * length ss
 unfolding laid
 length-laid [] = refl
-length-laid (s ∷ ss) = omega (arith, length-append (padded 64 s) (laid ss), length-padded 64 s, length-laid ss)
+length-laid (s ∷ ss) = omega (arith, length-append (padded room s) (laid ss), length-padded room s, length-laid ss)
 
 -- The one law of sections; past the last one both sides are 0.
-pub laid-at : (ss : List (List ℕ)) (k i : ℕ) → i < 64 → getD (laid ss) (64 * k + i) 0 ≡ getD (getD ss k []) i 0
+pub laid-at : (ss : List (List ℕ)) (k i : ℕ) → i < room → getD (laid ss) (room * k + i) 0 ≡ getD (getD ss k []) i 0
 unfolding laid
 laid-at [] k i l = refl
 laid-at (s ∷ ss) zero i l =
-    let e : 64 * 0 + i ≡ i = omega arith in
-    ap (λ (n : ℕ). getD (padded 64 s ++ laid ss) n 0) e ∙ List·getD-append (padded 64 s) (laid ss) 0 i (omega (arith, length-padded 64 s)) ∙ padded-at 64 s i l
+    let e : room * 0 + i ≡ i = omega arith in
+    ap (λ (n : ℕ). getD (padded room s ++ laid ss) n 0) e ∙ List·getD-append (padded room s) (laid ss) 0 i (omega (arith, length-padded room s)) ∙ padded-at room s i l
 laid-at (s ∷ ss) (suc k) i l =
-    let e : 64 * suc k + i ≡ length (padded 64 s) + (64 * k + i) = omega (arith, length-padded 64 s) in
-    ap (λ (n : ℕ). getD (padded 64 s ++ laid ss) n 0) e ∙ getD-append-add (padded 64 s) (laid ss) (64 * k + i) 0 ∙ laid-at ss k i l
+    let e : room * suc k + i ≡ length (padded room s) + (room * k + i) = omega (arith, length-padded room s) in
+    ap (λ (n : ℕ). getD (padded room s ++ laid ss) n 0) e ∙ getD-append-add (padded room s) (laid ss) (room * k + i) 0 ∙ laid-at ss k i l
 
-pub length-flat : (T : Tables) → length (flat T) ≡ 704
+pub length-flat : (T : Tables) → Whole (flat T)
 unfolding flat sections
 length-flat T = length-laid (sections T)
 
-pub flat-at : (T : Tables) (k i : ℕ) → i < 64 → getD (flat T) (64 * k + i) 0 ≡ getD (getD (sections T) k []) i 0
+pub flat-at : (T : Tables) (k i : ℕ) → i < room → getD (flat T) (room * k + i) 0 ≡ getD (getD (sections T) k []) i 0
 unfolding flat
 flat-at T = laid-at (sections T)
 
--- The same of the rest of the words from a section on.
-pub section-at : (T : Tables) (k i : ℕ) → i < 64 → getD (drop (64 * k) (flat T)) i 0 ≡ getD (getD (sections T) k []) i 0
-section-at T k i l = getD-drop (64 * k) (flat T) i 0 ∙ flat-at T k i l
+-- The same of the rest of the words from where a section begins.
+pub section-at : (T : Tables) (at i : ℕ) → at % room ≡ 0 → i < room → getD (drop at (flat T)) i 0 ≡ getD (sectionAt T at) i 0
+section-at T at i b l =
+    let e : room * (at / room) ≡ at = omega arith in
+    getD-drop at (flat T) i 0 ∙ rw e at (flat-at T (at / room) i l)
 
 -- The counts stand first.
-pub count-at : (T : Tables) (n : ℕ) → n < 64 → getD (flat T) n 0 ≡ getD (counts T) n 0
+pub count-at : (T : Tables) (n : ℕ) → n < room → getD (flat T) n 0 ≡ getD (counts T) n 0
 unfolding sections
 count-at T n l =
-    let e : n ≡ 64 * 0 + n = omega arith in
+    let e : n ≡ room * 0 + n = omega arith in
     ap (λ (i : ℕ). getD (flat T) i 0) e ∙ flat-at T 0 n l

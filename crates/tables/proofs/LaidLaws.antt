@@ -9,6 +9,7 @@ use lib.Seq.{set-append-left, set-getD, set-set, getD-set-same}
 use Rattle.words.specs.Words.{itemOf}
 use Rattle.tables.specs.Tables.{Tables}
 use Rattle.tables.specs.Accepted.{Fits}
+use Rattle.tables.specs.Layout.{room, wholeLength}
 use Rattle.tables.specs.Flat.{padded, tabulate, counts, objectRows, operationRows, sections, laid, flat}
 use Rattle.tables.specs.Reading.{Session, Rights, Collections}
 use Rattle.tables.specs.code.Reads.{put, withSection, withSessions, withNames, withRights, withCollections, Filled}
@@ -28,22 +29,22 @@ set-right (x ∷ xs) ys i v =
     let e : suc (length xs) + i ≡ suc (length xs + i) = omega arith in
     rw e (ap (λ (r : List ℕ). x ∷ r) (set-right xs ys i v))
 
-laid-add : (ss : List (List ℕ)) (k v : ℕ) → k < length ss → length (getD ss k []) < 64
-    → set (laid ss) (64 * k + length (getD ss k [])) v ≡ laid (set ss k (getD ss k [] ++ (v ∷ [])))
+laid-add : (ss : List (List ℕ)) (k v : ℕ) → k < length ss → length (getD ss k []) < room
+    → set (laid ss) (room * k + length (getD ss k [])) v ≡ laid (set ss k (getD ss k [] ++ (v ∷ [])))
 unfolding laid
 laid-add [] k v h l = absurd (omega arith)
 laid-add (s ∷ ss) zero v h l =
-    let e : 64 * 0 + length s ≡ length s = omega arith in
-    rw e (set-append-left (padded 64 s) (laid ss) (length s) v (omega (arith, length-padded 64 s)) ∙ ap (λ (r : List ℕ). r ++ laid ss) (padded-add 64 s v l))
+    let e : room * 0 + length s ≡ length s = omega arith in
+    rw e (set-append-left (padded room s) (laid ss) (length s) v (omega (arith, length-padded room s)) ∙ ap (λ (r : List ℕ). r ++ laid ss) (padded-add room s v l))
 laid-add (s ∷ ss) (suc k) v h l =
-    let e : 64 * suc k + length (getD ss k []) ≡ length (padded 64 s) + (64 * k + length (getD ss k [])) = omega (arith, length-padded 64 s) in
+    let e : room * suc k + length (getD ss k []) ≡ length (padded room s) + (room * k + length (getD ss k [])) = omega (arith, length-padded room s) in
     rw e
-    (set-right (padded 64 s) (laid ss) (64 * k + length (getD ss k [])) v
-    ∙ ap (λ (r : List ℕ). padded 64 s ++ r) (laid-add ss k v (omega arith) l))
+    (set-right (padded room s) (laid ss) (room * k + length (getD ss k [])) v
+    ∙ ap (λ (r : List ℕ). padded room s ++ r) (laid-add ss k v (omega arith) l))
 
 -- A list more in a section.
-pub laid-put : (xs : List ℕ) (ss : List (List ℕ)) (k : ℕ) → k < length ss → length (getD ss k []) + length xs ≤ 64
-    → put (laid ss) (64 * k + length (getD ss k [])) xs ≡ laid (set ss k (getD ss k [] ++ xs))
+pub laid-put : (xs : List ℕ) (ss : List (List ℕ)) (k : ℕ) → k < length ss → length (getD ss k []) + length xs ≤ room
+    → put (laid ss) (room * k + length (getD ss k [])) xs ≡ laid (set ss k (getD ss k [] ++ xs))
 unfolding put
 laid-put [] ss k h l = rw (append-nil, set-getD ss k [])
 laid-put (x ∷ xs) ss k h l =
@@ -51,27 +52,27 @@ laid-put (x ∷ xs) ss k h l =
     let tt′ = set ss k (d ++ (x ∷ [])) in
     let g : getD tt′ k [] ≡ d ++ (x ∷ []) = getD-set-same ss k (d ++ (x ∷ [])) [] h in
     let m : length (getD tt′ k []) ≡ suc (length d) = rw g (length-append d (x ∷ []) ∙ omega arith) in
-    let e : suc (64 * k + length d) ≡ 64 * k + length (getD tt′ k []) = omega arith in
+    let e : suc (room * k + length d) ≡ room * k + length (getD tt′ k []) = omega arith in
     let ih = laid-put xs tt′ k (rw length-set h) (omega arith) in
     rw (laid-add ss k x h (omega arith), e) (ih ∙ ap laid (rw (g, set-set, append-assoc)))
 
 -- A count more in section 0; the rows of an empty section; both.
 module _ (cs : List ℕ) (ss : List (List ℕ)) where
-  count-laid : (v : ℕ) → length cs < 64 → set (laid (cs ∷ ss)) (length cs) v ≡ laid ((cs ++ (v ∷ [])) ∷ ss)
+  count-laid : (v : ℕ) → length cs < room → set (laid (cs ∷ ss)) (length cs) v ≡ laid ((cs ++ (v ∷ [])) ∷ ss)
   count-laid v l =
-      let e : 64 * 0 + length cs ≡ length cs = omega arith in
+      let e : room * 0 + length cs ≡ length cs = omega arith in
       rw e at (laid-add (cs ∷ ss) 0 v (omega arith) l)
 
-  rows-laid : (k : ℕ) (xs : List ℕ) → k < length ss → getD ss k [] ≡ [] → length xs ≤ 64
-      → put (laid (cs ∷ ss)) (64 * suc k) xs ≡ laid (cs ∷ set ss k xs)
+  rows-laid : (k : ℕ) (xs : List ℕ) → k < length ss → getD ss k [] ≡ [] → length xs ≤ room
+      → put (laid (cs ∷ ss)) (room * suc k) xs ≡ laid (cs ∷ set ss k xs)
   rows-laid k xs h q l =
       let z : length (getD ss k []) ≡ 0 = ap length q in
-      let e : 64 * suc k + length (getD ss k []) ≡ 64 * suc k = omega arith in
+      let e : room * suc k + length (getD ss k []) ≡ room * suc k = omega arith in
       let p = laid-put xs (cs ∷ ss) (suc k) (omega arith) (omega arith) in
       rw (e, q) at p
 
-section-laid : (cs : List ℕ) (ss : List (List ℕ)) (k : ℕ) (xs : List ℕ) → length cs < 64 → k < length ss → getD ss k [] ≡ [] → length xs ≤ 64
-    → withSection (laid (cs ∷ ss)) (length cs) (64 * suc k) xs ≡ laid ((cs ++ (length xs ∷ [])) ∷ set ss k xs)
+section-laid : (cs : List ℕ) (ss : List (List ℕ)) (k : ℕ) (xs : List ℕ) → length cs < room → k < length ss → getD ss k [] ≡ [] → length xs ≤ room
+    → withSection (laid (cs ∷ ss)) (length cs) (room * suc k) xs ≡ laid ((cs ++ (length xs ∷ [])) ∷ set ss k xs)
 unfolding withSection
 section-laid cs ss k xs l h q m = rw (count-laid cs ss (length xs) l) (rows-laid (cs ++ (length xs ∷ [])) ss k xs h q m)
 
@@ -79,7 +80,7 @@ abbrev ten : (a b c d e f g h i j : List ℕ) → List (List ℕ)
 ten a b c d e f g h i j = a ∷ b ∷ c ∷ d ∷ e ∷ f ∷ g ∷ h ∷ i ∷ j ∷ []
 
 module _ (x y : ℕ) (r u : List ℕ) where
-  sessions-laid : (ss : List Session) → length ss ≤ 64
+  sessions-laid : (ss : List Session) → length ss ≤ room
       → withSessions (laid ((x ∷ y ∷ []) ∷ ten r u [] [] [] [] [] [] [] [])) ss
       ≡ laid ((x ∷ y ∷ length ss ∷ []) ∷ ten r u (map itemOf (map (λ s. s .user) ss)) (map (λ s. s .active) ss) [] [] [] [] [] [])
   unfolding withSessions
@@ -93,7 +94,7 @@ module _ (x y : ℕ) (r u : List ℕ) where
       (rows-laid (x ∷ y ∷ length ss ∷ []) (ten r u o [] [] [] [] [] [] []) 3 v (omega arith) refl (omega arith)))
 
   module _ (z : ℕ) (o v : List ℕ) where
-    rights-laid : (q : Rights) → length (q .permissionRows) ≤ 64
+    rights-laid : (q : Rights) → length (q .permissionRows) ≤ room
         → withRights (laid ((x ∷ y ∷ z ∷ []) ∷ ten r u o v [] [] [] [] [] [])) q
         ≡ laid ((x ∷ y ∷ z ∷ q .operationCount ∷ q .objectCount ∷ length (q .permissionRows) ∷ [])
         ∷ ten r u o v (q .permissionRows) [] [] []
@@ -117,7 +118,7 @@ module _ (x y : ℕ) (r u : List ℕ) where
         (rows-laid six (ten r u o v ps [] [] [] i []) 9 j (omega arith) refl (omega arith)))))
 
     module _ (a b n : ℕ) (ps i j : List ℕ) where
-      collections-laid : (c : Collections) → length (c .cr) ≤ 64 → length (c .cu) ≤ 64 → length (c .cp) ≤ 64
+      collections-laid : (c : Collections) → length (c .cr) ≤ room → length (c .cu) ≤ room → length (c .cp) ≤ room
           → withCollections (laid ((x ∷ y ∷ z ∷ a ∷ b ∷ n ∷ []) ∷ ten r u o v ps [] [] [] i j)) c
           ≡ laid ((x ∷ y ∷ z ∷ a ∷ b ∷ n ∷ length (c .cr) ∷ length (c .cu) ∷ length (c .cp) ∷ []) ∷ ten r u o v ps (c .cr) (c .cu) (c .cp) i j)
       unfolding withCollections
@@ -130,19 +131,19 @@ module _ (x y : ℕ) (r u : List ℕ) where
           (section-laid (six ++ (k₁ ∷ k₂ ∷ [])) (ten r u o v ps (c .cr) (c .cu) [] i j) 7 (c .cp) (omega arith) (omega arith) refl l₃))
 
 -- All sections stored in empty words are the flat tables.
-empty : replicate 704 0 ≡ laid ([] ∷ ten [] [] [] [] [] [] [] [] [] [])
+empty : replicate wholeLength 0 ≡ laid ([] ∷ ten [] [] [] [] [] [] [] [] [] [])
 unfolding laid padded
 empty = refl
 
-pub filled-flat : {T : Tables} {new : List ℕ} {v : ℕ} → Fits T → Filled (replicate 704 0) new T v → new ≡ flat T
+pub filled-flat : {T : Tables} {new : List ℕ} {v : ℕ} → Fits T → Filled (replicate wholeLength 0) new T v → new ≡ flat T
 unfolding flat sections counts objectRows operationRows
 filled-flat {T} fits g =
     let rs = T .roleRows in
     let us = T .userRows in
     let ss = g .sessions in
     let n : length (T .sessionUsers) ≡ length ss = ap length (g .users) ∙ length-map ss (λ s. s .user) in
-    let few : length ss ≤ 64 = omega (arith, fits .sessionsUsers) in
-    let held : length (T .permissionRows) ≤ 64 = rw (fits .permissions) (product-few (fits .operations) (fits .objects)) in
+    let few : length ss ≤ room = omega (arith, fits .sessionsUsers) in
+    let held : length (T .permissionRows) ≤ room = rw (fits .permissions) (product-few (fits .operations) (fits .objects)) in
     let x = length rs in
     let y = length us in
     let o = map itemOf (map (λ s. s .user) ss) in

@@ -14,14 +14,16 @@ use Rattle.answers.specs.Refusal.{numberOf}
 use Rattle.tables.specs.declared.Outcome.{Outcome}
 use Rattle.tables.specs.declared.Outcome.the-variants.{Refused, Accepted}
 use Rattle.tables.specs.Tables.{Tables}
+use Rattle.tables.specs.Accepted.{Sound}
 use Rattle.tables.specs.Checks.{Check, lateChecks, firstFailing, late}
 use Rattle.tables.specs.Reading.{Bytes, stop, took, next, refuse, sections, nothingLeft, settle, whole, rejected, taken, tablesOf, wordsOf, Reading}
 use Rattle.tables.specs.Reading.{outcomeNumber, readingNumber}
+use Rattle.tables.specs.Layout.{wholeLength}
 use Rattle.tables.specs.Flat.{flat}
 use Rattle.tables.specs.code.Reads.{readingOutcome, Filled}
 use Rattle.answers.proofs.AnswerLaws.{number-some, same-number}
 use Rattle.tables.proofs.ReadLaws.{Got}
-use Rattle.tables.proofs.FitsLaws.{Sound, Every, sections-sound}
+use Rattle.tables.proofs.FitsLaws.{Every, sections-sound}
 use Rattle.tables.proofs.LaidLaws.{filled-flat}
 
 pub never : {A : Type 0} {e : Refusal} → Refused e ≡ Accepted → A
@@ -79,19 +81,19 @@ module _ (b : Bytes) {T : Tables} {n : ℕ} (q : sections b ≡ took T (drop n b
         go Accepted e = rw (q, none, e)
 
 -- What reading the sections into empty words gives.
-pub record Whole (b : Bytes) (new : List ℕ) (n : ℕ) : Type 0 where
+pub record Stored (b : Bytes) (new : List ℕ) (n : ℕ) : Type 0 where
   pub tables : Tables
   pub reads : sections b ≡ took tables (drop n b)
   pub sound : Sound tables
   pub flatly : new ≡ flat tables
 
-pub whole-of : {b : Bytes} {old new : List ℕ} {v n : ℕ} → old ≡ replicate 704 0 → Got b (Filled old new) v n (sections b) → Whole b new n
+pub whole-of : {b : Bytes} {old new : List ℕ} {v n : ℕ} → old ≡ replicate wholeLength 0 → Got b (Filled old new) v n (sections b) → Stored b new n
 whole-of {b} e g =
     let x = sections-sound b (g .reads) in
     record { tables = g .value; reads = g .reads; sound = x; flatly = filled-flat (x .fits) (rw e at (g .holds)) }
 
 -- Refused tables have no words.
-pub refused-words : (r : Reading) {o : Outcome} {e : Refusal} → o ≡ readingOutcome r → o ≡ Refused e → replicate 704 0 ≡ wordsOf r
+pub refused-words : (r : Reading) {o : Outcome} {e : Refusal} → o ≡ readingOutcome r → o ≡ Refused e → replicate wholeLength 0 ≡ wordsOf r
 refused-words (rejected e) p q = refl
 refused-words (taken T) p q = never (sym q ∙ p)
 

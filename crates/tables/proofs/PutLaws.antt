@@ -9,6 +9,7 @@ use lib.ListN.{length, set, length-set}
 use lib.Seq.{set-comm}
 use Rattle.words.specs.Words.{itemOf}
 use Rattle.tables.specs.code.Reads.{put, withNames}
+use Rattle.tables.specs.Layout.{room, objectRowsAt, operationRowsAt}
 use Rattle.tables.specs.Flat.{tabulate}
 use Rattle.tables.proofs.FlatLaws.{length-tabulate}
 
@@ -52,13 +53,13 @@ names-none ws o = refl
 
 pub names-long : (ws : List ℕ) (p o : ℕ) {new : List ℕ} → new ≡ withNames ws p o → length new ≡ length ws
 unfolding withNames
-names-long ws p o e = ap length e ∙ length-put _ 640 _ ∙ length-put ws 576 _
+names-long ws p o e = ap length e ∙ length-put _ operationRowsAt _ ∙ length-put ws objectRowsAt _
 
-pub names-more : (ws : List ℕ) (p o : ℕ) {new : List ℕ} {x y : ℕ} → p < 64 → x ≡ itemOf (p % o) → y ≡ itemOf (p / o)
-    → new ≡ withNames ws p o → set (set new (576 + p) x) (640 + p) y ≡ withNames ws (p + 1) o
+pub names-more : (ws : List ℕ) (p o : ℕ) {new : List ℕ} {x y : ℕ} → p < room → x ≡ itemOf (p % o) → y ≡ itemOf (p / o)
+    → new ≡ withNames ws p o → set (set new (objectRowsAt + p) x) (operationRowsAt + p) y ≡ withNames ws (p + 1) o
 unfolding withNames
 names-more ws p o {new} {x} {y} l ex ey e =
     let xs = tabulate p (λ i. itemOf (i % o)) in
     let ys = tabulate p (λ i. itemOf (i / o)) in
-    let f = put-both ws 576 640 p xs ys x y (length-tabulate p _) (length-tabulate p _) (omega arith) in
+    let f = put-both ws objectRowsAt operationRowsAt p xs ys x y (length-tabulate p _) (length-tabulate p _) (omega arith) in
     rw (e, f, add-one, tabulate-more p (λ i. itemOf (i % o)), tabulate-more p (λ i. itemOf (i / o)), ← ex, ← ey)

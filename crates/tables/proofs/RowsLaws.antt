@@ -10,6 +10,7 @@ use Rattle.words.specs.Words.{itemOf}
 use Rattle.tables.specs.declared.Step.the-variants.{Took}
 use Rattle.tables.specs.Reading.{Bytes, Taken, Reader, stop, took, next, rows, Session}
 use Rattle.tables.specs.code.Reads.{Reads, takes, Is, IsSession, put, RowsAt, SessionsAt}
+use Rattle.tables.specs.Layout.{room, sessionUsersAt, sessionRolesAt}
 use Rattle.tables.proofs.ReadLaws.{Got}
 use Rattle.tables.proofs.PutLaws.{length-put, put-more, put-both}
 
@@ -101,7 +102,7 @@ module _ (row : Reader ℕ) (n : ℕ) where
 -- The same of sessions, in two lists.
 pub record StoringTwo (row : Reader Session) (n : ℕ) (b s : Bytes) (old new : List ℕ) (from i : ℕ) : Type 0 where
   pub along : Along row n b s from i
-  pub words : new ≡ put (put old 192 (map itemOf (map (λ s. s .user) (along .done)))) 256 (map (λ s. s .active) (along .done))
+  pub words : new ≡ put (put old sessionUsersAt (map itemOf (map (λ s. s .user) (along .done)))) sessionRolesAt (map (λ s. s .active) (along .done))
   pub long : length new ≡ length old
 
 map-more : {A B : Type 0} (f : A → B) (xs : List A) (x : A) → map f (xs ++ (x ∷ [])) ≡ map f xs ++ (f x ∷ [])
@@ -114,8 +115,8 @@ module _ (row : Reader Session) (n : ℕ) where
   sessions-none s at old h = record { along = along-none row n s at h; words = refl; long = refl }
 
   module _ {b s : Bytes} {old new : List ℕ} {from i : ℕ} (g : StoringTwo row n b s old new from i) where
-    pub sessions-more : {users u v m : ℕ} → i < n → n ≤ 64 → u ≡ itemOf (getD s from 0)
-        → Got s (IsSession s from users) v m (row (drop from s)) → StoringTwo row n b s old (set (set new (192 + i) u) (256 + i) v) m (i + 1)
+    pub sessions-more : {users u v m : ℕ} → i < n → n ≤ room → u ≡ itemOf (getD s from 0)
+        → Got s (IsSession s from users) v m (row (drop from s)) → StoringTwo row n b s old (set (set new (sessionUsersAt + i) u) (sessionRolesAt + i) v) m (i + 1)
     unfolding along-more
     sessions-more {users} {u} {v} {m} l h q r =
         let a = g .along in
@@ -125,15 +126,15 @@ module _ (row : Reader Session) (n : ℕ) where
         let vs = map (λ s. s .active) d in
         let lu : length us ≡ i = length-map (map (λ s. s .user) d) itemOf ∙ length-map d (λ s. s .user) ∙ a .size in
         let lv : length vs ≡ i = length-map d (λ s. s .active) ∙ a .size in
-        let e : set (set new (192 + i) u) (256 + i) v ≡ put (put old 192 (us ++ (u ∷ []))) 256 (vs ++ (v ∷ [])) =
-        rw (g .words) (put-both old 192 256 i us vs u v lu lv (omega arith)) in
+        let e : set (set new (sessionUsersAt + i) u) (sessionRolesAt + i) v ≡ put (put old sessionUsersAt (us ++ (u ∷ []))) sessionRolesAt (vs ++ (v ∷ [])) =
+        rw (g .words) (put-both old sessionUsersAt sessionRolesAt i us vs u v lu lv (omega arith)) in
         let eu : map itemOf (map (λ s. s .user) (d ++ (x ∷ []))) ≡ us ++ (u ∷ []) =
         rw (map-more (λ s. s .user) d x, map-more itemOf (map (λ s. s .user) d) (x .user), q, r .holds .user) in
         let ev : map (λ s. s .active) (d ++ (x ∷ [])) ≡ vs ++ (v ∷ []) = rw (map-more (λ s. s .active) d x, r .holds .active) in
         record {
           along = along-more row n a l (r .reads) (r .within);
           words = rw (eu, ev) e;
-          long = ap length e ∙ length-put (put old 192 (us ++ (u ∷ []))) 256 (vs ++ (v ∷ [])) ∙ length-put old 192 (us ++ (u ∷ []));
+          long = ap length e ∙ length-put (put old sessionUsersAt (us ++ (u ∷ []))) sessionRolesAt (vs ++ (v ∷ [])) ∙ length-put old sessionUsersAt (us ++ (u ∷ []));
         }
 
     pub sessions-all : n ≤ i → Reads s (SessionsAt old new n) (Took n from) (rows row n b)

@@ -13,6 +13,7 @@ use Rattle.tables.specs.Reading.{Bytes, Reader, stop, next, refuse, byte
 use Rattle.tables.specs.Reading.{markedRow, permissions, Session}
 use Rattle.tables.specs.code.Reads.{Reads, Is, IsCount, RowsAt, SectionAt, SessionsAt, SessionSection}
 use Rattle.tables.specs.code.Reads.{withSection, withSessions}
+use Rattle.tables.specs.Layout.{room, sessionCountAt}
 use Rattle.tables.proofs.ReadLaws.{Got, read-on}
 
 module _ (s : Bytes) (at : ℕ) {A : Type 0} (row : ℕ → Reader A) where
@@ -40,7 +41,7 @@ module _ (s : Bytes) (at product roles : ℕ) where
   permissions-on {v = v} g h x = rw (g .reads, g .holds, eq-eqb v product h) x
 
 -- The count is stored before the rows.
-pub counted : (old : List ℕ) {new : List ℕ} (place to n : ℕ) {xs : List ℕ} {v : ℕ} → n ≤ 64
+pub counted : (old : List ℕ) {new : List ℕ} (place to n : ℕ) {xs : List ℕ} {v : ℕ} → n ≤ room
     → RowsAt (set old place n) new to n xs v → SectionAt old new place to xs v
 unfolding withSection
 counted old place to n h x =
@@ -48,7 +49,7 @@ counted old place to n h x =
     record { count = x .count; few = omega (arith, x .all); words = rw e at (x .words) }
 
 pub counted-sessions : (old : List ℕ) {new : List ℕ} (n : ℕ) {ss : List Session} {v : ℕ}
-    → SessionsAt (set old 2 n) new n ss v → SessionSection old new ss v
+    → SessionsAt (set old sessionCountAt n) new n ss v → SessionSection old new ss v
 unfolding withSessions
 counted-sessions old n x =
     let e = sym (x .all) ∙ x .count in

@@ -12,6 +12,8 @@ use Rattle.tables.specs.Reading.{Bytes, stop, took, next, count, section
 use Rattle.tables.specs.Reading.{wordRow, markedRow, sessionRow, sections, assembled}
 use Rattle.tables.specs.code.Reads.{Reads, stops, takes, IsCount, SectionAt, PermissionsAt, SessionSection, RightsAt, CollectionsAt, Filled}
 use Rattle.tables.specs.code.Reads.{withNames, withRights, withCollections}
+use Rattle.tables.specs.Layout.{roleCountAt, userCountAt, operationCountAt, objectCountAt, crCountAt, cuCountAt, cpCountAt}
+use Rattle.tables.specs.Layout.{roleRowsAt, userRowsAt, crAt, cuAt, cpAt}
 use Rattle.tables.proofs.ReadLaws.{Got}
 
 pub product-few : {a b : ℕ} → a ≤ 8 → b ≤ 8 → a * b ≤ 64
@@ -33,7 +35,7 @@ module _ (s : Bytes) (at roles : ℕ) where
       rights-stop-3 q = rw (f .reads, g .reads, f .holds .is, g .holds .is, q)
 
       pub rights-all : {old w new : List ℕ} {n k : ℕ}
-          → Got s (PermissionsAt (set (set old 3 a) 4 b) w (a * b)) n k (permissions (a * b) roles (drop j s))
+          → Got s (PermissionsAt (set (set old operationCountAt a) objectCountAt b) w (a * b)) n k (permissions (a * b) roles (drop j s))
           → new ≡ withNames w n b → Reads s (RightsAt old new) (Took n k) (rights roles (drop at s))
       unfolding rights next withRights
       rights-all {old} {w} {new} {n} {k} h e =
@@ -48,13 +50,13 @@ module _ (s : Bytes) (at r u p : ℕ) where
   unfolding collections next
   collections-stop q = rw q
 
-  module _ {old w₁ : List ℕ} {v i : ℕ} (f : Got s (SectionAt old w₁ 6 384) v i (section (λ _. wordRow r) (drop at s))) where
+  module _ {old w₁ : List ℕ} {v i : ℕ} (f : Got s (SectionAt old w₁ crCountAt crAt) v i (section (λ _. wordRow r) (drop at s))) where
     pub collections-stop-2 : {e : Refusal} → section (λ _. wordRow u) (drop i s) ≡ stop e → collections r u p (drop at s) ≡ stop e
     unfolding collections next
     collections-stop-2 q = rw (f .reads, q)
 
-    module _ {w₂ : List ℕ} {v′ j : ℕ} (g : Got s (SectionAt w₁ w₂ 7 448) v′ j (section (λ _. wordRow u) (drop i s))) where
-      pub collections-all : {new : List ℕ} {c : Step} → Reads s (SectionAt w₂ new 8 512) c (section (λ _. wordRow p) (drop j s))
+    module _ {w₂ : List ℕ} {v′ j : ℕ} (g : Got s (SectionAt w₁ w₂ cuCountAt cuAt) v′ j (section (λ _. wordRow u) (drop i s))) where
+      pub collections-all : {new : List ℕ} {c : Step} → Reads s (SectionAt w₂ new cpCountAt cpAt) c (section (λ _. wordRow p) (drop j s))
           → Reads s (CollectionsAt old new) c (collections r u p (drop at s))
       unfolding collections next withCollections
       collections-all (stops {e = e} q) =
@@ -71,12 +73,12 @@ module _ (s : Bytes) where
   unfolding sections next
   sections-stop q = rw q
 
-  module _ {old w₁ : List ℕ} {r i : ℕ} (f : Got s (SectionAt old w₁ 0 64) r i (section (λ n. wordRow n) s)) where
+  module _ {old w₁ : List ℕ} {r i : ℕ} (f : Got s (SectionAt old w₁ roleCountAt roleRowsAt) r i (section (λ n. wordRow n) s)) where
     pub sections-stop-2 : {e : Refusal} → section (λ _. markedRow r) (drop i s) ≡ stop e → sections s ≡ stop e
     unfolding sections next
     sections-stop-2 q = rw (f .reads, ← f .holds .count, q)
 
-    module _ {w₂ : List ℕ} {u j : ℕ} (g : Got s (SectionAt w₁ w₂ 1 128) u j (section (λ _. markedRow r) (drop i s))) where
+    module _ {w₂ : List ℕ} {u j : ℕ} (g : Got s (SectionAt w₁ w₂ userCountAt userRowsAt) u j (section (λ _. markedRow r) (drop i s))) where
       pub sections-stop-3 : {e : Refusal} → section (λ _. sessionRow u r) (drop j s) ≡ stop e → sections s ≡ stop e
       unfolding sections next
       sections-stop-3 q = rw (f .reads, ← f .holds .count, g .reads, ← g .holds .count, q)

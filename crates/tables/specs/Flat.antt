@@ -1,11 +1,11 @@
--- The accepted tables as one list of 704 words, in which the code holds them: eleven sections of 64 words each. Internal.
+-- The accepted tables as one list of words, in which the code holds them. Internal.
 -- Assumes nothing.
 use mathlib.Core.List.{List, [], _∷_, _++_, map}
 use Prim.Native.Nat.{ℕ, zero, suc, _/_, _%_}
-use lib.ListN.{length}
+use lib.ListN.{length, getD}
 use Rattle.words.specs.Words.{itemOf}
 use Rattle.tables.specs.Tables.{Tables}
-pub use Rattle.tables.specs.Accepted.{Fits}
+use Rattle.tables.specs.Layout.{room}
 
 -- The first n of the words and of zeros after them.
 unfoldable pub padded : ℕ → List ℕ → List ℕ
@@ -32,16 +32,20 @@ objectRows T = tabulate (length (T .permissionRows)) (λ p. itemOf (p % T .objec
 unfoldable pub operationRows : Tables → List ℕ
 operationRows T = tabulate (length (T .permissionRows)) (λ p. itemOf (p / T .objectCount))
 
--- The sections in their order; section k starts at word 64 × k. Section 3 has of each session its user, as a word of one item.
+-- The sections in their order; section k starts at word room × k. Section 3 has of each session its user, as a word of one item.
 unfoldable pub sections : Tables → List (List ℕ)
 sections T =
     counts T ∷ T .roleRows ∷ T .userRows ∷ map itemOf (T .sessionUsers) ∷ T .sessionRows ∷ T .permissionRows
     ∷ T .cr ∷ T .cu ∷ T .cp ∷ objectRows T ∷ operationRows T ∷ []
 
--- Sections one after another, 64 words each.
+-- The section that begins at a word.
+abbrev pub sectionAt : Tables → ℕ → List ℕ
+sectionAt T at = getD (sections T) (at / room) []
+
+-- Sections one after another, each with room for 64 words.
 unfoldable pub laid : List (List ℕ) → List ℕ
 laid [] = []
-laid (s ∷ ss) = padded 64 s ++ laid ss
+laid (s ∷ ss) = padded room s ++ laid ss
 
 unfoldable pub flat : Tables → List ℕ
 flat T = laid (sections T)

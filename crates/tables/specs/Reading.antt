@@ -12,6 +12,7 @@ use Rattle.tables.specs.declared.Outcome.{Outcome}
 use Rattle.tables.specs.declared.Outcome.the-variants.{Refused, Accepted}
 use Rattle.tables.specs.Tables.{Tables}
 use Rattle.tables.specs.Checks.{late}
+use Rattle.tables.specs.Layout.{wholeLength}
 use Rattle.tables.specs.Flat.{flat}
 unfoldable pub use Rattle.tables.specs.Bytes.{Bytes, wordFrom}
 
@@ -205,5 +206,5 @@ readingNumber (rejected e) = numberOf e
 readingNumber (taken T) = 0
 
 abbrev pub wordsOf : Reading → List ℕ
-wordsOf (rejected e) = replicate 704 0
+wordsOf (rejected e) = replicate wholeLength 0
 wordsOf (taken T) = flat T

@@ -7,8 +7,10 @@ ghost use Rattle.tables.specs.Checks.{ranked as rankedOf, inReach as inR
 ghost use Rattle.tables.specs.code.Reads.{rankAt, reaching, newAt, CountsFit};
 ghost use Rattle.tables.specs.Tables.{Tables};
 ghost use Rattle.tables.specs.Accepted.{Fits, Below, Bounded};
+ghost use Rattle.tables.specs.Layout.{room, wholeLength, Whole};
 ghost use Rattle.tables.specs.Flat.{flat};
 use crate::Outcome;
+use crate::layout;
 use answers::Refusal;
 use words::contains;
 use words::image;
@@ -92,7 +94,7 @@ pub fn apart(words: &[u64]) -> bool
 
 // n words from word `from` on.
 pub fn part(words: &[u64], from: usize, n: usize) -> &[u64]
-    requires { ⌜ (length (now words) ≡ 704) × ((from ≤ 640) × (n ≤ 64)) ⌝ }
+    requires { ⌜ (Whole (now words)) × ((from + room ≤ wholeLength) × (n ≤ room)) ⌝ }
     ensures { λ r. ⌜ now r ≡ take n (drop from (now (words .entry))) ⌝ }
 {
     let end = from + n;
@@ -104,11 +106,11 @@ pub fn reaches(words: &[u64]) -> bool
     requires { ⌜ CountsFit (now words) ⌝ }
     ensures { λ b. ⌜ ((T : Tables) → Fits T → Bounded T → now (words .entry) ≡ flat T → b ≡ inReachOf T) ⌝ }
 {
-    let users = words[1] as usize;
-    let sessions = words[2] as usize;
-    let assigned = part(words, 128, users);
-    let theirs = part(words, 192, sessions);
-    let active = part(words, 256, sessions);
+    let users = words[layout::USER_COUNT] as usize;
+    let sessions = words[layout::SESSION_COUNT] as usize;
+    let assigned = part(words, layout::USER_ROWS, users);
+    let theirs = part(words, layout::SESSION_USERS, sessions);
+    let active = part(words, layout::SESSION_ROLES, sessions);
     in_reach(assigned, theirs, active)
 }
 
@@ -117,13 +119,13 @@ pub fn collections_apart(words: &[u64]) -> bool
     requires { ⌜ CountsFit (now words) ⌝ }
     ensures { λ b. ⌜ ((T : Tables) → Fits T → now (words .entry) ≡ flat T → b ≡ noTwin T) ⌝ }
 {
-    if !apart(part(words, 384, words[6] as usize)) {
+    if !apart(part(words, layout::CR, words[layout::CR_COUNT] as usize)) {
         return false;
     }
-    if !apart(part(words, 448, words[7] as usize)) {
+    if !apart(part(words, layout::CU, words[layout::CU_COUNT] as usize)) {
         return false;
     }
-    apart(part(words, 512, words[8] as usize))
+    apart(part(words, layout::CP, words[layout::CP_COUNT] as usize))
 }
 
 // The checks 7, 8 and 9, in that order.
@@ -131,7 +133,7 @@ pub fn checked(words: &[u64]) -> Outcome
     requires { ⌜ CountsFit (now words) ⌝ }
     ensures { λ r. ⌜ ((T : Tables) → Fits T → Bounded T → now (words .entry) ≡ flat T → r ≡ late T) ⌝ }
 {
-    if !ranked(part(words, 64, words[0] as usize)) {
+    if !ranked(part(words, layout::ROLE_ROWS, words[layout::ROLE_COUNT] as usize)) {
         return Outcome::Refused(Refusal::Rank);
     }
     if !reaches(words) {

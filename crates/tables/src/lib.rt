@@ -4,12 +4,15 @@ ghost use mathlib.Core.Path.{_≡_};
 ghost use lib.ListN.{replicate};
 ghost use Rattle.tables.specs.declared.Outcome.the-variants.{Accepted as AcceptedOutcome};
 ghost use Rattle.tables.specs.Reading.{tablesOf, outcomeNumber, readingNumber, wordsOf};
+ghost use Rattle.tables.specs.Layout.{wholeLength};
 ghost use Rattle.tables.specs.code.Reads.{readingOutcome};
 use crate::checks::checked;
+use crate::layout::WHOLE;
 use crate::sections::sections;
 use answers::Refusal;
 
 mod checks;
+pub mod layout;
 mod rows;
 mod sections;
 
@@ -20,7 +23,7 @@ pub enum Outcome {
 
 pub struct Loaded {
     pub outcome: Outcome,
-    pub words: [u64; 704],
+    pub words: [u64; WHOLE],
 }
 
 // What reading a count, a row or a section gives: the refusal met, or a value and where the next byte stands.
@@ -31,7 +34,7 @@ pub enum Step {
 
 // Reads the tables into words that are all 0.
 fn load(bytes: &[u8], words: &mut [u64]) -> Outcome
-    requires { ⌜ now words ≡ replicate 704 0 ⌝ }
+    requires { ⌜ now words ≡ replicate wholeLength 0 ⌝ }
     ensures { λ r. ⌜ r ≡ readingOutcome (tablesOf (now (bytes .entry))) ⌝ }
     ensures { λ r. ⌜ (r ≡ AcceptedOutcome → now (words .exit) ≡ wordsOf (tablesOf (now (bytes .entry)))) ⌝ }
 {
@@ -52,12 +55,12 @@ pub fn read(bytes: &[u8]) -> Loaded
     ensures { λ r. ⌜ outcomeNumber (r .outcome) ≡ readingNumber (tablesOf (now (bytes .entry))) ⌝ }
     ensures { λ r. ⌜ r .words ≡ wordsOf (tablesOf (now (bytes .entry))) ⌝ }
 {
-    let mut words = [0u64; 704];
+    let mut words = [0u64; WHOLE];
     let outcome = load(bytes, &mut words);
     let Outcome::Accepted = outcome else {
         return Loaded {
             outcome,
-            words: [0u64; 704],
+            words: [0u64; WHOLE],
         };
     };
     Loaded { outcome, words }

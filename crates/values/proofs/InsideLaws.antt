@@ -14,8 +14,7 @@ use borrow.Author.Tests.{eqb-true, ltb-true, lt-ltb}
 use Rattle.words.specs.Words.{has, anyTo, allOf}
 use Rattle.words.proofs.WordsLaws.{has-out, has-zero, has-all, word-has, and-true, any-witness}
 use Rattle.tables.specs.Tables.{Tables}
-use Rattle.tables.specs.Flat.{Fits}
-use Rattle.tables.specs.code.Reads.{Below, Bounded}
+use Rattle.tables.specs.Accepted.{Fits, Below, Bounded}
 use Rattle.tables.specs.Functions.{dominates, assigned, active, heldBy, sessionOf, those, someIn, isPermission, userOfSessions, userOfRoles}
 use Rattle.tables.specs.Functions.{rolesOfUsers, rolesOfSessions, rolesOfPermissions, juniorsOfUsers, juniorsOfSessions, seniorsOfPermissions}
 use Rattle.tables.specs.Functions.{sessionsOfUsers, permissionsOfRoles, permissionsOfJuniors, objectsOfPermissions, operationsOn}

@@ -12,8 +12,11 @@ use lib.ListN.{length, getD, List·getD-eq-default}
 use borrow.Author.Tests.{lt-ltb, le-ltb}
 use Rattle.words.specs.Words.{allOf, itemOf}
 use Rattle.tables.specs.Tables.{Tables}
-use Rattle.tables.specs.Flat.{Fits, counts, sections, flat}
-use Rattle.tables.proofs.FlatLaws.{flat-at}
+use Rattle.tables.specs.Accepted.{Fits}
+use Rattle.tables.specs.Layout.{room, roleCountAt, userCountAt, sessionCountAt, operationCountAt, objectCountAt, permissionCountAt}
+use Rattle.tables.specs.Layout.{crCountAt, cuCountAt, cpCountAt, crAt, cuAt, cpAt}
+use Rattle.tables.specs.Flat.{counts, sections, flat}
+use Rattle.tables.proofs.FlatLaws.{flat-at, count-at}
 use Rattle.syntax.specs.code.Nodes.{firstCall}
 use Rattle.rules.specs.Kind.{baseKind}
 use Rattle.rules.specs.code.Numbers.{firstSet, firstCollection, noKind, kindsFit, kindList, kindOf}
@@ -36,7 +39,9 @@ each P (suc n) h k l = ⊎-elim (λ (e : k ≡ n). subst P (sym e) (h .1)) (λ (
 
 -- Where the tables count users, roles, operations, objects, permissions, sessions, and the words of CR, CP, CU.
 abbrev pub countPlaces : List ℕ
-countPlaces = 1 ∷ 0 ∷ 3 ∷ 4 ∷ 5 ∷ 2 ∷ 6 ∷ 8 ∷ 7 ∷ []
+countPlaces =
+    userCountAt ∷ roleCountAt ∷ operationCountAt ∷ objectCountAt ∷ permissionCountAt ∷ sessionCountAt ∷ crCountAt ∷ cpCountAt ∷ cuCountAt
+    ∷ []
 
 pub count-place : (o : ℕ) → o < firstCall → getD countPlaces o 0 < 9
 count-place o h =
@@ -47,18 +52,18 @@ pub base-items : (T : Tables) (o : ℕ) → o < firstCall → allOf (getD (flat 
 unfolding sections counts kindItems sortItems baseKind baseAt
 base-items T o h =
     each (λ o. allOf (getD (flat T) (getD countPlaces o 0) 0) ≡ kindItems T (baseKind (baseAt o))) 9
-    (((((((((tt, at 1 (lit< tt)), at 0 (lit< tt)), at 3 (lit< tt)), at 4 (lit< tt)), at 5 (lit< tt)), at 2 (lit< tt)), at 6 (lit< tt)), at 8 (lit< tt)), at 7 (lit< tt))
+    (((((((((tt, at userCountAt (lit< tt)), at roleCountAt (lit< tt)), at operationCountAt (lit< tt)), at objectCountAt (lit< tt)), at permissionCountAt (lit< tt)), at sessionCountAt (lit< tt)), at crCountAt (lit< tt)), at cpCountAt (lit< tt)), at cuCountAt (lit< tt))
     o h
   where
-    at : (i : ℕ) → i < 64 → allOf (getD (flat T) (64 * 0 + i) 0) ≡ allOf (getD (counts T) i 0)
-    at i l = ap allOf (flat-at T 0 i l)
+    at : (i : ℕ) → i < room → allOf (getD (flat T) i 0) ≡ allOf (getD (counts T) i 0)
+    at i l = ap allOf (count-at T i l)
 
 -- Where the words of CR, CP, CU start.
 abbrev pub collectionPlaces : List ℕ
-collectionPlaces = 384 ∷ 512 ∷ 448 ∷ []
+collectionPlaces = crAt ∷ cpAt ∷ cuAt ∷ []
 
-pub collection-place : (j : ℕ) → j < 3 → getD collectionPlaces j 0 ≤ 512
-collection-place j h = each (λ j. getD collectionPlaces j 0 ≤ 512) 3 (((tt, omega arith), omega arith), omega arith) j h
+pub collection-place : (j : ℕ) → j < 3 → getD collectionPlaces j 0 ≤ cpAt
+collection-place j h = each (λ j. getD collectionPlaces j 0 ≤ cpAt) 3 (((tt, omega arith), omega arith), omega arith) j h
 
 -- The item x of a set is itself;
 pub one-item : (T : Tables) (x k : ℕ) → k < firstCollection → itemOf x ≡ oneValue T (kindOf k) x

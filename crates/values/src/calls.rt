@@ -11,9 +11,10 @@ use syntax::nodes::SESSIONS;
 use syntax::nodes::USER;
 ghost use mathlib.Core.Path.{_≡_};
 ghost use Prim.Native.Nat.{_<_, _≤_};
-ghost use lib.ListN.{length};
 ghost use Rattle.tables.specs.Tables.{Tables};
-ghost use Rattle.tables.specs.Flat.{Fits, flat};
+ghost use Rattle.tables.specs.Accepted.{Fits};
+ghost use Rattle.tables.specs.Layout.{Whole};
+ghost use Rattle.tables.specs.Flat.{flat};
 ghost use Rattle.syntax.specs.Term.{user, roles, roles*};
 ghost use Rattle.rules.specs.code.Numbers.{kindsFit, kindOf};
 ghost use Rattle.values.specs.Values.{callValue, twoValue};
@@ -21,7 +22,7 @@ ghost use Rattle.values.specs.code.Nodes.{fnAt, pairAt};
 ghost use Rattle.syntax.specs.code.Nodes.{firstCall, oeOp, firstPair, memberOp};
 
 fn user(t: &[u64], kind: u8, w: u64) -> u64
-    requires { ⌜ length (now t) ≡ 704 ⌝ }
+    requires { ⌜ Whole (now t) ⌝ }
     ensures { λ r. ⌜ ((T : Tables) → Fits T → now (t .entry) ≡ flat T → kind < kindsFit → r ≡ callValue T user (kindOf kind) w) ⌝ }
 {
     if items::is_sort(kind, kinds::ROLE) {
@@ -32,7 +33,7 @@ fn user(t: &[u64], kind: u8, w: u64) -> u64
 }
 
 fn roles(t: &[u64], kind: u8, w: u64) -> u64
-    requires { ⌜ length (now t) ≡ 704 ⌝ }
+    requires { ⌜ Whole (now t) ⌝ }
     ensures { λ r. ⌜ ((T : Tables) → Fits T → now (t .entry) ≡ flat T → kind < kindsFit → r ≡ callValue T roles (kindOf kind) w) ⌝ }
 {
     if items::is_sort(kind, kinds::USER) {
@@ -46,7 +47,7 @@ fn roles(t: &[u64], kind: u8, w: u64) -> u64
 
 // `roles*`
 fn ranked(t: &[u64], kind: u8, w: u64) -> u64
-    requires { ⌜ length (now t) ≡ 704 ⌝ }
+    requires { ⌜ Whole (now t) ⌝ }
     ensures { λ r. ⌜ ((T : Tables) → Fits T → now (t .entry) ≡ flat T → kind < kindsFit → r ≡ callValue T roles* (kindOf kind) w) ⌝ }
 {
     if items::is_sort(kind, kinds::USER) {
@@ -60,7 +61,7 @@ fn ranked(t: &[u64], kind: u8, w: u64) -> u64
 
 // The function with the number op of a value of that kind.
 pub fn call(t: &[u64], op: u32, kind: u8, w: u64) -> u64
-    requires { ⌜ (length (now t) ≡ 704) × (firstCall ≤ op) × (op < oeOp) ⌝ }
+    requires { ⌜ (Whole (now t)) × (firstCall ≤ op) × (op < oeOp) ⌝ }
     ensures { λ r. ⌜ ((T : Tables) → Fits T → now (t .entry) ≡ flat T → kind < kindsFit → r ≡ callValue T (fnAt op) (kindOf kind) w) ⌝ }
 {
     if op == USER {
@@ -86,7 +87,7 @@ pub fn call(t: &[u64], op: u32, kind: u8, w: u64) -> u64
 
 // A call of two terms, `&` and `+`, of two values.
 pub fn two(t: &[u64], op: u32, v: u64, w: u64) -> u64
-    requires { ⌜ (length (now t) ≡ 704) × (firstPair ≤ op) × (op < memberOp) ⌝ }
+    requires { ⌜ (Whole (now t)) × (firstPair ≤ op) × (op < memberOp) ⌝ }
     ensures { λ r. ⌜ ((T : Tables) → Fits T → now (t .entry) ≡ flat T → r ≡ twoValue T (pairAt op) v w) ⌝ }
 {
     if op == OPERATIONS {

@@ -1,9 +1,11 @@
 // The leaves of an evaluation: all items of a sort, the chosen item, comparisons.
 ghost use mathlib.Core.Path.{_≡_};
 ghost use Prim.Native.Nat.{_<_};
-ghost use lib.ListN.{length, getD};
+ghost use lib.ListN.{getD};
 ghost use Rattle.tables.specs.Tables.{Tables};
-ghost use Rattle.tables.specs.Flat.{Fits, flat};
+ghost use Rattle.tables.specs.Accepted.{Fits};
+ghost use Rattle.tables.specs.Layout.{Whole};
+ghost use Rattle.tables.specs.Flat.{flat};
 ghost use Rattle.rules.specs.Kind.{Sort, baseKind};
 ghost use Rattle.rules.specs.code.Numbers.{firstSet, kindsFit, kindOf};
 ghost use Rattle.values.specs.Items.{kindItems};
@@ -14,16 +16,27 @@ ghost use Rattle.syntax.specs.code.Nodes.{firstCall};
 use rules::kinds::FIRST_COLLECTION;
 use rules::kinds::FIRST_SET;
 use rules::kinds::NO_KIND;
+use tables::layout;
 
 // Where the tables count users, roles, operations, objects, permissions, sessions, and the words of CR, CP, CU.
-const COUNTS: [usize; 9] = [1, 0, 3, 4, 5, 2, 6, 8, 7];
+const COUNTS: [usize; 9] = [
+    layout::USER_COUNT,
+    layout::ROLE_COUNT,
+    layout::OPERATION_COUNT,
+    layout::OBJECT_COUNT,
+    layout::PERMISSION_COUNT,
+    layout::SESSION_COUNT,
+    layout::CR_COUNT,
+    layout::CP_COUNT,
+    layout::CU_COUNT,
+];
 
 // Where the words of CR, CP, CU start.
-const COLLECTIONS: [usize; 3] = [384, 512, 448];
+const COLLECTIONS: [usize; 3] = [layout::CR, layout::CP, layout::CU];
 
 // All items of `U R OP OBJ P S`, all positions of `CR CP CU`.
 pub fn base(t: &[u64], op: usize) -> u64
-    requires { ⌜ (length (now t) ≡ 704) × (op < firstCall) ⌝ }
+    requires { ⌜ (Whole (now t)) × (op < firstCall) ⌝ }
     ensures { λ r. ⌜ ((T : Tables) → now (t .entry) ≡ flat T → r ≡ kindItems T (baseKind (baseAt op))) ⌝ }
 {
     let at = COUNTS[op];
@@ -32,7 +45,7 @@ pub fn base(t: &[u64], op: usize) -> u64
 
 // The item x of a set or a collection of that kind.
 pub fn one(t: &[u64], kind: u8, x: usize) -> u64
-    requires { ⌜ length (now t) ≡ 704 ⌝ }
+    requires { ⌜ Whole (now t) ⌝ }
     ensures { λ r. ⌜ ((T : Tables) → Fits T → now (t .entry) ≡ flat T → kind < kindsFit → r ≡ oneValue T (kindOf kind) x) ⌝ }
 {
     if kind < FIRST_COLLECTION {

@@ -1,6 +1,6 @@
--- `functions::forth` meets its contract: the rest of the words from the section's start has the section's rows.
+-- `functions::image` meets its contract: the rest of the words from the section's start has the section's rows.
 -- Assumes nothing.
-use Prim.Native.Nat.{_*_, _-_}
+use Prim.Native.Nat.{_-_}
 use mathlib.Core.Path.{_∙_}
 use native.Mathlib.Omega.{arith}
 use borrow.Author.Needs.{needs}
@@ -8,9 +8,6 @@ use lib.ListN.{length}
 use Rattle.functions.proofs.SectionLaws.{image-section}
 use Rattle.functions.proofs.image.Statement.{statement}
 use Rattle.functions.proofs.image.Tie as tie
-
-mul-at : tie.Need-mul-at
-mul-at c = search needs
 
 mul-image : tie.Need-mul-image
 mul-image c = search needs
@@ -30,7 +27,8 @@ image-requires c κs = search needs
 returns : tie.Need-returns
 returns c = λ T e.
     let S = c .before .before .before in
-    c .image .ensures ∙ image-section T (S .args .k) (length (S .args .t .now) - 64 * S .args .k) (S .args .w) e (omega (arith, S .pre .0))
+    let A = S .args in
+    c .image .ensures ∙ image-section T (A .at) (length (A .t .now) - A .at) (S .pre .1 .0) (omega (arith, S .pre)) (A .w) e
 
 pub image-spec : {M : Type 1} → statement M
-image-spec = tie.close (tie.spec mul-at mul-image sub-image part-image-start part-image-end image-requires returns)
+image-spec = tie.close (tie.spec mul-image sub-image part-image-start part-image-end image-requires returns)

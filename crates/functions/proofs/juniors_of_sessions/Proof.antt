@@ -1,11 +1,10 @@
 -- `functions::juniors_of_sessions` meets its contract: two steps forth.
 -- Assumes nothing.
 use mathlib.Core.Path.{ap, _∙_}
-use mathlib.Core.List.{[]}
 use borrow.Author.Needs.{needs}
-use lib.ListN.{getD}
 use Rattle.words.specs.Words.{imageOf}
-use Rattle.tables.specs.Flat.{sections}
+use Rattle.tables.specs.Layout.{roleRowsAt}
+use Rattle.tables.specs.Flat.{sectionAt}
 use Rattle.functions.proofs.FunctionsLaws.{juniors-of-sessions}
 use Rattle.functions.proofs.juniors_of_sessions.Statement.{statement}
 use Rattle.functions.proofs.juniors_of_sessions.Tie as tie
@@ -18,7 +17,7 @@ image-requires-2 c κs = search needs
 
 returns : tie.Need-returns
 returns c = λ T fits e.
-    c .image2 .ensures T e ∙ ap (imageOf (getD (sections T) 1 [])) (c .before .image .ensures T e) ∙ juniors-of-sessions T (c .before .before .before .args .w)
+    c .image2 .ensures T e ∙ ap (imageOf (sectionAt T roleRowsAt)) (c .before .image .ensures T e) ∙ juniors-of-sessions T (c .before .before .before .args .w)
 
 pub juniors-of-sessions-spec : {M : Type 1} → statement M
 juniors-of-sessions-spec = tie.close (tie.spec image-requires image-requires-2 returns)

@@ -1,11 +1,10 @@
 -- `functions::permissions_of_juniors` meets its contract: one step forth and one back.
 -- Assumes nothing.
 use mathlib.Core.Path.{ap, _∙_}
-use mathlib.Core.List.{[]}
 use borrow.Author.Needs.{needs}
-use lib.ListN.{getD}
 use Rattle.words.specs.Words.{preimageOf}
-use Rattle.tables.specs.Flat.{sections}
+use Rattle.tables.specs.Layout.{permissionRowsAt}
+use Rattle.tables.specs.Flat.{sectionAt}
 use Rattle.functions.proofs.FunctionsLaws.{permissions-of-juniors, counted-permissions}
 use Rattle.functions.proofs.permissions_of_juniors.Statement.{statement}
 use Rattle.functions.proofs.permissions_of_juniors.Tie as tie
@@ -18,7 +17,7 @@ preimage-requires c κs = search needs
 
 returns : tie.Need-returns
 returns c = λ T fits e.
-    c .preimage .ensures T e (counted-permissions T) ∙ ap (preimageOf (getD (sections T) 5 [])) (c .before .image .ensures T e) ∙ permissions-of-juniors T (c .before .before .before .args .w)
+    c .preimage .ensures T e (counted-permissions T) ∙ ap (preimageOf (sectionAt T permissionRowsAt)) (c .before .image .ensures T e) ∙ permissions-of-juniors T (c .before .before .before .args .w)
 
 pub permissions-of-juniors-spec : {M : Type 1} → statement M
 permissions-of-juniors-spec = tie.close (tie.spec image-requires preimage-requires returns)

@@ -1,6 +1,6 @@
--- `functions::back` meets its contract: as many words from the section's start as its count have the section's rows.
+-- `functions::preimage` meets its contract: as many words from the section's start as its count have the section's rows.
 -- Assumes nothing.
-use Prim.Native.Nat.{ℕ, _*_, _+_, _-_}
+use Prim.Native.Nat.{ℕ, _+_, _-_}
 use mathlib.Core.Path.{_≡_, ap, _∙_}
 use mathlib.Core.List.{List}
 use native.Mathlib.Omega.{arith}
@@ -11,9 +11,6 @@ use Rattle.tables.proofs.FlatLaws.{count-at}
 use Rattle.functions.proofs.SectionLaws.{preimage-section}
 use Rattle.functions.proofs.preimage.Statement.{statement}
 use Rattle.functions.proofs.preimage.Tie as tie
-
-mul-at : tie.Need-mul-at
-mul-at c = search needs
 
 mul-least : tie.Need-mul-least
 mul-least c = search needs
@@ -45,10 +42,11 @@ preimage-requires c κs = search needs
 returns : tie.Need-returns
 returns c = λ T e h.
     let S = c .before .before .before .before .before in
+    let A = S .args in
     let n : ℕ = c .before .before .least .result in
-    let same : getD (S .args .t .now) (S .args .n) 0 ≡ getD (counts T) (S .args .n) 0 =
-    ap (λ (l : List ℕ). getD l (S .args .n) 0) e ∙ count-at T (S .args .n) (omega (arith, S .pre)) in
-    c .preimage .ensures ∙ preimage-section T (S .args .k) ((64 * S .args .k + n) - 64 * S .args .k) (S .args .w) e (omega (arith, c .before .before .least .ensures))
+    let same : getD (A .t .now) (A .count) 0 ≡ getD (counts T) (A .count) 0 =
+    ap (λ (l : List ℕ). getD l (A .count) 0) e ∙ count-at T (A .count) (omega (arith, S .pre)) in
+    c .preimage .ensures ∙ preimage-section T (A .at) (A .at + n - A .at) (S .pre .1 .0) (omega (arith, c .before .before .least .ensures)) (A .w) e
 
 pub preimage-spec : {M : Type 1} → statement M
-preimage-spec = tie.close (tie.spec mul-at mul-least shared-slice-read-least least-requires add-end mul-preimage sub-preimage part-preimage-start part-preimage-end preimage-requires returns)
+preimage-spec = tie.close (tie.spec mul-least shared-slice-read-least least-requires add-end mul-preimage sub-preimage part-preimage-start part-preimage-end preimage-requires returns)

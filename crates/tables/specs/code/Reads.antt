@@ -16,6 +16,9 @@ use Rattle.tables.specs.Tables.{Tables}
 use Rattle.tables.specs.Reading.{Bytes, Taken, stop, took, Session, Rights, Collections, Reading, rejected, taken}
 use Rattle.tables.specs.Functions.{dominates}
 use Rattle.tables.specs.Checks.{allTo}
+use Rattle.tables.specs.Layout.{room, Whole, roleCountAt, userCountAt, sessionCountAt, operationCountAt, objectCountAt, permissionCountAt}
+use Rattle.tables.specs.Layout.{crCountAt, cuCountAt, cpCountAt, roleRowsAt, userRowsAt, sessionUsersAt, sessionRolesAt, permissionRowsAt}
+use Rattle.tables.specs.Layout.{crAt, cuAt, cpAt, objectRowsAt, operationRowsAt}
 use Rattle.tables.specs.Flat.{tabulate}
 unfoldable pub use Rattle.tables.specs.Accepted.{Below}
 pub use Rattle.tables.specs.Accepted.{Bounded}
@@ -56,19 +59,19 @@ withSection ws place to xs = put (set ws place (length xs)) to xs
 
 -- The sessions: their count, their users as words of one item, their active roles.
 unfoldable pub withSessions : List ℕ → List Session → List ℕ
-withSessions ws ss = put (put (set ws 2 (length ss)) 192 (map itemOf (map (λ s. s .user) ss))) 256 (map (λ s. s .active) ss)
+withSessions ws ss = put (put (set ws sessionCountAt (length ss)) sessionUsersAt (map itemOf (map (λ s. s .user) ss))) sessionRolesAt (map (λ s. s .active) ss)
 
 -- Of each permission its object and its operation.
 unfoldable pub withNames : List ℕ → ℕ → ℕ → List ℕ
-withNames ws n objects = put (put ws 576 (tabulate n (λ p. itemOf (p % objects)))) 640 (tabulate n (λ p. itemOf (p / objects)))
+withNames ws n objects = put (put ws objectRowsAt (tabulate n (λ p. itemOf (p % objects)))) operationRowsAt (tabulate n (λ p. itemOf (p / objects)))
 
 unfoldable pub withRights : List ℕ → Rights → List ℕ
 withRights ws q =
-    withNames (withSection (set (set ws 3 (q .operationCount)) 4 (q .objectCount)) 5 320 (q .permissionRows))
+    withNames (withSection (set (set ws operationCountAt (q .operationCount)) objectCountAt (q .objectCount)) permissionCountAt permissionRowsAt (q .permissionRows))
     (length (q .permissionRows)) (q .objectCount)
 
 unfoldable pub withCollections : List ℕ → Collections → List ℕ
-withCollections ws c = withSection (withSection (withSection ws 6 384 (c .cr)) 7 448 (c .cu)) 8 512 (c .cp)
+withCollections ws c = withSection (withSection (withSection ws crCountAt crAt (c .cr)) cuCountAt cuAt (c .cu)) cpCountAt cpAt (c .cp)
 
 -- The code's value is the count of the n rows, and the words are the old ones with the rows in them.
 pub record RowsAt (old new : List ℕ) (to n : ℕ) (xs : List ℕ) (v : ℕ) : Type 0 where
@@ -79,15 +82,15 @@ pub record RowsAt (old new : List ℕ) (to n : ℕ) (xs : List ℕ) (v : ℕ) : 
 pub record SessionsAt (old new : List ℕ) (n : ℕ) (ss : List Session) (v : ℕ) : Type 0 where
   pub count : v ≡ length ss
   pub all : v ≡ n
-  pub words : new ≡ put (put old 192 (map itemOf (map (λ s. s .user) ss))) 256 (map (λ s. s .active) ss)
+  pub words : new ≡ put (put old sessionUsersAt (map itemOf (map (λ s. s .user) ss))) sessionRolesAt (map (λ s. s .active) ss)
 
 pub record SectionAt (old new : List ℕ) (place to : ℕ) (xs : List ℕ) (v : ℕ) : Type 0 where
   pub count : v ≡ length xs
-  pub few : v ≤ 64
+  pub few : v ≤ room
   pub words : new ≡ withSection old place to xs
 
 pub record PermissionsAt (old new : List ℕ) (product : ℕ) (xs : List ℕ) (v : ℕ) : Type 0 where
-  pub section : SectionAt old new 5 320 xs v
+  pub section : SectionAt old new permissionCountAt permissionRowsAt xs v
   pub all : v ≡ product
 
 pub record SessionSection (old new : List ℕ) (ss : List Session) (v : ℕ) : Type 0 where
@@ -95,7 +98,7 @@ pub record SessionSection (old new : List ℕ) (ss : List Session) (v : ℕ) : T
 
 pub record RightsAt (old new : List ℕ) (q : Rights) (v : ℕ) : Type 0 where
   pub count : v ≡ length (q .permissionRows)
-  pub few : v ≤ 64
+  pub few : v ≤ room
   pub words : new ≡ withRights old q
 
 pub record CollectionsAt (old new : List ℕ) (c : Collections) (v : ℕ) : Type 0 where
@@ -107,7 +110,7 @@ pub record Filled (old new : List ℕ) (T : Tables) (v : ℕ) : Type 0 where
   pub users : T .sessionUsers ≡ map (λ s. s .user) sessions
   pub active : T .sessionRows ≡ map (λ s. s .active) sessions
   pub words :
-      new ≡ withCollections (withRights (withSessions (withSection (withSection old 0 64 (T .roleRows)) 1 128 (T .userRows)) sessions)
+      new ≡ withCollections (withRights (withSessions (withSection (withSection old roleCountAt roleRowsAt (T .roleRows)) userCountAt userRowsAt (T .userRows)) sessions)
       (record { operationCount = T .operationCount; objectCount = T .objectCount; permissionRows = T .permissionRows }))
       (record { cr = T .cr; cu = T .cu; cp = T .cp })
 
@@ -128,10 +131,10 @@ newAt ws i = allTo i (λ j. not (eqb (getD ws j 0) (getD ws i 0)))
 
 -- The counts that the code takes parts of the words by.
 pub record CountsFit (ws : List ℕ) : Type 0 where
-  pub long : length ws ≡ 704
-  pub roles : getD ws 0 0 ≤ 64
-  pub users : getD ws 1 0 ≤ 64
-  pub sessions : getD ws 2 0 ≤ 64
-  pub crs : getD ws 6 0 ≤ 64
-  pub cus : getD ws 7 0 ≤ 64
-  pub cps : getD ws 8 0 ≤ 64
+  pub whole : Whole ws
+  pub roles : getD ws roleCountAt 0 ≤ room
+  pub users : getD ws userCountAt 0 ≤ room
+  pub sessions : getD ws sessionCountAt 0 ≤ room
+  pub crs : getD ws crCountAt 0 ≤ room
+  pub cus : getD ws cuCountAt 0 ≤ room
+  pub cps : getD ws cpCountAt 0 ≤ room

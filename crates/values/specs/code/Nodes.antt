@@ -7,7 +7,9 @@ use Prim.Native.Nat.{ℕ, suc, _-_, _<_, _≤_}
 use lib.Dec.{eqb}
 use lib.ListN.{length, getD}
 use Rattle.tables.specs.Tables.{Tables}
-use Rattle.tables.specs.Flat.{Fits, flat}
+use Rattle.tables.specs.Accepted.{Fits}
+use Rattle.tables.specs.Layout.{Whole}
+use Rattle.tables.specs.Flat.{flat}
 use Rattle.syntax.specs.Term.{Base, bU, bR, bOP, bOBJ, bP, bS, bCR, bCP, bCU, Fn, user, roles, roles*, sessions, permissions}
 use Rattle.syntax.specs.Term.{permissions*, object, operations, meet, join, Pair, calls, joins, Term, Choices}
 use Rattle.syntax.specs.Rule.{Cmp, lt, le, gt, ge, eq, ne}
@@ -43,7 +45,7 @@ placeIn k (v ∷ vs) = cond (eqb v k) 0 (suc (placeIn k vs))
 
 -- What a walk over nodes needs to stay within its slices: the tables are whole, node k is one of the first n, which are tidy and have kinds.
 pub record Evaluable (ts ns : List ℕ) (n : ℕ) (ks : List ℕ) (k : ℕ) : Type 0 where
-  pub whole : length ts ≡ 704
+  pub whole : Whole ts
   pub tidy : Tidy ns n
   pub kinded : n ≤ length ks
   pub below : k < n

@@ -4,6 +4,7 @@ use mathlib.Core.Path.{sym, _∙_}
 use native.Mathlib.Omega.{arith}
 use borrow.Author.Tests.{not-true, not-false}
 use Rattle.tables.specs.Checks.{lateChecks, firstFailing}
+use Rattle.tables.specs.Layout.{roleRowsAt}
 use Rattle.tables.proofs.PartLaws.{part-length, rank-part}
 use borrow.Author.Needs.{needs}
 use Rattle.tables.proofs.checks.checked.Statement.{statement}
@@ -19,7 +20,7 @@ ranked-requires : tie.Need-ranked-requires
 ranked-requires c κs =
     let args = c .before .before .before .args in
     let pre = c .before .before .before .pre in
-    omega (arith, part-length (args .words .now) 64 _ (pre .long) (omega arith) (pre .roles) (c .part .ensures), pre .roles)
+    omega (arith, part-length (args .words .now) roleRowsAt _ (pre .whole) (omega arith) (pre .roles) (c .part .ensures), pre .roles)
 
 returns : tie.Need-returns
 unfolding lateChecks firstFailing

@@ -2,6 +2,7 @@
 -- Assumes nothing.
 use mathlib.Core.Path.{sym, _∙_}
 use native.Mathlib.Omega.{arith}
+use Rattle.tables.specs.Layout.{sessionUsersAt, sessionRolesAt}
 use Rattle.tables.proofs.PartLaws.{part-length, reach-part}
 use borrow.Author.Needs.{needs}
 use Rattle.tables.proofs.checks.reaches.Statement.{statement}
@@ -26,8 +27,8 @@ in-reach-requires : tie.Need-in-reach-requires
 in-reach-requires c κs =
     let args = c .before .before .before .before .before .before .args in
     let pre = c .before .before .before .before .before .before .pre in
-    part-length (args .words .now) 192 _ (pre .long) (omega arith) (pre .sessions) (c .before .part2 .ensures)
-    ∙ sym (part-length (args .words .now) 256 _ (pre .long) (omega arith) (pre .sessions) (c .part3 .ensures))
+    part-length (args .words .now) sessionUsersAt _ (pre .whole) (omega arith) (pre .sessions) (c .before .part2 .ensures)
+    ∙ sym (part-length (args .words .now) sessionRolesAt _ (pre .whole) (omega arith) (pre .sessions) (c .part3 .ensures))
 
 returns : tie.Need-returns
 returns c =

@@ -6,12 +6,13 @@ use mathlib.Core.Path.{_≡_, _∙_, sym}
 use native.Mathlib.Omega.{arith}
 use lib.ListN.{length, length-set}
 use Rattle.tables.specs.code.Reads.{withNames}
+use Rattle.tables.specs.Layout.{Whole}
 use Rattle.tables.proofs.PutLaws.{names-none, names-more, names-long}
 use Rattle.tables.proofs.sections.name_permissions.Statement.{statement}
 use Rattle.tables.proofs.sections.name_permissions.Tie as tie
 
 abbrev Inv-loop : tie.InvT-loop
-Inv-loop words₀ n objects p₀ words p = (p ≤ n) × (words ≡ withNames words₀ p objects) × (length words ≡ 704)
+Inv-loop words₀ n objects p₀ words p = (p ≤ n) × (words ≡ withNames words₀ p objects) × (Whole words)
 
 abbrev μ-loop : tie.MeasureT-loop
 μ-loop words₀ n objects p₀ words p = n - p

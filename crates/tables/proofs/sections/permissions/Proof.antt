@@ -3,6 +3,7 @@
 use mathlib.Core.Path.{_∙_}
 use native.Mathlib.Omega.{arith}
 use lib.ListN.{length-set}
+use Rattle.tables.specs.Layout.{permissionCountAt, permissionRowsAt}
 use Rattle.tables.proofs.ReadLaws.{as-took, as-stop, stops-as, reads-as}
 use Rattle.tables.specs.code.Reads.{stops}
 use Rattle.tables.proofs.SectionLaws.{permissions-stop, permissions-wrong, permissions-on, counted}
@@ -59,7 +60,7 @@ returns-3 c =
     let marked-rows = c .before .before .marked-rows in
     let g = as-took (byte .ensures) (read .given .1) in
     permissions-on (args .bytes .now) (args .at) (args .product) (args .roles) g (if1 .left)
-    (reads-as (marked-rows .ensures) (λ xs v x. record { section = counted (args .words .now) 5 320 _ (omega (arith, if1 .left, pre)) x; all = x .all ∙ if1 .left }))
+    (reads-as (marked-rows .ensures) (λ xs v x. record { section = counted (args .words .now) permissionCountAt permissionRowsAt _ (omega (arith, if1 .left, pre)) x; all = x .all ∙ if1 .left }))
 
 pub permissions-spec : {M : Type 1} → statement M
 permissions-spec =

@@ -4,6 +4,7 @@ use mathlib.Core.Path.{_∙_}
 use native.Mathlib.Omega.{arith}
 use lib.ListN.{length-set}
 use Rattle.tables.specs.Reading.{markedRow}
+use Rattle.tables.specs.Layout.{userCountAt, userRowsAt}
 use Rattle.tables.proofs.ReadLaws.{as-took, as-stop, stops-as, reads-as}
 use Rattle.tables.proofs.SectionLaws.{section-stop, section-on, counted}
 use borrow.Author.Needs.{needs}
@@ -48,7 +49,7 @@ returns-2 c =
     let read = c .before .before .before .before .before .read in
     let marked-rows = c .before .before .marked-rows in
     let g = as-took (count .ensures) (read .given .1) in
-    section-on (args .bytes .now) (args .at) (λ n. markedRow (args .roles)) g (reads-as (marked-rows .ensures) (λ xs v x. counted (args .words .now) 1 128 _ (g .holds .few) x))
+    section-on (args .bytes .now) (args .at) (λ n. markedRow (args .roles)) g (reads-as (marked-rows .ensures) (λ xs v x. counted (args .words .now) userCountAt userRowsAt _ (g .holds .few) x))
 
 pub users-spec : {M : Type 1} → statement M
 users-spec =

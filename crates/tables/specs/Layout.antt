@@ -1,0 +1,80 @@
+-- The layout of the flat tables: eleven sections of 64 words each. Nothing else spells one of these numbers.
+-- Assumes nothing.
+use mathlib.Core.Path.{_≡_}
+use mathlib.Core.List.{List}
+use Prim.Native.Nat.{ℕ, _*_, _%_, _<_}
+use lib.ListN.{length}
+
+-- The words of a section, and of all.
+abbrev pub room : ℕ
+room = 64
+
+abbrev pub wholeLength : ℕ
+wholeLength = 704
+
+-- These words are whole tables.
+abbrev pub Whole : List ℕ → Type 0
+Whole ws = length ws ≡ wholeLength
+
+-- A section begins at this word.
+abbrev pub Begins : ℕ → Type 0
+Begins at = (at % room ≡ 0) × (at < wholeLength)
+
+-- The first section has the counts, in the sections' order of document 01.
+abbrev pub roleCountAt : ℕ
+roleCountAt = 0
+
+abbrev pub userCountAt : ℕ
+userCountAt = 1
+
+abbrev pub sessionCountAt : ℕ
+sessionCountAt = 2
+
+abbrev pub operationCountAt : ℕ
+operationCountAt = 3
+
+abbrev pub objectCountAt : ℕ
+objectCountAt = 4
+
+abbrev pub permissionCountAt : ℕ
+permissionCountAt = 5
+
+abbrev pub crCountAt : ℕ
+crCountAt = 6
+
+abbrev pub cuCountAt : ℕ
+cuCountAt = 7
+
+abbrev pub cpCountAt : ℕ
+cpCountAt = 8
+
+-- Where the others begin.
+abbrev pub roleRowsAt : ℕ
+roleRowsAt = room * 1
+
+abbrev pub userRowsAt : ℕ
+userRowsAt = room * 2
+
+abbrev pub sessionUsersAt : ℕ
+sessionUsersAt = room * 3
+
+abbrev pub sessionRolesAt : ℕ
+sessionRolesAt = room * 4
+
+abbrev pub permissionRowsAt : ℕ
+permissionRowsAt = room * 5
+
+abbrev pub crAt : ℕ
+crAt = room * 6
+
+abbrev pub cuAt : ℕ
+cuAt = room * 7
+
+abbrev pub cpAt : ℕ
+cpAt = room * 8
+
+abbrev pub objectRowsAt : ℕ
+objectRowsAt = room * 9
+
+abbrev pub operationRowsAt : ℕ
+operationRowsAt = room * 10

@@ -1,0 +1,46 @@
+// The layout of the flat tables: eleven sections of 64 words each. Nothing else spells one of these numbers.
+
+// The words of a section, and of all.
+pub const ROOM: usize = 64;
+
+pub const WHOLE: usize = ROOM * 11;
+
+// The first section has the counts, in the sections' order of document 01.
+pub const ROLE_COUNT: usize = 0;
+
+pub const USER_COUNT: usize = 1;
+
+pub const SESSION_COUNT: usize = 2;
+
+pub const OPERATION_COUNT: usize = 3;
+
+pub const OBJECT_COUNT: usize = 4;
+
+pub const PERMISSION_COUNT: usize = 5;
+
+pub const CR_COUNT: usize = 6;
+
+pub const CU_COUNT: usize = 7;
+
+pub const CP_COUNT: usize = 8;
+
+// Where the others begin.
+pub const ROLE_ROWS: usize = ROOM;
+
+pub const USER_ROWS: usize = ROOM * 2;
+
+pub const SESSION_USERS: usize = ROOM * 3;
+
+pub const SESSION_ROLES: usize = ROOM * 4;
+
+pub const PERMISSION_ROWS: usize = ROOM * 5;
+
+pub const CR: usize = ROOM * 6;
+
+pub const CU: usize = ROOM * 7;
+
+pub const CP: usize = ROOM * 8;
+
+pub const OBJECT_ROWS: usize = ROOM * 9;
+
+pub const OPERATION_ROWS: usize = ROOM * 10;
