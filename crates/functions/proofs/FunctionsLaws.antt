@@ -13,7 +13,7 @@ use lib.ListN.{length, getD, length-map, List·getD-eq-default}
 use Rattle.words.specs.Words.{has, anyTo, itemOf, meetOf, imageOf, preimageOf}
 use Rattle.words.proofs.WordsLaws.{word-ext, both, and-true, and-both, any-here, any-witness, any-ext, has-zero, has-item, has-meet}
 use Rattle.words.proofs.RelationLaws.{reach, reach-ext, image-reach, preimage-reach, image-image, preimage-image, has-preimage}
-use Rattle.tables.specs.Tables.{Tables}
+use Rattle.tables.specs.Tables.{Tables, sessionUsers, sessionRoles}
 use Rattle.tables.specs.Accepted.{Fits}
 use Rattle.tables.specs.Layout.{roleCountAt, userCountAt, sessionCountAt, permissionCountAt, roleRowsAt, userRowsAt, sessionUsersAt, sessionRolesAt}
 use Rattle.tables.specs.Layout.{permissionRowsAt, objectRowsAt, operationRowsAt}
@@ -39,10 +39,11 @@ row-is rows n i x y l long within = go (ltb i n) refl
         let h : length rows ≤ i = omega arith in
         ap (λ (w : ℕ). has w x) (List·getD-eq-default rows 0 h) ∙ has-zero x
 
-session-row : (T : Tables) (s u : ℕ) → u < 64 → has (getD (map itemOf (T .sessionUsers)) s 0) u ≡ sessionOf T s u
+session-row : (T : Tables) (s u : ℕ) → u < 64 → has (getD (map itemOf (sessionUsers T)) s 0) u ≡ sessionOf T s u
 session-row T s u l =
-    row-is (map itemOf (T .sessionUsers)) (length (T .sessionUsers)) s u (getD (T .sessionUsers) s 0) l (length-map (T .sessionUsers) itemOf) (λ h.
-    map-at itemOf (T .sessionUsers) s h)
+    let n = length-map (T .sessions) (λ s. s .user) in
+    row-is (map itemOf (sessionUsers T)) (length (T .sessions)) s u (getD (sessionUsers T) s 0) l (length-map (sessionUsers T) itemOf ∙ n) (λ h.
+    map-at itemOf (sessionUsers T) s (omega (arith, n)))
 
 object-row : (T : Tables) (p b : ℕ) → b < 64 → has (getD (objectRows T) p 0) b ≡ (ltb p (length (T .permissionRows)) && eqb (p % T .objectCount) b)
 unfolding objectRows
@@ -128,7 +129,7 @@ counted-users T = refl
 
 pub counted-sessions : (T : Tables) → getD (counts T) sessionCountAt 0 ≡ length (sectionAt T sessionUsersAt)
 unfolding counts sections
-counted-sessions T = sym (length-map (T .sessionUsers) itemOf)
+counted-sessions T = sym (length-map (sessionUsers T) itemOf ∙ length-map (T .sessions) (λ s. s .user))
 
 pub counted-permissions : (T : Tables) → getD (counts T) permissionCountAt 0 ≡ length (sectionAt T permissionRowsAt)
 unfolding counts sections
@@ -143,14 +144,14 @@ counted-objects T = sym (length-tabulate (length (T .permissionRows)) (λ p. ite
 pub user-of-sessions : (T : Tables) (w : ℕ) → imageOf (sectionAt T sessionUsersAt) w ≡ userOfSessions T w
 unfolding sections userOfSessions reach
 user-of-sessions T w =
-    image-reach (map itemOf (T .sessionUsers)) w
-    ∙ reach-ext (λ s u. has (getD (map itemOf (T .sessionUsers)) s 0) u) (sessionOf T) w (λ s u _ l. session-row T s u l)
+    image-reach (map itemOf (sessionUsers T)) w
+    ∙ reach-ext (λ s u. has (getD (map itemOf (sessionUsers T)) s 0) u) (sessionOf T) w (λ s u _ l. session-row T s u l)
 
 pub sessions-of-users : (T : Tables) (w : ℕ) → preimageOf (sectionAt T sessionUsersAt) w ≡ sessionsOfUsers T w
 unfolding sections sessionsOfUsers reach
 sessions-of-users T w =
-    preimage-reach (map itemOf (T .sessionUsers)) w
-    ∙ reach-ext (λ u s. has (getD (map itemOf (T .sessionUsers)) s 0) u) (λ u s. sessionOf T s u) w (λ u s l _. session-row T s u l)
+    preimage-reach (map itemOf (sessionUsers T)) w
+    ∙ reach-ext (λ u s. has (getD (map itemOf (sessionUsers T)) s 0) u) (λ u s. sessionOf T s u) w (λ u s l _. session-row T s u l)
 
 pub user-of-roles : (T : Tables) (w : ℕ) → preimageOf (sectionAt T userRowsAt) w ≡ userOfRoles T w
 unfolding sections userOfRoles reach
@@ -162,7 +163,7 @@ roles-of-users T w = image-reach (T .userRows) w
 
 pub roles-of-sessions : (T : Tables) (w : ℕ) → imageOf (sectionAt T sessionRolesAt) w ≡ rolesOfSessions T w
 unfolding sections rolesOfSessions reach
-roles-of-sessions T w = image-reach (T .sessionRows) w
+roles-of-sessions T w = image-reach (sessionRoles T) w
 
 pub roles-of-permissions : (T : Tables) (w : ℕ) → imageOf (sectionAt T permissionRowsAt) w ≡ rolesOfPermissions T w
 unfolding sections rolesOfPermissions reach
@@ -186,7 +187,7 @@ juniors-of-users T w = image-image (T .userRows) (T .roleRows) w
 
 pub juniors-of-sessions : (T : Tables) (w : ℕ) → imageOf (sectionAt T roleRowsAt) (imageOf (sectionAt T sessionRolesAt) w) ≡ juniorsOfSessions T w
 unfolding sections juniorsOfSessions reach
-juniors-of-sessions T w = image-image (T .sessionRows) (T .roleRows) w
+juniors-of-sessions T w = image-image (sessionRoles T) (T .roleRows) w
 
 pub seniors-of-permissions : (T : Tables) (w : ℕ)
     → preimageOf (sectionAt T roleRowsAt) (imageOf (sectionAt T permissionRowsAt) w) ≡ seniorsOfPermissions T w

@@ -9,13 +9,14 @@ use lib.Dec.{eqb}
 use lib.ListN.{length, getD}
 use Rattle.words.specs.Words.{has, anyTo, itemOf, joinOf}
 use Rattle.words.proofs.WordsLaws.{word-ext, word-in, both, and-true, and-both, any-here, any-witness, any-ext, has-item, has-join}
-use Rattle.tables.specs.Tables.{Tables}
+use Rattle.tables.specs.Tables.{Tables, sessionUsers}
 use Rattle.tables.specs.Accepted.{Sound}
 use Rattle.tables.specs.Functions.{dominates, assigned, active, heldBy, sessionOf, isPermission, those, someIn}
 use Rattle.tables.specs.Functions.{userOfSessions, userOfRoles, rolesOfUsers, rolesOfSessions, rolesOfPermissions}
 use Rattle.tables.specs.Functions.{juniorsOfUsers, juniorsOfSessions, seniorsOfPermissions, sessionsOfUsers}
 use Rattle.tables.specs.Functions.{permissionsOfRoles, permissionsOfJuniors, objectsOfPermissions, operationsOn}
 use Rattle.functions.specs.Union.{Unites}
+use Rattle.tables.proofs.FitsLaws.{users-below}
 use Rattle.functions.proofs.FunctionsLaws.{eqb-comm}
 
 -- Some item of a union is an item of the one or of the other.
@@ -128,16 +129,16 @@ module _ (T : Tables) where
   operations-on o = unites (λ a r. someIn o (λ b. anyTo 64 (λ p. isPermission T p a b && heldBy T p r)))
 
 -- `user`: "of a session its user (one element)", who is in the tables.
-pub user-of-one : (T : Tables) → Sound T → (s : ℕ) → s < length (T .sessionUsers)
-    → (userOfSessions T (itemOf s) ≡ itemOf (getD (T .sessionUsers) s 0)) × (getD (T .sessionUsers) s 0 < length (T .userRows))
+pub user-of-one : (T : Tables) → Sound T → (s : ℕ) → s < length (T .sessions)
+    → (userOfSessions T (itemOf s) ≡ itemOf (getD (sessionUsers T) s 0)) × (getD (sessionUsers T) s 0 < length (T .userRows))
 unfolding userOfSessions itemOf
-user-of-one T sound s l = (word-ext 64 (λ u. someIn (itemOf s) (λ s. sessionOf T s u)) (λ u. eqb u user) is, sound .bounded .numbers s l)
+user-of-one T sound s l = (word-ext 64 (λ u. someIn (itemOf s) (λ s. sessionOf T s u)) (λ u. eqb u user) is, users-below _ _ (T .sessions) (sound .bounded .sessions) s l)
   where
     user : ℕ
-    user = getD (T .sessionUsers) s 0
+    user = getD (sessionUsers T) s 0
 
     is : (u : ℕ) → u < 64 → someIn (itemOf s) (λ s. sessionOf T s u) ≡ eqb u user
     is u k =
-        some-item s (λ s. sessionOf T s u) (omega (arith, sound .fits .sessionsUsers))
-        ∙ ap (λ (b : Bool). b && eqb user u) (lt-ltb s (length (T .sessionUsers)) l)
+        some-item s (λ s. sessionOf T s u) (omega (arith, sound .fits .sessions))
+        ∙ ap (λ (b : Bool). b && eqb user u) (lt-ltb s (length (T .sessions)) l)
         ∙ eqb-comm user u

@@ -70,8 +70,7 @@ abbrev tablesT : Tables
 tablesT = record {
   roleRows = 1 ∷ 2 ∷ [];
   userRows = 3 ∷ 1 ∷ [];
-  sessionUsers = [];
-  sessionRows = [];
+  sessions = [];
   operationCount = 0;
   objectCount = 0;
   permissionRows = [];

@@ -6,17 +6,18 @@ use mathlib.Core.List.{List, map}
 use Prim.Native.Nat.{ℕ, zero, suc, _≤_, _<_, _^_}
 use native.Mathlib.Omega.{arith}
 use lib.Dec.{eqb, ltb}
-use lib.ListN.{length, getD}
+use lib.ListN.{length, getD, length-map}
 use borrow.Author.Tests.{ltb-true, ltb-false, eqb-true, eq-eqb, ne-eqb, not-true}
 use Rattle.words.specs.Words.{has, itemOf, lessOf, imageOf, anyTo}
 use Rattle.words.proofs.WordsLaws.{word-none, has-zero, has-out, has-in, has-less, has-item, both, and-true, and-both, any-here, any-witness}
 use Rattle.words.proofs.RelationLaws.{has-image}
-use Rattle.tables.specs.Tables.{Tables}
-use Rattle.tables.specs.Functions.{dominates}
+use Rattle.tables.specs.Tables.{Tables, sessionUsers, sessionRoles}
+use Rattle.tables.specs.Functions.{dominates, active}
 use Rattle.tables.specs.Checks.{allTo, implies, reflexive, transitive, antisymmetric, ranked, inReach}
 use Rattle.tables.specs.Accepted.{Fits, Below, Bounded}
 use Rattle.tables.specs.code.Reads.{belowAt, rankAt, reaching}
 use Rattle.tables.proofs.FlatLaws.{map-at}
+use Rattle.tables.proofs.FitsLaws.{active-below, users-below}
 use Rattle.tables.proofs.AllLaws.{all-every, all-at, all-ext}
 
 -- Nothing of w is left without v exactly where every item of w is one of v.
@@ -215,14 +216,17 @@ image-item rows u x l k = has-image rows (itemOf u) x k ∙ both (anyTo 64 f) (h
     back : has (getD rows u 0) x ≡ true → anyTo 64 f ≡ true
     back e = any-here 64 f u l (and-both (has-item u u l ∙ eq-eqb u u refl) e)
 
-pub reach-words : (T : Tables) → Fits T → Bounded T → reaching (T .userRows) (map itemOf (T .sessionUsers)) (T .sessionRows) ≡ inReach T
+pub reach-words : (T : Tables) → Fits T → Bounded T → reaching (T .userRows) (map itemOf (sessionUsers T)) (sessionRoles T) ≡ inReach T
 unfolding reaching inReach Below
 reach-words T f b =
-    all-ext (length (T .sessionRows)) _ _
+    let R = length (T .roleRows) in
+    let U = length (T .userRows) in
+    let n = length-map (T .sessions) (λ s. s .active) in
+    rw n
+    (all-ext (length (T .sessions)) _ _
     (λ s l.
-    let u = getD (T .sessionUsers) s 0 in
-    let k : s < length (T .sessionUsers) = omega (arith, b .paired) in
-    let n : u < 64 = omega (arith, b .numbers s k, f .users) in
-    rw (map-at itemOf (T .sessionUsers) s k, less-zero (length (T .roleRows)) (getD (T .sessionRows) s 0) (imageOf (T .userRows) (itemOf u)) (f .roles) (b .sessions s))
-    (all-ext (length (T .roleRows)) _ _
-    (λ r h. ap (λ (x : Bool). implies (has (getD (T .sessionRows) s 0) r) x) (image-item (T .userRows) u r n (omega (arith, f .roles))))))
+    let u = getD (sessionUsers T) s 0 in
+    let k : s < length (sessionUsers T) = omega (arith, length-map (T .sessions) (λ s. s .user)) in
+    let m : u < 64 = omega (arith, users-below U R (T .sessions) (b .sessions) s l, f .users) in
+    rw (map-at itemOf (sessionUsers T) s k, less-zero R (getD (sessionRoles T) s 0) (imageOf (T .userRows) (itemOf u)) (f .roles) (active-below U R (T .sessions) (b .sessions) s))
+    (all-ext R _ _ (λ r h. ap (λ (x : Bool). implies (active T s r) x) (image-item (T .userRows) u r m (omega (arith, f .roles)))))))

@@ -8,19 +8,19 @@ use Prim.Native.Nat.{ℕ, zero, suc, _*_, _^_, _≤_, _<_}
 use native.Mathlib.Nat.{pow-le-pow-right}
 use native.Mathlib.Omega.{arith}
 use lib.Dec.{eqb, ltb, leb}
-use lib.ListN.{length, getD, take, drop, length-append, length-drop, length-map, take-append-drop}
+use lib.ListN.{length, getD, take, drop, length-append, length-drop, take-append-drop}
 use lib.Seq.{take-at, drop-at, drop-cons, length-take-le}
 use borrow.Author.Tests.{ltb-false, le-ltb, lt-leb, eq-eqb, eqb-false}
 use Rattle.answers.specs.declared.Refusal.the-variants.{CutShort}
 use Rattle.tables.specs.Tables.{Tables}
 use Rattle.tables.specs.Bytes.{Bytes, AreBytes, wordFrom, lowestFirst}
-use Rattle.tables.specs.Accepted.{Below, Sound, Passes}
+use Rattle.tables.specs.Accepted.{Below, Known, Every, Sound, Passes}
 use Rattle.tables.specs.Reading.{Taken, Reader, stop, took, next, refuse, front, byte, count, wordWithin, wordRow, markedRow, sessionRow}
-use Rattle.tables.specs.Reading.{Session, rows, section, permissions, Rights, rights, Collections, collections, sections, nothingLeft, settle, whole}
+use Rattle.tables.specs.Reading.{rows, section, permissions, Rights, rights, Collections, collections, sections, nothingLeft, settle, whole}
 use Rattle.tables.specs.Reading.{assembled, taken, tablesOf}
-use Rattle.tables.specs.Encode.{wordBytes, markedBytes, sessionBytes, joined, counted, sessionsOf, sectionBytes, encode}
+use Rattle.tables.specs.Encode.{wordBytes, markedBytes, sessionBytes, joined, counted, sectionBytes, encode}
 use Rattle.tables.proofs.BytesLaws.{lowest-length, word-lowest, lowest-word, bytes-behind, bytes-before}
-use Rattle.tables.proofs.FitsLaws.{next-case, refuse-case, count-few, Every, Known, rows-are, sections-sound, accepted-read, accepted-passes}
+use Rattle.tables.proofs.FitsLaws.{next-case, refuse-case, count-few, rows-are, sections-sound, accepted-read, accepted-passes}
 use Rattle.tables.proofs.SectionsLaws.{product-few}
 
 -- The reader m reads back the bytes of each value that has P, and takes no other bytes for it.
@@ -300,38 +300,11 @@ module _ (r u p : ℕ) (lr : r ≤ 64) (lu : u ≤ 64) (lp : p ≤ 64) where
       let f : a ≡ t = cc in
       rw (← d, ← f) (fx ∙ ap (λ (s : Bytes). counted wordBytes x ++ s) (fy ∙ ap (λ (s : Bytes). counted wordBytes y ++ s) fz))
 
--- Sessions as two lists.
-pub sessions-users : (us ws : List ℕ) → length us ≡ length ws → map (λ s. s .user) (sessionsOf us ws) ≡ us
-unfolding sessionsOf
-sessions-users [] ws l = refl
-sessions-users (u ∷ us) [] l = absurd (omega arith)
-sessions-users (u ∷ us) (w ∷ ws) l = ap (λ (x : List ℕ). u ∷ x) (sessions-users us ws (omega arith))
-
-sessions-active : (us ws : List ℕ) → length us ≡ length ws → map (λ s. s .active) (sessionsOf us ws) ≡ ws
-unfolding sessionsOf
-sessions-active [] [] l = refl
-sessions-active [] (w ∷ ws) l = absurd (omega arith)
-sessions-active (u ∷ us) [] l = absurd (omega arith)
-sessions-active (u ∷ us) (w ∷ ws) l = ap (λ (x : List ℕ). w ∷ x) (sessions-active us ws (omega arith))
-
-sessions-again : (ss : List Session) → sessionsOf (map (λ s. s .user) ss) (map (λ s. s .active) ss) ≡ ss
-unfolding sessionsOf
-sessions-again [] = refl
-sessions-again (s ∷ ss) = ap (λ (x : List Session). s ∷ x) (sessions-again ss)
-
 -- Bounds of each word are bounds of every word.
 pub below-every : (n : ℕ) (ws : List ℕ) → Below n ws → Every (λ w. w < 2 ^ n) ws
 unfolding Below
 below-every n [] h = tt
 below-every n (w ∷ ws) h = (h 0, below-every n ws (λ i. h (suc i)))
-
-pub sessions-known : (users roles : ℕ) (us ws : List ℕ) → ((i : ℕ) → i < length us → getD us i 0 < users) → Below roles ws
-    → Every (Known users roles) (sessionsOf us ws)
-unfolding sessionsOf Below
-sessions-known users roles [] ws f h = tt
-sessions-known users roles (u ∷ us) [] f h = tt
-sessions-known users roles (u ∷ us) (w ∷ ws) f h =
-    (record { user = f 0 (omega arith); active = h 0 }, sessions-known users roles us ws (λ i l. f (suc i) (omega arith)) (λ i. h (suc i)))
 
 -- The nine sections.
 module _ {A B : Type 0} {P : A → Type 0} {bytes : A → Bytes} {m : Reader A} (h : Coded P bytes m) where
@@ -346,24 +319,18 @@ sections-decodes T sound =
     let b = sound .bounded in
     let R = length (T .roleRows) in
     let U = length (T .userRows) in
-    let ss = sessionsOf (T .sessionUsers) (T .sessionRows) in
-    let us : map (λ s. s .user) ss ≡ T .sessionUsers = sessions-users (T .sessionUsers) (T .sessionRows) (b .paired) in
-    let as′ : map (λ s. s .active) ss ≡ T .sessionRows = sessions-active (T .sessionUsers) (T .sessionRows) (b .paired) in
-    let n : length ss ≤ 64 = omega (arith, sym (length-map ss (λ s. s .user)) ∙ ap length us, f .sessionsUsers) in
     let held : length (T .permissionRows) ≤ 64 = rw (f .permissions) (product-few (f .operations) (f .objects)) in
     let q : Rights = record { operationCount = T .operationCount; objectCount = T .objectCount; permissionRows = T .permissionRows } in
     let c : Collections = record { cr = T .cr; cu = T .cu; cp = T .cp } in
     then-decodes (section-coded (λ n w. w < 2 ^ n) wordBytes (λ n. wordRow n) word-coded) (T .roleRows) (f .roles, below-every R (T .roleRows) (b .roles)) _ _
     (then-decodes (section-coded (λ _ w. w < 2 ^ R) markedBytes (λ _. markedRow R) (λ _ _. marked-coded R (f .roles))) (T .userRows)
     (f .users, below-every R (T .userRows) (b .users)) _ _
-    (then-decodes (section-coded (λ _. Known U R) sessionBytes (λ _. sessionRow U R) (λ _ _. session-coded U R (f .roles))) ss
-    (n, sessions-known U R (T .sessionUsers) (T .sessionRows) (b .numbers) (b .sessions)) _ _
+    (then-decodes (section-coded (λ _. Known U R) sessionBytes (λ _. sessionRow U R) (λ _ _. session-coded U R (f .roles))) (T .sessions)
+    (f .sessions, b .sessions) _ _
     (rw (
       rights-decodes R (f .roles) q (f .operations) (f .objects) (f .permissions) (below-every R (T .permissionRows) (b .permissions)) (collectionBytes c []),
       collections-decodes R U (length (T .permissionRows)) (f .roles) (f .users) held c (f .crs, below-every R (T .cr) (b .crs))
           (f .cus, below-every U (T .cu) (b .cus)) (f .cps, below-every (length (T .permissionRows)) (T .cp) (b .cps)) [],
-      us,
-      as′,
     ))))
 
 pub sections-encodes : (s : Bytes) → AreBytes s → {T : Tables} → sections s ≡ took T [] → s ≡ encode T
@@ -391,7 +358,7 @@ sections-encodes s h {T} e =
     let f₄ = rights-encodes R (fits .roles) s₃ h₃ e₄ in
     let h₄ = bytes-behind (q .operationCount ∷ q .objectCount ∷ counted markedBytes (q .permissionRows)) s₄ (rw f₄ at h₃) in
     let f₅ = collections-encodes R U (length (q .permissionRows)) (fits .roles) (fits .users) held s₄ h₄ e₅ in
-    rw (← d, sessions-again ss) (rw none at (rw f₅ at (rw f₄ at (rw f₃ at (rw f₂ at f₁)))))
+    rw (← d) (rw none at (rw f₅ at (rw f₄ at (rw f₃ at (rw f₂ at f₁)))))
 
 -- "Tables are accepted when no check on them refuses": tables that pass are what is read from their bytes.
 pub passes-accepted : (T : Tables) → Passes T → tablesOf (encode T) ≡ taken T

@@ -1,20 +1,18 @@
 -- What encoded tables are: bytes, and as many as the counts say.
 -- Assumes nothing.
-use mathlib.Core.Path.{_≡_, sym, ap, _∙_}
+use mathlib.Core.Path.{_≡_, ap}
 use mathlib.Core.List.{List, [], _∷_, map}
 use Prim.Native.Nat.{ℕ, suc, _+_, _*_, _^_, _≤_, _<_}
 use native.Mathlib.Nat.{mul-suc}
 use native.Mathlib.Omega.{arith}
 use lib.ListN.{length, length-append, length-map}
-use Rattle.tables.specs.Tables.{Tables}
+use Rattle.tables.specs.Tables.{Session, Tables}
 use Rattle.tables.specs.Bytes.{Bytes, AreBytes, lowestFirst}
-use Rattle.tables.specs.Accepted.{Sound}
-use Rattle.tables.specs.Reading.{Session}
-use Rattle.tables.specs.Encode.{wordBytes, markedBytes, sessionBytes, joined, counted, sessionsOf, sectionBytes, encode, bytesOf}
+use Rattle.tables.specs.Accepted.{Known, Every, Sound}
+use Rattle.tables.specs.Encode.{wordBytes, markedBytes, sessionBytes, joined, counted, sectionBytes, encode, bytesOf}
 use Rattle.tables.proofs.SectionsLaws.{product-few}
 use Rattle.tables.proofs.BytesLaws.{lowest-length, lowest-bytes, bytes-cons, bytes-append}
-use Rattle.tables.proofs.FitsLaws.{Every, Known}
-use Rattle.tables.proofs.EncodeLaws.{sessions-users, sessions-known, below-every}
+use Rattle.tables.proofs.EncodeLaws.{below-every}
 
 -- Rows of k bytes each, after their count.
 module _ {A : Type 0} (k : ℕ) (row : A → Bytes) (h : (x : A) → length (row x) ≡ k) where
@@ -39,27 +37,20 @@ sessions-length : (ss : List Session) → length (counted sessionBytes ss) ≡ 1
 unfolding sessionBytes
 sessions-length ss = counted-length 9 sessionBytes (λ s. ap suc (lowest-length 8 (s .active))) ss
 
-sessions-count : (T : Tables) → length (T .sessionUsers) ≡ length (T .sessionRows) → length (sessionsOf (T .sessionUsers) (T .sessionRows)) ≡ length (T .sessionUsers)
-sessions-count T l =
-    let ss = sessionsOf (T .sessionUsers) (T .sessionRows) in
-    sym (length-map ss (λ s. s .user)) ∙ ap length (sessions-users (T .sessionUsers) (T .sessionRows) l)
-
 none-bytes : AreBytes []
 unfolding AreBytes
 none-bytes i = omega arith
 
--- Tables whose sessions each have a user have the bytes that their counts say.
-pub encode-length : (T : Tables) → length (T .sessionUsers) ≡ length (T .sessionRows) → length (encode T) ≡ bytesOf T
+-- Tables have the bytes that their counts say.
+pub encode-length : (T : Tables) → length (encode T) ≡ bytesOf T
 unfolding encode sectionBytes joined
-encode-length T l =
-    let ss = sessionsOf (T .sessionUsers) (T .sessionRows) in
-    let n = sessions-count T l in
+encode-length T =
     simp length-append
     (omega (
       arith,
       words-length (T .roleRows),
       marked-length (T .userRows),
-      sessions-length ss,
+      sessions-length (T .sessions),
       marked-length (T .permissionRows),
       words-length (T .cr),
       words-length (T .cu),
@@ -99,13 +90,10 @@ encode-bytes T sound =
     let b = sound .bounded in
     let R = length (T .roleRows) in
     let U = length (T .userRows) in
-    let ss = sessionsOf (T .sessionUsers) (T .sessionRows) in
-    let n : length ss ≤ 64 = omega (arith, sessions-count T (b .paired), f .sessionsUsers) in
     let held : length (T .permissionRows) ≤ 64 = rw (f .permissions) (product-few (f .operations) (f .objects)) in
     bytes-append (counted wordBytes (T .roleRows)) _ (words-bytes R (T .roleRows) (f .roles) (below-every R (T .roleRows) (b .roles)))
     (bytes-append (counted markedBytes (T .userRows)) _ (marked-bytes R (T .userRows) (f .users) (below-every R (T .userRows) (b .users)))
-    (bytes-append (counted sessionBytes ss) _
-    (sessions-bytes U R (f .users) ss n (sessions-known U R (T .sessionUsers) (T .sessionRows) (b .numbers) (b .sessions)))
+    (bytes-append (counted sessionBytes (T .sessions)) _ (sessions-bytes U R (f .users) (T .sessions) (f .sessions) (b .sessions))
     (bytes-cons (T .operationCount) _ (omega (arith, f .operations))
     (bytes-cons (T .objectCount) _ (omega (arith, f .objects))
     (bytes-append (counted markedBytes (T .permissionRows)) _

@@ -6,18 +6,18 @@ use mathlib.Core.List.{List, [], _∷_, map}
 use Prim.Native.Nat.{ℕ, zero, suc, _*_, _^_, _≤_, _<_}
 use native.Mathlib.Omega.{arith}
 use lib.Dec.{eqb, ltb, leb}
-use lib.ListN.{length, getD, length-map}
+use lib.ListN.{length, getD}
 use lib.Pow.{pow-pos}
 use borrow.Author.Tests.{ltb-false, leb-false, eqb-true, not-false}
 use Rattle.answers.specs.declared.Refusal.{Refusal}
 use Rattle.answers.specs.declared.Refusal.the-variants.{NoSuchItem}
-use Rattle.tables.specs.Tables.{Tables}
+use Rattle.tables.specs.Tables.{Session, Tables}
 use Rattle.tables.specs.declared.Outcome.{Outcome}
 use Rattle.tables.specs.declared.Outcome.the-variants.{Refused, Accepted}
 use Rattle.tables.specs.Checks.{late}
-use Rattle.tables.specs.Accepted.{Below, Sound, Passes}
+use Rattle.tables.specs.Accepted.{Below, Known, Every, Sound, Passes}
 use Rattle.tables.specs.Reading.{Bytes, Taken, Reader, stop, took, next, refuse, front, byte, count, wordFrom, wordWithin}
-use Rattle.tables.specs.Reading.{wordRow, markedRow, sessionRow, Session, rows, section, permissions, Rights, rights, Collections, collections}
+use Rattle.tables.specs.Reading.{wordRow, markedRow, sessionRow, rows, section, permissions, Rights, rights, Collections, collections}
 use Rattle.tables.specs.Reading.{sections, nothingLeft, settle, whole, taken, readingOf, tablesOf, assembled}
 
 -- Where something was taken, all that was read on the way was.
@@ -66,11 +66,6 @@ marked-below n s q =
     λ c k. refuse-case _ _ u _ k
     λ d l. within-below n _ u l
 
--- A session of a known user.
-pub record Known (users roles : ℕ) (a : Session) : Type 0 where
-  pub user : a .user < users
-  pub active : a .active < 2 ^ roles
-
 session-known : (users roles : ℕ) (s : Bytes) {a : Session} {t : Bytes} → sessionRow users roles s ≡ took a t → Known users roles a
 unfolding sessionRow
 session-known users roles s {a} {t} q =
@@ -82,10 +77,6 @@ session-known users roles s {a} {t} q =
     rw (← d) (record { user = leb-false users (getD b 0 0) c; active = within-below roles _ u f })
 
 -- n rows, each as its reader leaves it.
-abbrev pub Every : {A : Type 0} → (A → Type 0) → List A → Type 0
-Every P [] = Unit {0}
-Every P (x ∷ xs) = P x × Every P xs
-
 pub record Rows {A : Type 0} (P : A → Type 0) (n : ℕ) (xs : List A) : Type 0 where
   pub size : length xs ≡ n
   pub every : Every P xs
@@ -123,14 +114,15 @@ every-below n [] e i = pow-pos n
 every-below n (x ∷ xs) e zero = e .0
 every-below n (x ∷ xs) e (suc i) = every-below n xs (e .1) i
 
-active-below : (users roles : ℕ) (ss : List Session) → Every (Known users roles) ss → Below roles (map (λ s. s .active) ss)
+-- The sessions' active roles, and their users.
+pub active-below : (users roles : ℕ) (ss : List Session) → Every (Known users roles) ss → Below roles (map (λ s. s .active) ss)
 unfolding Below
 active-below users roles [] e i = pow-pos roles
 active-below users roles (x ∷ ss) e zero = e .0 .active
 active-below users roles (x ∷ ss) e (suc i) = active-below users roles ss (e .1) i
 
-users-below : (users roles : ℕ) (ss : List Session) → Every (Known users roles) ss
-    → (i : ℕ) → i < length (map (λ s. s .user) ss) → getD (map (λ s. s .user) ss) i 0 < users
+pub users-below : (users roles : ℕ) (ss : List Session) → Every (Known users roles) ss
+    → (i : ℕ) → i < length ss → getD (map (λ s. s .user) ss) i 0 < users
 users-below users roles [] e i l = absurd (omega arith)
 users-below users roles (x ∷ ss) e zero l = e .0 .user
 users-below users roles (x ∷ ss) e (suc i) l = users-below users roles ss (e .1) i (omega arith)
@@ -207,16 +199,13 @@ sections-sound s {T} {t} e =
     let o = section-are (λ _. Known (length us) (length rs)) (λ _. sessionRow (length us) (length rs)) (λ n z y y′ h. session-known (length us) (length rs) z h) s₂ e₃ in
     let g = rights-fit (length rs) s₃ e₄ in
     let f = collections-fit (length rs) (length us) (length (q .permissionRows)) s₄ e₅ in
-    let lu = length-map ss (λ s. s .user) in
-    let la = length-map ss (λ s. s .active) in
     let d : assembled rs us ss q c ≡ T = cc in
     rw (← d)
     (record {
       fits = record {
         roles = r .few;
         users = u .few;
-        sessionsUsers = omega (arith, o .few);
-        sessionsRoles = omega (arith, o .few);
+        sessions = o .few;
         operations = g .operations;
         objects = g .objects;
         permissions = g .permissions;
@@ -227,13 +216,11 @@ sections-sound s {T} {t} e =
       bounded = record {
         roles = every-below (length rs) rs (r .every);
         users = every-below (length rs) us (u .every);
-        sessions = active-below (length us) (length rs) ss (o .every);
+        sessions = o .every;
         permissions = g .below;
         crs = f .crBelow;
         cus = f .cuBelow;
         cps = f .cpBelow;
-        paired = lu ∙ sym la;
-        numbers = users-below (length us) (length rs) ss (o .every);
       };
     })
 

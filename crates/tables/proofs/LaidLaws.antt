@@ -7,11 +7,11 @@ use native.Mathlib.Omega.{arith}
 use lib.ListN.{length, getD, set, length-set, length-append, length-map, replicate}
 use lib.Seq.{set-append-left, set-getD, set-set, getD-set-same}
 use Rattle.words.specs.Words.{itemOf}
-use Rattle.tables.specs.Tables.{Tables}
+use Rattle.tables.specs.Tables.{Session, Tables}
 use Rattle.tables.specs.Accepted.{Fits}
 use Rattle.tables.specs.Layout.{room, wholeLength}
 use Rattle.tables.specs.Flat.{padded, tabulate, counts, objectRows, operationRows, sections, laid, flat}
-use Rattle.tables.specs.Reading.{Session, Rights, Collections}
+use Rattle.tables.specs.Reading.{Rights, Collections}
 use Rattle.tables.specs.code.Reads.{put, withSection, withSessions, withNames, withRights, withCollections, Filled}
 use Rattle.tables.proofs.FlatLaws.{length-padded, length-tabulate}
 use Rattle.tables.proofs.SectionsLaws.{product-few}
@@ -140,9 +140,7 @@ unfolding flat sections counts objectRows operationRows
 filled-flat {T} fits g =
     let rs = T .roleRows in
     let us = T .userRows in
-    let ss = g .sessions in
-    let n : length (T .sessionUsers) ≡ length ss = ap length (g .users) ∙ length-map ss (λ s. s .user) in
-    let few : length ss ≤ room = omega (arith, fits .sessionsUsers) in
+    let ss = T .sessions in
     let held : length (T .permissionRows) ≤ room = rw (fits .permissions) (product-few (fits .operations) (fits .objects)) in
     let x = length rs in
     let y = length us in
@@ -153,6 +151,6 @@ filled-flat {T} fits g =
     g .words ∙
     rw (empty, section-laid [] (ten [] [] [] [] [] [] [] [] [] []) 0 rs (omega arith) (omega arith) refl (fits .roles))
     (rw (section-laid (x ∷ []) (ten rs [] [] [] [] [] [] [] [] []) 1 us (omega arith) (omega arith) refl (fits .users))
-    (rw (sessions-laid x y rs us ss few)
+    (rw (sessions-laid x y rs us ss (fits .sessions))
     (rw (rights-laid x y rs us (length ss) o v q held)
-    (collections-laid x y rs us (length ss) o v _ _ _ _ _ _ c (fits .crs) (fits .cus) (fits .cps) ∙ rw (n, g .users, g .active)))))
+    (collections-laid x y rs us (length ss) o v _ _ _ _ _ _ c (fits .crs) (fits .cus) (fits .cps)))))

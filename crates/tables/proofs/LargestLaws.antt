@@ -2,19 +2,20 @@
 -- Assumes nothing.
 use mathlib.Core.Path.{_≡_, refl, sym, ap, _∙_}
 use mathlib.Core.Bool.{true, _&&_}
-use mathlib.Core.List.{List}
+use mathlib.Core.List.{List, map}
 use Prim.Native.Nat.{ℕ, zero, suc, _^_, _≤_, _<_}
 use native.Mathlib.Omega.{arith}
 use lib.Dec.{eqb}
-use lib.ListN.{length, getD}
+use lib.ListN.{length, getD, replicate}
+use lib.Pow.{pow-pos}
 use borrow.Author.Tests.{eqb-true, eq-eqb, ne-eqb}
 use Rattle.words.specs.Words.{has, itemOf}
 use Rattle.words.proofs.WordsLaws.{has-zero, has-item, item-lt, and-both}
-use Rattle.tables.specs.Tables.{Tables}
+use Rattle.tables.specs.Tables.{Session, Tables, sessionRoles}
 use Rattle.tables.specs.Functions.{dominates}
 use Rattle.tables.specs.Checks.{allTo, implies, reflexive, transitive, antisymmetric, ranked, inReach, apart, lateChecks, firstFailing}
 use Rattle.tables.specs.Bytes.{Bytes, AreBytes}
-use Rattle.tables.specs.Accepted.{Below, Passes}
+use Rattle.tables.specs.Accepted.{Below, Known, Every, Passes}
 use Rattle.tables.specs.Reading.{taken, tablesOf}
 use Rattle.tables.specs.Flat.{tabulate}
 use Rattle.tables.specs.Encode.{encode}
@@ -34,13 +35,18 @@ zeros = tabulate 64 (λ _. 0)
 abbrev first : List ℕ
 first = tabulate 64 (λ i. i)
 
+abbrev idle : Session
+idle = record { user = 0; active = 0 }
+
+idlers : List Session
+idlers = replicate 64 idle
+
 full : Tables
 full =
     record {
       roleRows = alone;
       userRows = zeros;
-      sessionUsers = zeros;
-      sessionRows = zeros;
+      sessions = idlers;
       operationCount = 8;
       objectCount = 8;
       permissionRows = zeros;
@@ -83,9 +89,20 @@ differing-apart : (ws : List ℕ) → ((i : ℕ) → i < length ws → getD ws i
 unfolding apart
 differing-apart ws h = all-every (length ws) _ λ i l. all-every i _ λ j k. rw (h i l, h j (omega arith), ne-eqb j i (λ e. omega arith))
 
-idle-reach : (T : Tables) → ((s : ℕ) → s < length (T .sessionRows) → getD (T .sessionRows) s 0 ≡ 0) → inReach T ≡ true
+idle-reach : (T : Tables) → ((s : ℕ) → getD (sessionRoles T) s 0 ≡ 0) → inReach T ≡ true
 unfolding inReach
-idle-reach T h = all-every (length (T .sessionRows)) _ λ s l. all-every (length (T .roleRows)) _ λ r k. rw (h s l, has-zero r)
+idle-reach T h = all-every (length (T .sessions)) _ λ s l. all-every (length (T .roleRows)) _ λ r k. rw (h s, has-zero r)
+
+-- Sessions of user 0 without a role.
+module _ (users roles : ℕ) (some : 0 < users) where
+  idle-known : (n : ℕ) → Every (Known users roles) (replicate n idle)
+  idle-known zero = tt
+  idle-known (suc n) = (record { user = some; active = pow-pos roles }, idle-known n)
+
+idle-roles : (n s : ℕ) → getD (map (λ (s : Session). s .active) (replicate n idle)) s 0 ≡ 0
+idle-roles zero s = refl
+idle-roles (suc n) zero = refl
+idle-roles (suc n) (suc s) = idle-roles n s
 
 -- Words of 64 bits, held against 64 items.
 sixty-four : (n : ℕ) (f : ℕ → ℕ) (m : ℕ) → m ≡ 64 → ((i : ℕ) → i < n → f i < 2 ^ 64) → Below m (tabulate n f)
@@ -93,22 +110,21 @@ unfolding Below
 sixty-four n f m e h = rw e (tabulate-less (2 ^ 64) n f (omega arith) h)
 
 full-passes : Passes full
-unfolding full lateChecks firstFailing
+unfolding full idlers lateChecks firstFailing
 full-passes =
     let la : length alone ≡ 64 = length-tabulate 64 itemOf in
     let lz : length zeros ≡ 64 = length-tabulate 64 (λ _. 0) in
     let lf : length first ≡ 64 = length-tabulate 64 (λ i. i) in
     let none : Below (length alone) zeros = sixty-four 64 (λ _. 0) (length alone) la (λ i l. omega arith) in
     let rank : ranked alone ≡ true = single-ranked alone (omega arith) (λ r l. tabulate-at 64 itemOf r (omega arith)) in
-    let reach : inReach full ≡ true = idle-reach full (λ s l. tabulate-at 64 (λ _. 0) s (omega arith)) in
+    let reach : inReach full ≡ true = idle-reach full (idle-roles 64) in
     let apart : apart first ≡ true = differing-apart first (λ i l. tabulate-at 64 (λ i. i) i (omega arith)) in
     record {
       sound = record {
         fits = record {
           roles = omega arith;
           users = omega arith;
-          sessionsUsers = omega arith;
-          sessionsRoles = omega arith;
+          sessions = omega arith;
           operations = omega arith;
           objects = omega arith;
           permissions = lz;
@@ -119,13 +135,11 @@ full-passes =
         bounded = record {
           roles = sixty-four 64 itemOf (length alone) la (λ i l. item-lt i);
           users = none;
-          sessions = none;
+          sessions = idle-known (length zeros) (length alone) (omega arith) 64;
           permissions = none;
           crs = sixty-four 64 (λ i. i) (length alone) la (λ i l. omega arith);
           cus = sixty-four 64 (λ i. i) (length zeros) lz (λ i l. omega arith);
           cps = sixty-four 64 (λ i. i) (length zeros) lz (λ i l. omega arith);
-          paired = refl;
-          numbers = λ i l. tabulate-less (length zeros) 64 (λ _. 0) (omega arith) (λ j k. omega arith) i;
         };
       };
       late = rw (rank, reach, apart);
@@ -133,11 +147,11 @@ full-passes =
 
 -- "The largest tables take 3,785 bytes": that many bytes are accepted.
 pub largest : (b : Bytes) × AreBytes b × (length b ≡ 3785) × (T : Tables) × (tablesOf b ≡ taken T)
-unfolding full
+unfolding full idlers
 largest = (
   encode full,
   encode-bytes full (full-passes .sound),
-  encode-length full refl ∙ rw (length-tabulate 64 itemOf, length-tabulate 64 (λ _. 0), length-tabulate 64 (λ i. i)),
+  encode-length full ∙ rw (length-tabulate 64 itemOf, length-tabulate 64 (λ _. 0), length-tabulate 64 (λ i. i)),
   full,
   passes-accepted full full-passes,
 )

@@ -14,7 +14,7 @@ use Rattle.answers.specs.Refusal.{numberOf}
 use Rattle.tables.specs.declared.Outcome.{Outcome}
 use Rattle.tables.specs.declared.Outcome.the-variants.{Refused, Accepted}
 use Rattle.tables.specs.Tables.{Tables}
-use Rattle.tables.specs.Accepted.{Sound}
+use Rattle.tables.specs.Accepted.{Every, Sound}
 use Rattle.tables.specs.Checks.{Check, lateChecks, firstFailing, late}
 use Rattle.tables.specs.Reading.{Bytes, stop, took, next, refuse, sections, nothingLeft, settle, whole, rejected, taken, tablesOf, wordsOf, Reading}
 use Rattle.tables.specs.Reading.{outcomeNumber, readingNumber}
@@ -23,7 +23,7 @@ use Rattle.tables.specs.Flat.{flat}
 use Rattle.tables.specs.code.Reads.{readingOutcome, Filled}
 use Rattle.answers.proofs.AnswerLaws.{number-some, same-number}
 use Rattle.tables.proofs.ReadLaws.{Got}
-use Rattle.tables.proofs.FitsLaws.{Every, sections-sound}
+use Rattle.tables.proofs.FitsLaws.{sections-sound}
 use Rattle.tables.proofs.LaidLaws.{filled-flat}
 
 pub never : {A : Type 0} {e : Refusal} → Refused e ≡ Accepted → A

@@ -57,8 +57,7 @@ small rs us =
     record {
       roleRows = rs;
       userRows = us;
-      sessionUsers = [];
-      sessionRows = [];
+      sessions = [];
       operationCount = 0;
       objectCount = 0;
       permissionRows = [];

@@ -8,7 +8,7 @@ use native.Mathlib.Omega.{arith}
 use lib.ListN.{length, getD, take, drop, length-map, length-drop}
 use lib.Seq.{take-append-le, drop-append-add, length-take-le}
 use Rattle.words.specs.Words.{itemOf}
-use Rattle.tables.specs.Tables.{Tables}
+use Rattle.tables.specs.Tables.{Tables, sessionUsers, sessionRoles}
 use Rattle.tables.specs.Checks.{ranked, inReach}
 use Rattle.tables.specs.Layout.{room, wholeLength, Whole, roleCountAt, userCountAt, sessionCountAt, crCountAt, cuCountAt, cpCountAt}
 use Rattle.tables.specs.Layout.{roleRowsAt, userRowsAt, sessionUsersAt, sessionRolesAt, crAt, cuAt, cpAt}
@@ -54,15 +54,17 @@ module _ (T : Tables) (fits : Fits T) {ws : List ℕ} (e : ws ≡ flat T) where
   unfolding sections counts
   users-part q = q ∙ part-at userCountAt 2 (omega arith) refl (fits .users)
 
-  owners-part : {p : List ℕ} → p ≡ take (getD ws sessionCountAt 0) (drop sessionUsersAt ws) → p ≡ map itemOf (T .sessionUsers)
+  owners-part : {p : List ℕ} → p ≡ take (getD ws sessionCountAt 0) (drop sessionUsersAt ws) → p ≡ map itemOf (sessionUsers T)
   unfolding sections counts
   owners-part q =
-      let l = length-map (T .sessionUsers) itemOf in
-      q ∙ part-at sessionCountAt 3 (omega arith) (sym l) (omega (arith, fits .sessionsUsers))
+      let l = length-map (sessionUsers T) itemOf ∙ length-map (T .sessions) (λ s. s .user) in
+      q ∙ part-at sessionCountAt 3 (omega arith) (sym l) (omega (arith, fits .sessions))
 
-  active-part : Bounded T → {p : List ℕ} → p ≡ take (getD ws sessionCountAt 0) (drop sessionRolesAt ws) → p ≡ T .sessionRows
+  active-part : {p : List ℕ} → p ≡ take (getD ws sessionCountAt 0) (drop sessionRolesAt ws) → p ≡ sessionRoles T
   unfolding sections counts
-  active-part b q = q ∙ part-at sessionCountAt 4 (omega arith) (b .paired) (fits .sessionsRoles)
+  active-part q =
+      let l = length-map (T .sessions) (λ s. s .active) in
+      q ∙ part-at sessionCountAt 4 (omega arith) (sym l) (omega (arith, fits .sessions))
 
   pub cr-part : {p : List ℕ} → p ≡ take (getD ws crCountAt 0) (drop crAt ws) → p ≡ T .cr
   unfolding sections counts
@@ -78,7 +80,7 @@ module _ (T : Tables) (fits : Fits T) {ws : List ℕ} (e : ws ≡ flat T) where
 
   pub reach-part : Bounded T → {a o v : List ℕ} → a ≡ take (getD ws userCountAt 0) (drop userRowsAt ws) → o ≡ take (getD ws sessionCountAt 0) (drop sessionUsersAt ws)
       → v ≡ take (getD ws sessionCountAt 0) (drop sessionRolesAt ws) → reaching a o v ≡ inReach T
-  reach-part b qa qo qv = rw (users-part qa, owners-part qo, active-part b qv) (reach-words T fits b)
+  reach-part b qa qo qv = rw (users-part qa, owners-part qo, active-part qv) (reach-words T fits b)
 
   pub rank-part : Bounded T → {p : List ℕ} {r : Bool} → p ≡ take (getD ws roleCountAt 0) (drop roleRowsAt ws) → (Below (length p) p → r ≡ ranked p)
       → r ≡ ranked (T .roleRows)
@@ -91,7 +93,7 @@ module _ (T : Tables) (fits : Fits T) {ws : List ℕ} (e : ws ≡ flat T) where
         whole = rw e (length-flat T);
         roles = rw (count-at roleCountAt (omega arith)) (fits .roles);
         users = rw (count-at userCountAt (omega arith)) (fits .users);
-        sessions = rw (count-at sessionCountAt (omega arith)) (fits .sessionsUsers);
+        sessions = rw (count-at sessionCountAt (omega arith)) (fits .sessions);
         crs = rw (count-at crCountAt (omega arith)) (fits .crs);
         cus = rw (count-at cuCountAt (omega arith)) (fits .cus);
         cps = rw (count-at cpCountAt (omega arith)) (fits .cps);

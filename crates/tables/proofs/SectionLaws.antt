@@ -9,8 +9,9 @@ use borrow.Author.Tests.{eq-eqb, ne-eqb}
 use Rattle.answers.specs.declared.Refusal.{Refusal}
 use Rattle.answers.specs.declared.Refusal.the-variants.{Miscounted}
 use Rattle.tables.specs.declared.Step.{Step}
+use Rattle.tables.specs.Tables.{Session}
 use Rattle.tables.specs.Reading.{Bytes, Reader, stop, next, refuse, byte, count, rows, section}
-use Rattle.tables.specs.Reading.{markedRow, permissions, Session}
+use Rattle.tables.specs.Reading.{markedRow, permissions}
 use Rattle.tables.specs.code.Reads.{Reads, Is, IsCount, RowsAt, SectionAt, SessionsAt, SessionSection}
 use Rattle.tables.specs.code.Reads.{withSection, withSessions}
 use Rattle.tables.specs.Layout.{room, sessionCountAt}

@@ -1,6 +1,6 @@
 -- Laws of the sections one after another: where one stops all stop, and what the words hold once all are read.
 -- Assumes nothing.
-use mathlib.Core.Path.{_≡_, refl, _∙_}
+use mathlib.Core.Path.{_≡_, _∙_}
 use mathlib.Core.List.{List}
 use Prim.Native.Nat.{ℕ, _*_, _≤_}
 use native.Mathlib.Nat.{mul-le-mul}
@@ -100,9 +100,4 @@ module _ (s : Bytes) where
               let x : sections s ≡ took (assembled (f .value) (g .value) (h .value) (t .value) a) (drop n s) =
               rw (f .reads, ← f .holds .count, g .reads, ← g .holds .count, h .reads, t .reads, ← t .holds .count, q) in
               takes x w
-              (record {
-                sessions = h .value;
-                users = refl;
-                active = refl;
-                words = y .words ∙ rw (t .holds .words, h .holds .words, g .holds .words, f .holds .words);
-              })
+              (record { words = y .words ∙ rw (t .holds .words, h .holds .words, g .holds .words, f .holds .words) })

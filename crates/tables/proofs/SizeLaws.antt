@@ -7,12 +7,12 @@ use Prim.Native.Nat.{ℕ, zero, suc, _+_, _*_, _≤_}
 use native.Mathlib.Nat.{mul-suc}
 use native.Mathlib.Omega.{arith}
 use lib.Dec.{ltb}
-use lib.ListN.{length, take, drop, length-map, length-drop}
+use lib.ListN.{length, take, drop, length-drop}
 use borrow.Author.Tests.{ltb-false}
 use Rattle.answers.specs.declared.Refusal.the-variants.{CutShort}
-use Rattle.tables.specs.Tables.{Tables}
+use Rattle.tables.specs.Tables.{Session, Tables}
 use Rattle.tables.specs.Reading.{Bytes, Reader, stop, took, front, byte, count, wordWithin, wordRow, markedRow, sessionRow}
-use Rattle.tables.specs.Reading.{Session, rows, section, permissions, Rights, rights, Collections, collections, sections, assembled}
+use Rattle.tables.specs.Reading.{rows, section, permissions, Rights, rights, Collections, collections, sections, assembled}
 use Rattle.tables.specs.Reading.{taken, tablesOf}
 use Rattle.tables.specs.Encode.{bytesOf}
 use Rattle.tables.proofs.SectionsLaws.{product-few}
@@ -128,7 +128,6 @@ sections-size s {T} {t} e =
     let o = section-size 9 (λ _. sessionRow (length us) (length rs)) (λ n z y y′ h. session-size (length us) (length rs) z h) s₂ e₃ in
     let g = rights-size (length rs) s₃ e₄ in
     let f = collections-size (length rs) (length us) (length (q .permissionRows)) s₄ e₅ in
-    let m = length-map ss (λ s. s .user) in
     let d : assembled rs us ss q c ≡ T = cc in
     let z : s₅ ≡ t = cc in
     rw (← d, ← z) (omega arith)

@@ -1,10 +1,10 @@
 -- Document 01, "Tables" and "Turned back" 2 to 9: what accepted tables are.
 -- Assumes nothing.
 use mathlib.Core.Path.{_≡_}
-use mathlib.Core.List.{List}
+use mathlib.Core.List.{List, [], _∷_}
 use Prim.Native.Nat.{ℕ, _*_, _^_, _≤_, _<_}
 use lib.ListN.{length, getD}
-use Rattle.tables.specs.Tables.{Tables}
+use Rattle.tables.specs.Tables.{Session, Tables}
 use Rattle.tables.specs.declared.Outcome.the-variants.{Accepted}
 use Rattle.tables.specs.Checks.{late}
 
@@ -13,8 +13,7 @@ use Rattle.tables.specs.Checks.{late}
 pub record Fits (T : Tables) : Type 0 where
   pub roles : length (T .roleRows) ≤ 64
   pub users : length (T .userRows) ≤ 64
-  pub sessionsUsers : length (T .sessionUsers) ≤ 64
-  pub sessionsRoles : length (T .sessionRows) ≤ 64
+  pub sessions : length (T .sessions) ≤ 64
   pub operations : T .operationCount ≤ 8
   pub objects : T .objectCount ≤ 8
   pub permissions : length (T .permissionRows) ≡ T .operationCount * T .objectCount
@@ -26,17 +25,25 @@ pub record Fits (T : Tables) : Type 0 where
 unfoldable pub Below : ℕ → List ℕ → Type 0
 Below n ws = (i : ℕ) → getD ws i 0 < 2 ^ n
 
--- The rows: words of roles, of users and of permissions; each session has a user, and its number is below the count of users.
+-- A session whose "user number" and whose bits are below their counts.
+pub record Known (users roles : ℕ) (s : Session) : Type 0 where
+  pub user : s .user < users
+  pub active : s .active < 2 ^ roles
+
+-- P holds of each of the list.
+abbrev pub Every : {A : Type 0} → (A → Type 0) → List A → Type 0
+Every P [] = Unit {0}
+Every P (x ∷ xs) = P x × Every P xs
+
+-- The rows: words of roles, of users and of permissions; the sessions.
 pub record Bounded (T : Tables) : Type 0 where
   pub roles : Below (length (T .roleRows)) (T .roleRows)
   pub users : Below (length (T .roleRows)) (T .userRows)
-  pub sessions : Below (length (T .roleRows)) (T .sessionRows)
+  pub sessions : Every (Known (length (T .userRows)) (length (T .roleRows))) (T .sessions)
   pub permissions : Below (length (T .roleRows)) (T .permissionRows)
   pub crs : Below (length (T .roleRows)) (T .cr)
   pub cus : Below (length (T .userRows)) (T .cu)
   pub cps : Below (length (T .permissionRows)) (T .cp)
-  pub paired : length (T .sessionUsers) ≡ length (T .sessionRows)
-  pub numbers : (i : ℕ) → i < length (T .sessionUsers) → getD (T .sessionUsers) i 0 < length (T .userRows)
 
 -- What is checked while the sections are read.
 pub record Sound (T : Tables) : Type 0 where

@@ -9,7 +9,7 @@ use Rattle.answers.specs.declared.Refusal.{Refusal}
 use Rattle.answers.specs.declared.Refusal.the-variants.{Rank, Overreach, Twin}
 use Rattle.tables.specs.declared.Outcome.{Outcome}
 use Rattle.tables.specs.declared.Outcome.the-variants.{Refused, Accepted}
-use Rattle.tables.specs.Tables.{Tables}
+use Rattle.tables.specs.Tables.{Tables, sessionUsers}
 use Rattle.tables.specs.Functions.{dominates, assigned, active}
 
 -- f holds of every number below n.
@@ -39,9 +39,9 @@ ranked rows = reflexive rows && (transitive rows && antisymmetric rows)
 -- 8, overreach: "session role its user is not assigned".
 unfoldable pub inReach : Tables → Bool
 inReach T =
-    allTo (length (T .sessionRows))
+    allTo (length (T .sessions))
     (λ s. allTo (length (T .roleRows))
-    (λ r. implies (active T s r) (assigned T (getD (T .sessionUsers) s 0) r)))
+    (λ r. implies (active T s r) (assigned T (getD (sessionUsers T) s 0) r)))
 
 -- 9, twin: "equal words in one collection".
 unfoldable pub apart : List ℕ → Bool

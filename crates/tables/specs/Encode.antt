@@ -3,9 +3,8 @@
 use mathlib.Core.List.{List, [], _∷_, _++_, map}
 use Prim.Native.Nat.{ℕ, _+_, _*_}
 use lib.ListN.{length}
-use Rattle.tables.specs.Tables.{Tables}
+use Rattle.tables.specs.Tables.{Session, Tables}
 use Rattle.tables.specs.Bytes.{Bytes, lowestFirst}
-use Rattle.tables.specs.Reading.{Session}
 
 -- "A row is a word"; "A row is a mark byte (1 entered ..), then a word"; "A row is a user number (1 byte), then a word of active roles."
 unfoldable pub wordBytes : ℕ → Bytes
@@ -29,18 +28,12 @@ counted row xs = length xs ∷ joined (map row xs)
 abbrev pub countOnly : ℕ → Bytes
 countOnly n = n ∷ []
 
--- Sessions of their users and their active roles.
-unfoldable pub sessionsOf : List ℕ → List ℕ → List Session
-sessionsOf [] ws = []
-sessionsOf (u ∷ us) [] = []
-sessionsOf (u ∷ us) (w ∷ ws) = record { user = u; active = w } ∷ sessionsOf us ws
-
 -- "Sections follow in this order".
 unfoldable pub sectionBytes : Tables → List Bytes
 sectionBytes T =
     counted wordBytes (T .roleRows)
     ∷ counted markedBytes (T .userRows)
-    ∷ counted sessionBytes (sessionsOf (T .sessionUsers) (T .sessionRows))
+    ∷ counted sessionBytes (T .sessions)
     ∷ countOnly (T .operationCount)
     ∷ countOnly (T .objectCount)
     ∷ counted markedBytes (T .permissionRows)
@@ -56,4 +49,4 @@ encode T = joined (sectionBytes T)
 abbrev pub bytesOf : Tables → ℕ
 bytesOf T =
     9 + 8 * (length (T .roleRows) + length (T .cr) + length (T .cu) + length (T .cp))
-    + 9 * (length (T .userRows) + length (T .sessionUsers) + length (T .permissionRows))
+    + 9 * (length (T .userRows) + length (T .sessions) + length (T .permissionRows))

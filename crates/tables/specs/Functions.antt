@@ -6,7 +6,7 @@ use Prim.Native.Nat.{ℕ, _+_, _*_}
 use lib.Dec.{eqb, ltb}
 use lib.ListN.{length, getD}
 use Rattle.words.specs.Words.{has, wordOf, anyTo}
-use Rattle.tables.specs.Tables.{Tables}
+use Rattle.tables.specs.Tables.{Tables, sessionUsers, sessionRoles}
 
 -- "Junior or equal" is domination by the role rows: role r is senior or equal to q.
 abbrev pub dominates : List ℕ → ℕ → ℕ → Bool
@@ -17,14 +17,14 @@ abbrev pub assigned : Tables → ℕ → ℕ → Bool
 assigned T u r = has (getD (T .userRows) u 0) r
 
 abbrev pub active : Tables → ℕ → ℕ → Bool
-active T s r = has (getD (T .sessionRows) s 0) r
+active T s r = has (getD (sessionRoles T) s 0) r
 
 abbrev pub heldBy : Tables → ℕ → ℕ → Bool
 heldBy T p r = has (getD (T .permissionRows) p 0) r
 
 -- Session s is open and is user u's.
 abbrev pub sessionOf : Tables → ℕ → ℕ → Bool
-sessionOf T s u = ltb s (length (T .sessionUsers)) && eqb (getD (T .sessionUsers) s 0) u
+sessionOf T s u = ltb s (length (T .sessions)) && eqb (getD (sessionUsers T) s 0) u
 
 -- The items of which f holds; f holds of some item of w.
 abbrev pub those : (ℕ → Bool) → ℕ

@@ -1,7 +1,7 @@
 -- Document 01, "Tables" and "Turned back" 1 to 10: from bytes to a refusal or the tables, front to back.
 -- Assumes nothing.
 use mathlib.Core.Bool.{Bool, true, false, not, cond}
-use mathlib.Core.List.{List, [], _∷_, map}
+use mathlib.Core.List.{List, [], _∷_}
 use Prim.Native.Nat.{ℕ, zero, suc, _*_, _^_}
 use lib.Dec.{eqb, ltb, leb}
 use lib.ListN.{length, getD, take, drop, replicate}
@@ -10,7 +10,7 @@ use Rattle.answers.specs.declared.Refusal.{Refusal}
 use Rattle.answers.specs.declared.Refusal.the-variants.{CutShort, Overfull, NotEntered, BadMark, NoSuchItem, Miscounted, LeftOver}
 use Rattle.tables.specs.declared.Outcome.{Outcome}
 use Rattle.tables.specs.declared.Outcome.the-variants.{Refused, Accepted}
-use Rattle.tables.specs.Tables.{Tables}
+use Rattle.tables.specs.Tables.{Session, Tables}
 use Rattle.tables.specs.Checks.{late}
 use Rattle.tables.specs.Layout.{wholeLength}
 use Rattle.tables.specs.Flat.{flat}
@@ -82,10 +82,6 @@ markedRow n = do
   wordWithin n (drop 1 b)
 
 -- "A row is a user number (1 byte), then a word of active roles." 5: "user number at or above its count".
-pub record Session : Type 0 where
-  pub user : ℕ
-  pub active : ℕ
-
 unfoldable pub sessionRow : ℕ → ℕ → Reader Session
 sessionRow users roles = do
   b ← front 9
@@ -147,8 +143,7 @@ assembled rs us ss q c =
     record {
       roleRows = rs;
       userRows = us;
-      sessionUsers = map (λ s. s .user) ss;
-      sessionRows = map (λ s. s .active) ss;
+      sessions = ss;
       operationCount = q .operationCount;
       objectCount = q .objectCount;
       permissionRows = q .permissionRows;

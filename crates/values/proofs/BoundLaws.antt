@@ -242,7 +242,7 @@ sort-lt T sR = all-lt (length (T .roleRows))
 sort-lt T sOP = all-lt (T .operationCount)
 sort-lt T sOBJ = all-lt (T .objectCount)
 sort-lt T sP = all-lt (length (T .permissionRows))
-sort-lt T sS = all-lt (length (T .sessionUsers))
+sort-lt T sS = all-lt (length (T .sessions))
 
 kind-lt : (T : Tables) (k : Kind) → kindItems T k < 2 ^ 64
 unfolding kindItems

@@ -13,8 +13,9 @@ use lib.ListN.{length, getD, List·getD-eq-default}
 use borrow.Author.Tests.{eqb-true, ltb-true, lt-ltb}
 use Rattle.words.specs.Words.{has, anyTo, allOf}
 use Rattle.words.proofs.WordsLaws.{has-out, has-zero, has-all, word-has, and-true, any-witness}
-use Rattle.tables.specs.Tables.{Tables}
+use Rattle.tables.specs.Tables.{Tables, sessionUsers, sessionRoles}
 use Rattle.tables.specs.Accepted.{Fits, Below, Bounded}
+use Rattle.tables.proofs.FitsLaws.{active-below, users-below}
 use Rattle.tables.specs.Functions.{dominates, assigned, active, heldBy, sessionOf, those, someIn, isPermission, userOfSessions, userOfRoles}
 use Rattle.tables.specs.Functions.{rolesOfUsers, rolesOfSessions, rolesOfPermissions, juniorsOfUsers, juniorsOfSessions, seniorsOfPermissions}
 use Rattle.tables.specs.Functions.{sessionsOfUsers, permissionsOfRoles, permissionsOfJuniors, objectsOfPermissions, operationsOn}
@@ -71,8 +72,8 @@ module _ (T : Tables) (fits : Fits T) (b : Bounded T) (w : ℕ) where
   unfolding userOfSessions
   users-of-sessions u h =
       let q = one-in w (λ s. sessionOf T s u) (of-those (λ u. someIn w (λ s. sessionOf T s u)) u h) in
-      let e = and-true (ltb (q .item) (length (T .sessionUsers))) (eqb (getD (T .sessionUsers) (q .item) 0) u) (q .has-it) in
-      omega (arith, b .numbers (q .item) (ltb-true (q .item) (length (T .sessionUsers)) (e .0)), eqb-true (getD (T .sessionUsers) (q .item) 0) u (e .1))
+      let e = and-true (ltb (q .item) (length (T .sessions))) (eqb (getD (sessionUsers T) (q .item) 0) u) (q .has-it) in
+      omega (arith, users-below _ _ (T .sessions) (b .sessions) (q .item) (ltb-true (q .item) (length (T .sessions)) (e .0)), eqb-true (getD (sessionUsers T) (q .item) 0) u (e .1))
 
   users-of-roles : Inside (length (T .userRows)) (userOfRoles T w)
   unfolding userOfRoles
@@ -90,7 +91,7 @@ module _ (T : Tables) (fits : Fits T) (b : Bounded T) (w : ℕ) where
   unfolding rolesOfSessions
   roles-of-sessions r h =
       let q = one-in w (λ s. active T s r) (of-those (λ r. someIn w (λ s. active T s r)) r h) in
-      row-inside (length (T .roleRows)) (T .sessionRows) (b .sessions) (q .item) r (q .has-it)
+      row-inside (length (T .roleRows)) (sessionRoles T) (active-below _ _ (T .sessions) (b .sessions)) (q .item) r (q .has-it)
 
   roles-of-permissions : Inside (length (T .roleRows)) (rolesOfPermissions T w)
   unfolding rolesOfPermissions
@@ -119,11 +120,11 @@ module _ (T : Tables) (fits : Fits T) (b : Bounded T) (w : ℕ) where
       let p = one-of (λ k. heldBy T (q .item) k && dominates (T .roleRows) r k) (q .has-it) in
       row-there (T .roleRows) r (p .item) (and-true (heldBy T (q .item) (p .item)) (dominates (T .roleRows) r (p .item)) (p .has-it) .1)
 
-  sessions-of-users : Inside (length (T .sessionUsers)) (sessionsOfUsers T w)
+  sessions-of-users : Inside (length (T .sessions)) (sessionsOfUsers T w)
   unfolding sessionsOfUsers
   sessions-of-users s h =
       let q = one-in w (λ u. sessionOf T s u) (of-those (λ s. someIn w (λ u. sessionOf T s u)) s h) in
-      ltb-true s (length (T .sessionUsers)) (and-true (ltb s (length (T .sessionUsers))) (eqb (getD (T .sessionUsers) s 0) (q .item)) (q .has-it) .0)
+      ltb-true s (length (T .sessions)) (and-true (ltb s (length (T .sessions))) (eqb (getD (sessionUsers T) s 0) (q .item)) (q .has-it) .0)
 
   permissions-of-roles : Inside (length (T .permissionRows)) (permissionsOfRoles T w)
   unfolding permissionsOfRoles
@@ -200,7 +201,7 @@ module _ (T : Tables) (fits : Fits T) (b : Bounded T) (w : ℕ) where
       among-all n (if (ofSort sU k) (juniorsOfUsers T w) other) (fits .roles)
       (if-inside (ofSort sU k) n (juniorsOfUsers T w) other juniors-of-users
       (if-inside (ofSort sP k) n (seniorsOfPermissions T w) (juniorsOfSessions T w) seniors-of-permissions juniors-of-sessions))
-  call-among sessions k = among-all (length (T .sessionUsers)) (sessionsOfUsers T w) (fits .sessionsUsers) sessions-of-users
+  call-among sessions k = among-all (length (T .sessions)) (sessionsOfUsers T w) (fits .sessions) sessions-of-users
   call-among permissions k = among-all (length (T .permissionRows)) (permissionsOfRoles T w) permissions-few permissions-of-roles
   call-among permissions* k = among-all (length (T .permissionRows)) (permissionsOfJuniors T w) permissions-few permissions-of-juniors
   call-among object k = among-all (T .objectCount) (objectsOfPermissions T w) (omega (arith, fits .objects)) objects-of-permissions

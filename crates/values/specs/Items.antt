@@ -13,7 +13,7 @@ sortItems T sR = allOf (length (T .roleRows))
 sortItems T sOP = allOf (T .operationCount)
 sortItems T sOBJ = allOf (T .objectCount)
 sortItems T sP = allOf (length (T .permissionRows))
-sortItems T sS = allOf (length (T .sessionUsers))
+sortItems T sS = allOf (length (T .sessions))
 
 -- The items of a kind: those of its sort, and for CR, CP, CU all positions of the collection.
 unfoldable pub kindItems : Tables → Kind → ℕ

@@ -12,16 +12,14 @@ use Rattle.tables.specs.declared.Step.{Step}
 use Rattle.tables.specs.declared.Step.the-variants.{Stopped, Took}
 use Rattle.tables.specs.declared.Outcome.{Outcome}
 use Rattle.tables.specs.declared.Outcome.the-variants.{Refused, Accepted}
-use Rattle.tables.specs.Tables.{Tables}
-use Rattle.tables.specs.Reading.{Bytes, Taken, stop, took, Session, Rights, Collections, Reading, rejected, taken}
+use Rattle.tables.specs.Tables.{Session, Tables}
+use Rattle.tables.specs.Reading.{Bytes, Taken, stop, took, Rights, Collections, Reading, rejected, taken}
 use Rattle.tables.specs.Functions.{dominates}
 use Rattle.tables.specs.Checks.{allTo}
 use Rattle.tables.specs.Layout.{room, Whole, roleCountAt, userCountAt, sessionCountAt, operationCountAt, objectCountAt, permissionCountAt}
 use Rattle.tables.specs.Layout.{crCountAt, cuCountAt, cpCountAt, roleRowsAt, userRowsAt, sessionUsersAt, sessionRolesAt, permissionRowsAt}
 use Rattle.tables.specs.Layout.{crAt, cuAt, cpAt, objectRowsAt, operationRowsAt}
 use Rattle.tables.specs.Flat.{tabulate}
-unfoldable pub use Rattle.tables.specs.Accepted.{Below}
-pub use Rattle.tables.specs.Accepted.{Bounded}
 
 -- The code stopped with the reader's refusal, or took what the reader took, up to the same byte; Holds relates the two values.
 pub data Reads {A : Type 0} (s : Bytes) (Holds : A → ℕ → Type 0) : Step → Taken A → Type 0 where
@@ -106,11 +104,8 @@ pub record CollectionsAt (old new : List ℕ) (c : Collections) (v : ℕ) : Type
 
 -- All nine sections, in the order in which they are read.
 pub record Filled (old new : List ℕ) (T : Tables) (v : ℕ) : Type 0 where
-  pub sessions : List Session
-  pub users : T .sessionUsers ≡ map (λ s. s .user) sessions
-  pub active : T .sessionRows ≡ map (λ s. s .active) sessions
   pub words :
-      new ≡ withCollections (withRights (withSessions (withSection (withSection old roleCountAt roleRowsAt (T .roleRows)) userCountAt userRowsAt (T .userRows)) sessions)
+      new ≡ withCollections (withRights (withSessions (withSection (withSection old roleCountAt roleRowsAt (T .roleRows)) userCountAt userRowsAt (T .userRows)) (T .sessions))
       (record { operationCount = T .operationCount; objectCount = T .objectCount; permissionRows = T .permissionRows }))
       (record { cr = T .cr; cu = T .cu; cp = T .cp })
 
