@@ -26,6 +26,12 @@ pub struct Loaded {
     pub words: [u64; WHOLE],
 }
 
+// A row of one word, with the count that its items are below: the word alone, or a mark and the word.
+pub enum Row {
+    Plain(u64),
+    Marked(u64),
+}
+
 // What reading a count, a row or a section gives: the refusal met, or a value and where the next byte stands.
 pub enum Step {
     Stopped(Refusal),

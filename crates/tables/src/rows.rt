@@ -5,7 +5,8 @@ ghost use Prim.Native.Nat.{_+_, _≤_, _<_, _^_};
 ghost use lib.Dec.{leb};
 ghost use lib.ListN.{length, getD, drop, take};
 ghost use Rattle.tables.specs.Reading.{wordFrom, byte as byteOf, count as countOf, wordWithin, wordRow, markedRow, sessionRow};
-ghost use Rattle.tables.specs.code.Reads.{Reads, Is, IsCount, IsSession};
+ghost use Rattle.tables.specs.code.Reads.{Reads, Is, IsCount, IsSession, rowOf, RowFits};
+use crate::Row;
 use crate::Step;
 use answers::Refusal;
 
@@ -109,6 +110,17 @@ pub fn marked_row(bytes: &[u8], at: usize, n: u64) -> Step
         return Step::Stopped(Refusal::BadMark);
     }
     word_within(bytes, at + 1, n)
+}
+
+pub fn row(bytes: &[u8], at: usize, kind: Row) -> Step
+    requires { ⌜ at ≤ length (now bytes) ⌝ }
+    requires { ⌜ RowFits kind ⌝ }
+    ensures { λ r. ⌜ Reads (now (bytes .entry)) Is r (rowOf kind (drop at (now (bytes .entry)))) ⌝ }
+{
+    match kind {
+        Row::Plain(items) => word_row(bytes, at, items),
+        Row::Marked(items) => marked_row(bytes, at, items),
+    }
 }
 
 // The session's user is the byte at `at`.

@@ -8,12 +8,14 @@ use lib.Dec.{eqb}
 use lib.ListN.{length, getD, drop, set}
 use Rattle.answers.specs.declared.Refusal.{Refusal}
 use Rattle.words.specs.Words.{has, itemOf, lessOf, imageOf}
+use Rattle.tables.specs.declared.Row.{Row}
+use Rattle.tables.specs.declared.Row.the-variants.{Plain, Marked}
 use Rattle.tables.specs.declared.Step.{Step}
 use Rattle.tables.specs.declared.Step.the-variants.{Stopped, Took}
 use Rattle.tables.specs.declared.Outcome.{Outcome}
 use Rattle.tables.specs.declared.Outcome.the-variants.{Refused, Accepted}
 use Rattle.tables.specs.Tables.{Session, Tables}
-use Rattle.tables.specs.Reading.{Bytes, Taken, stop, took, Rights, Collections, Reading, rejected, taken}
+use Rattle.tables.specs.Reading.{Bytes, Taken, Reader, stop, took, wordRow, markedRow, Rights, Collections, Reading, rejected, taken}
 use Rattle.tables.specs.Functions.{dominates}
 use Rattle.tables.specs.Checks.{allTo}
 use Rattle.tables.specs.Layout.{room, Whole, roleCountAt, userCountAt, sessionCountAt, operationCountAt, objectCountAt, permissionCountAt}
@@ -45,6 +47,15 @@ pub record IsSession (s : Bytes) (at users : ℕ) (a : Session) (v : ℕ) : Type
   pub known : getD s at 0 < users
   pub active : a .active ≡ v
   pub complete : at < length s
+
+-- A row of one word: its reader, and that the items fit a word.
+abbrev pub rowOf : Row → Reader ℕ
+rowOf (Plain n) = wordRow n
+rowOf (Marked n) = markedRow n
+
+abbrev pub RowFits : Row → Type 0
+RowFits (Plain n) = n ≤ 64
+RowFits (Marked n) = n ≤ 64
 
 -- The words with a list written from word k on.
 unfoldable pub put : List ℕ → ℕ → List ℕ → List ℕ

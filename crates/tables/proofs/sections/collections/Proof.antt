@@ -8,8 +8,8 @@ use borrow.Author.Needs.{needs}
 use Rattle.tables.proofs.sections.collections.Statement.{statement}
 use Rattle.tables.proofs.sections.collections.Tie as tie
 
-collection-requires : tie.Need-collection-requires
-collection-requires c κs = search needs
+section-requires : tie.Need-section-requires
+section-requires c κs = search needs
 
 enum-known-first : tie.Need-enum-known-first
 enum-known-first c = search needs
@@ -23,16 +23,16 @@ same-length c = search needs
 returns : tie.Need-returns
 returns c =
     let args = c .before .before .before .before .before .before .before .before .args in
-    let collection = c .before .before .before .before .collection in
-    stops-as (c .enum-told .given .1) (collections-stop (args .bytes .now) (args .at) (args .roles) (args .users) (args .permissions) (as-stop (collection .ensures) (c .enum-told .given .1)))
+    let section = c .before .before .before .before .section in
+    stops-as (c .enum-told .given .1) (collections-stop (args .bytes .now) (args .at) (args .roles) (args .users) (args .permissions) (as-stop (section .ensures) (c .enum-told .given .1)))
 
-collection-requires-2 : tie.Need-collection-requires-2
-collection-requires-2 c κs =
+section-requires-2 : tie.Need-section-requires-2
+section-requires-2 c κs =
     let pre = c .before .before .before .before .before .before .before .before .before .before .pre in
-    let collection = c .before .before .before .before .before .before .collection in
+    let section = c .before .before .before .before .before .before .section in
     let first = c .before .before .first in
-    let f = as-took (collection .ensures) (first .given .1) in
-    (f .within, ((pre .1 .0 .1, collection .kept .1 .1 .1 .0 ∙ pre .1 .1), (omega arith, omega arith)))
+    let f = as-took (section .ensures) (first .given .1) in
+    (f .within, ((pre .1 .0 .1, section .kept .1 .1 .1 .0 ∙ pre .1 .1), (omega arith, omega arith)))
 
 enum-known-second : tie.Need-enum-known-second
 enum-known-second c = search needs
@@ -46,20 +46,20 @@ same-length-2 c = search needs
 returns-2 : tie.Need-returns-2
 returns-2 c =
     let args = c .before .before .before .before .before .before .before .before .before .before .before .before .before .before .before .args in
-    let collection = c .before .before .before .before .before .before .before .before .before .before .before .collection in
+    let section = c .before .before .before .before .before .before .before .before .before .before .before .section in
     let first = c .before .before .before .before .before .before .before .first in
-    let collection2 = c .before .before .before .before .collection2 in
-    let f = as-took (collection .ensures) (first .given .1) in
-    stops-as (c .enum-told2 .given .1) (collections-stop-2 (args .bytes .now) (args .at) (args .roles) (args .users) (args .permissions) f (as-stop (collection2 .ensures) (c .enum-told2 .given .1)))
+    let section2 = c .before .before .before .before .section2 in
+    let f = as-took (section .ensures) (first .given .1) in
+    stops-as (c .enum-told2 .given .1) (collections-stop-2 (args .bytes .now) (args .at) (args .roles) (args .users) (args .permissions) f (as-stop (section2 .ensures) (c .enum-told2 .given .1)))
 
-collection-requires-3 : tie.Need-collection-requires-3
-collection-requires-3 c κs =
+section-requires-3 : tie.Need-section-requires-3
+section-requires-3 c κs =
     let pre = c .before .before .before .before .before .before .before .before .before .before .before .before .before .before .before .before .before .pre in
-    let collection = c .before .before .before .before .before .before .before .before .before .before .before .before .before .collection in
-    let collection2 = c .before .before .before .before .before .before .collection2 in
+    let section = c .before .before .before .before .before .before .before .before .before .before .before .before .before .section in
+    let section2 = c .before .before .before .before .before .before .section2 in
     let second = c .before .before .second in
-    let g = as-took (collection2 .ensures) (second .given .1) in
-    (g .within, ((omega (arith, pre), collection2 .kept .1 .1 .1 .0 ∙ collection .kept .1 .1 .1 .0 ∙ pre .1 .1), (omega arith, omega arith)))
+    let g = as-took (section2 .ensures) (second .given .1) in
+    (g .within, ((omega (arith, pre), section2 .kept .1 .1 .1 .0 ∙ section .kept .1 .1 .1 .0 ∙ pre .1 .1), (omega arith, omega arith)))
 
 same-length-3 : tie.Need-same-length-3
 same-length-3 c = search needs
@@ -67,29 +67,29 @@ same-length-3 c = search needs
 returns-3 : tie.Need-returns-3
 returns-3 c =
     let args = c .before .before .before .before .before .before .before .before .before .before .before .before .before .before .before .before .before .before .before .before .args in
-    let collection = c .before .before .before .before .before .before .before .before .before .before .before .before .before .before .before .before .collection in
+    let section = c .before .before .before .before .before .before .before .before .before .before .before .before .before .before .before .before .section in
     let first = c .before .before .before .before .before .before .before .before .before .before .before .before .first in
-    let collection2 = c .before .before .before .before .before .before .before .before .before .collection2 in
+    let section2 = c .before .before .before .before .before .before .before .before .before .section2 in
     let second = c .before .before .before .before .before .second in
-    let collection3 = c .before .before .collection3 in
-    let f = as-took (collection .ensures) (first .given .1) in
-    let g = as-took (collection2 .ensures) (second .given .1) in
-    collections-all (args .bytes .now) (args .at) (args .roles) (args .users) (args .permissions) f g (collection3 .ensures)
+    let section3 = c .before .before .section3 in
+    let f = as-took (section .ensures) (first .given .1) in
+    let g = as-took (section2 .ensures) (second .given .1) in
+    collections-all (args .bytes .now) (args .at) (args .roles) (args .users) (args .permissions) f g (section3 .ensures)
 
 pub collections-spec : {M : Type 1} → statement M
 collections-spec =
     tie.close
     (tie.spec
-    collection-requires
+    section-requires
     enum-known-first
     enum-told
     same-length
     returns
-    collection-requires-2
+    section-requires-2
     enum-known-second
     enum-told-2
     same-length-2
     returns-2
-    collection-requires-3
+    section-requires-3
     same-length-3
     returns-3)

@@ -37,8 +37,8 @@ returns-2 c =
 slice-write-words : tie.Need-slice-write-words
 slice-write-words c = search needs
 
-marked-rows-requires : tie.Need-marked-rows-requires
-marked-rows-requires c κs =
+rows-requires : tie.Need-rows-requires
+rows-requires c κs =
     let pre = c .before .before .before .before .before .before .before .before .pre in
     let byte = c .before .before .before .before .before .byte in
     let read = c .before .before .before .read in
@@ -47,8 +47,8 @@ marked-rows-requires c κs =
 
 same-length : tie.Need-same-length
 same-length c =
-    let marked-rows = c .before .before .marked-rows in
-    marked-rows .kept .1 .1 .1 .1 .0 ∙ simp length-set
+    let rows = c .before .before .rows in
+    rows .kept .1 .1 .1 .1 .0 ∙ simp length-set
 
 returns-3 : tie.Need-returns-3
 returns-3 c =
@@ -57,10 +57,10 @@ returns-3 c =
     let byte = c .before .before .before .before .before .before .before .before .byte in
     let read = c .before .before .before .before .before .before .read in
     let if1 = c .before .before .before .before .if1 in
-    let marked-rows = c .before .before .marked-rows in
+    let rows = c .before .before .rows in
     let g = as-took (byte .ensures) (read .given .1) in
     permissions-on (args .bytes .now) (args .at) (args .product) (args .roles) g (if1 .left)
-    (reads-as (marked-rows .ensures) (λ xs v x. record { section = counted (args .words .now) permissionCountAt permissionRowsAt _ (omega (arith, if1 .left, pre)) x; all = x .all ∙ if1 .left }))
+    (reads-as (rows .ensures) (λ xs v x. record { section = counted (args .words .now) permissionCountAt permissionRowsAt _ (omega (arith, if1 .left, pre)) x; all = x .all ∙ if1 .left }))
 
 pub permissions-spec : {M : Type 1} → statement M
 permissions-spec =
@@ -72,6 +72,6 @@ permissions-spec =
     returns
     returns-2
     slice-write-words
-    marked-rows-requires
+    rows-requires
     same-length
     returns-3)

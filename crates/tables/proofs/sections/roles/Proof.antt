@@ -29,8 +29,8 @@ returns c =
 slice-write-words : tie.Need-slice-write-words
 slice-write-words c = search needs
 
-word-rows-requires : tie.Need-word-rows-requires
-word-rows-requires c κs =
+rows-requires : tie.Need-rows-requires
+rows-requires c κs =
     let pre = c .before .before .before .before .before .before .before .pre in
     let count = c .before .before .before .before .count in
     let read = c .before .before .read in
@@ -39,17 +39,17 @@ word-rows-requires c κs =
 
 same-length : tie.Need-same-length
 same-length c =
-    let word-rows = c .before .before .word-rows in
-    word-rows .kept .1 .1 .1 .1 .0 ∙ simp length-set
+    let rows = c .before .before .rows in
+    rows .kept .1 .1 .1 .1 .0 ∙ simp length-set
 
 returns-2 : tie.Need-returns-2
 returns-2 c =
     let args = c .before .before .before .before .before .before .before .before .before .before .args in
     let count = c .before .before .before .before .before .before .before .count in
     let read = c .before .before .before .before .before .read in
-    let word-rows = c .before .before .word-rows in
+    let rows = c .before .before .rows in
     let g = as-took (count .ensures) (read .given .1) in
-    section-on (args .bytes .now) 0 (λ n. wordRow n) g (reads-as (word-rows .ensures) (λ xs v x. counted (args .words .now) roleCountAt roleRowsAt _ (g .holds .few) x))
+    section-on (args .bytes .now) 0 (λ n. wordRow n) g (reads-as (rows .ensures) (λ xs v x. counted (args .words .now) roleCountAt roleRowsAt _ (g .holds .few) x))
 
 pub roles-spec : {M : Type 1} → statement M
 roles-spec =
@@ -60,6 +60,6 @@ roles-spec =
     enum-told
     returns
     slice-write-words
-    word-rows-requires
+    rows-requires
     same-length
     returns-2)

@@ -1,13 +1,13 @@
--- `tables::sections::collection`: a section of words.
+-- `tables::sections::section`: a section of words.
 -- Assumes nothing.
 use mathlib.Core.Path.{_∙_}
 use lib.ListN.{length-set}
-use Rattle.tables.specs.Reading.{wordRow}
+use Rattle.tables.specs.code.Reads.{rowOf}
 use Rattle.tables.proofs.ReadLaws.{as-took, as-stop, stops-as, reads-as}
 use Rattle.tables.proofs.SectionLaws.{section-stop, section-on, counted}
 use borrow.Author.Needs.{needs}
-use Rattle.tables.proofs.sections.collection.Statement.{statement}
-use Rattle.tables.proofs.sections.collection.Tie as tie
+use Rattle.tables.proofs.sections.section.Statement.{statement}
+use Rattle.tables.proofs.sections.section.Tie as tie
 
 count-requires : tie.Need-count-requires
 count-requires c κs = search needs
@@ -22,7 +22,7 @@ returns : tie.Need-returns
 returns c =
     let args = c .before .before .before .before .before .args in
     let count = c .before .before .count in
-    stops-as (c .enum-told .given .1) (section-stop (args .bytes .now) (args .at) (λ n. wordRow (args .items)) (as-stop (count .ensures) (c .enum-told .given .1)))
+    stops-as (c .enum-told .given .1) (section-stop (args .bytes .now) (args .at) (λ n. rowOf (args .kind)) (as-stop (count .ensures) (c .enum-told .given .1)))
 
 mul-words : tie.Need-mul-words
 mul-words c = search needs
@@ -30,8 +30,8 @@ mul-words c = search needs
 slice-write-words : tie.Need-slice-write-words
 slice-write-words c = search needs
 
-word-rows-requires : tie.Need-word-rows-requires
-word-rows-requires c κs =
+rows-requires : tie.Need-rows-requires
+rows-requires c κs =
     let pre = c .before .before .before .before .before .before .before .pre in
     let count = c .before .before .before .before .count in
     let read = c .before .before .read in
@@ -40,20 +40,20 @@ word-rows-requires c κs =
 
 same-length : tie.Need-same-length
 same-length c =
-    let word-rows = c .before .before .word-rows in
-    word-rows .kept .1 .1 .1 .1 .0 ∙ simp length-set
+    let rows = c .before .before .rows in
+    rows .kept .1 .1 .1 .1 .0 ∙ simp length-set
 
 returns-2 : tie.Need-returns-2
 returns-2 c =
     let args = c .before .before .before .before .before .before .before .before .before .before .args in
     let count = c .before .before .before .before .before .before .before .count in
     let read = c .before .before .before .before .before .read in
-    let word-rows = c .before .before .word-rows in
+    let rows = c .before .before .rows in
     let g = as-took (count .ensures) (read .given .1) in
-    section-on (args .bytes .now) (args .at) (λ n. wordRow (args .items)) g (reads-as (word-rows .ensures) (λ xs v x. counted (args .words .now) (args .place) (args .to) _ (g .holds .few) x))
+    section-on (args .bytes .now) (args .at) (λ n. rowOf (args .kind)) g (reads-as (rows .ensures) (λ xs v x. counted (args .words .now) (args .place) (args .to) _ (g .holds .few) x))
 
-pub collection-spec : {M : Type 1} → statement M
-collection-spec =
+pub section-spec : {M : Type 1} → statement M
+section-spec =
     tie.close
     (tie.spec
     count-requires
@@ -62,6 +62,6 @@ collection-spec =
     returns
     mul-words
     slice-write-words
-    word-rows-requires
+    rows-requires
     same-length
     returns-2)

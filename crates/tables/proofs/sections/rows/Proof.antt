@@ -1,34 +1,34 @@
--- `tables::sections::marked_rows`: the rows read so far are stored, and what is read from here on is the rest.
+-- `tables::sections::rows`: the rows read so far are stored, and what is read from here on is the rest.
 -- Assumes nothing.
 use borrow.Author.Needs.{needs}
 use Prim.Native.Nat.{_-_}
 use native.Mathlib.Omega.{arith}
 use lib.ListN.{drop}
-use Rattle.tables.specs.Reading.{markedRow}
+use Rattle.tables.specs.code.Reads.{rowOf}
 use Rattle.tables.proofs.ReadLaws.{as-took, as-stop, stops-as}
 use Rattle.tables.proofs.RowsLaws.{Storing, storing-none, storing-more, storing-all, along-stop}
-use Rattle.tables.proofs.sections.marked_rows.Statement.{statement}
-use Rattle.tables.proofs.sections.marked_rows.Tie as tie
+use Rattle.tables.proofs.sections.rows.Statement.{statement}
+use Rattle.tables.proofs.sections.rows.Tie as tie
 
 abbrev Inv-loop : tie.InvT-loop
-Inv-loop bytes at n items words₀ to from₀ i₀ words from i = Storing (markedRow items) n (drop at bytes) bytes words₀ words to from i
+Inv-loop bytes at n kind words₀ to from₀ i₀ words from i = Storing (rowOf kind) n (drop at bytes) bytes words₀ words to from i
 
 abbrev μ-loop : tie.MeasureT-loop
-μ-loop bytes at n items words₀ to from₀ i₀ words from i = n - i
+μ-loop bytes at n kind words₀ to from₀ i₀ words from i = n - i
 
 loop-holds : tie.Need-loop-holds Inv-loop μ-loop
 loop-holds c =
     let args = c .before .before .args in
     let pre = c .before .before .pre in
-    storing-none (markedRow (args .items)) (args .n) (args .bytes .now) (args .at) (args .words .now) (args .to) (pre .0)
+    storing-none (rowOf (args .kind)) (args .n) (args .bytes .now) (args .at) (args .words .now) (args .to) (pre .0)
 
-marked-row-requires : tie.Need-marked-row-requires Inv-loop μ-loop
-marked-row-requires c κs =
+row-requires : tie.Need-row-requires Inv-loop μ-loop
+row-requires c κs =
     let pre = c .before .before .before .before .pre in
     (c .before .loop .inv .along .within, pre .1 .0 .1)
 
-enum-known-row : tie.Need-enum-known-row Inv-loop μ-loop
-enum-known-row c = search needs
+enum-known-read : tie.Need-enum-known-read Inv-loop μ-loop
+enum-known-read c = search needs
 
 enum-told : tie.Need-enum-told Inv-loop μ-loop
 enum-told c = search needs
@@ -43,9 +43,9 @@ returns c =
     let args = c .before .before .before .before .before .before .before .args in
     let loop = c .before .before .before .before .loop in
     let loop-test = c .before .before .before .loop-test in
-    let marked-row = c .before .before .marked-row in
+    let row = c .before .before .row in
     let g = loop .inv .along in
-    stops-as (c .enum-told .given .1) (along-stop (markedRow (args .items)) (args .n) g (loop-test .taken) (as-stop (marked-row .ensures) (c .enum-told .given .1)))
+    stops-as (c .enum-told .given .1) (along-stop (rowOf (args .kind)) (args .n) g (loop-test .taken) (as-stop (row .ensures) (c .enum-told .given .1)))
 
 add-words : tie.Need-add-words Inv-loop μ-loop
 add-words c =
@@ -75,8 +75,8 @@ loop-again c =
     let args = c .before .before .before .before .before .before .before .before .args in
     let loop = c .before .before .before .before .before .loop in
     let loop-test = c .before .before .before .before .loop-test in
-    let marked-row = c .before .before .before .marked-row in
-    storing-more (markedRow (args .items)) (args .n) (loop .inv) (loop-test .taken) (as-took (marked-row .ensures) (c .before .row .given .1))
+    let row = c .before .before .before .row in
+    storing-more (rowOf (args .kind)) (args .n) (loop .inv) (loop-test .taken) (as-took (row .ensures) (c .before .read .given .1))
 
 same-length-2 : tie.Need-same-length-2 Inv-loop μ-loop
 same-length-2 c = c .before .loop .inv .long
@@ -84,17 +84,17 @@ same-length-2 c = c .before .loop .inv .long
 returns-2 : tie.Need-returns-2 Inv-loop μ-loop
 returns-2 c =
     let args = c .before .before .before .before .args in
-    storing-all (markedRow (args .items)) (args .n) (c .before .loop .inv) (c .loop-test .left)
+    storing-all (rowOf (args .kind)) (args .n) (c .before .loop .inv) (c .loop-test .left)
 
-pub marked-rows-spec : {M : Type 1} → statement M
-marked-rows-spec =
+pub rows-spec : {M : Type 1} → statement M
+rows-spec =
     tie.close
     (tie.spec
     Inv-loop
     μ-loop
     loop-holds
-    marked-row-requires
-    enum-known-row
+    row-requires
+    enum-known-read
     enum-told
     same-length
     returns

@@ -1,0 +1,38 @@
+-- `tables::rows::row`: each kind by its own reader.
+-- Assumes nothing.
+use borrow.Author.Needs.{needs}
+use Rattle.tables.proofs.rows.row.Statement.{statement}
+use Rattle.tables.proofs.rows.row.Tie as tie
+
+enum-known-kind : tie.Need-enum-known-kind
+enum-known-kind c = search needs
+
+word-row-requires : tie.Need-word-row-requires
+word-row-requires c κs =
+    let pre = c .before .before .before .before .pre in
+    (pre .0, rw (c .before .kind .given .1) at (pre .1))
+
+enum-known-kind-2 : tie.Need-enum-known-kind-2
+enum-known-kind-2 c = search needs
+
+marked-row-requires : tie.Need-marked-row-requires
+marked-row-requires c κs =
+    let pre = c .before .before .before .before .pre in
+    (pre .0, rw (c .before .kind2 .given .1) at (pre .1))
+
+returns : tie.Need-returns
+returns c = rw (c .before .before .kind .given .1) (c .word-row .ensures)
+
+returns-2 : tie.Need-returns-2
+returns-2 c = rw (c .before .before .kind2 .given .1) (c .marked-row .ensures)
+
+pub row-spec : {M : Type 1} → statement M
+row-spec =
+    tie.close
+    (tie.spec
+    enum-known-kind
+    word-row-requires
+    enum-known-kind-2
+    marked-row-requires
+    returns
+    returns-2)
