@@ -4,11 +4,11 @@ use mathlib.Core.Path.{_≡_, refl, sym, ap, ap₂, _∙_}
 use mathlib.Core.Bool.{Bool, true, false, _&&_, _||_}
 use Prim.Native.Nat.{ℕ, zero, suc, _<_}
 use native.Mathlib.Omega.{arith}
-use borrow.Author.Tests.{lt-ltb, eqb-true, eq-eqb}
+use borrow.Author.Tests.{lt-ltb}
 use lib.Dec.{eqb}
 use lib.ListN.{length, getD}
 use Rattle.words.specs.Words.{has, anyTo, itemOf, joinOf}
-use Rattle.words.proofs.WordsLaws.{word-ext, word-in, both, and-true, and-both, any-here, any-witness, any-ext, has-item, has-join}
+use Rattle.words.proofs.WordsLaws.{word-ext, word-in, any-ext, has-join}
 use Rattle.tables.specs.Tables.{Tables, sessionUsers}
 use Rattle.tables.specs.Accepted.{Sound}
 use Rattle.tables.specs.Functions.{dominates, assigned, active, heldBy, sessionOf, isPermission, those, someIn}
@@ -17,6 +17,7 @@ use Rattle.tables.specs.Functions.{juniorsOfUsers, juniorsOfSessions, seniorsOf
 use Rattle.tables.specs.Functions.{permissionsOfRoles, permissionsOfJuniors, objectsOfPermissions, operationsOn}
 use Rattle.functions.specs.Union.{Unites}
 use Rattle.tables.proofs.FitsLaws.{users-below}
+use Rattle.tables.proofs.CheckLaws.{some-item}
 use Rattle.functions.proofs.FunctionsLaws.{eqb-comm}
 
 -- Some item of a union is an item of the one or of the other.
@@ -42,19 +43,6 @@ some-join v w g =
     any-ext 64 (λ i. has (joinOf v w) i && g i) (λ i. (has v i && g i) || (has w i && g i)) (λ i l.
     ap (λ (b : Bool). b && g i) (has-join v w i l) ∙ or-and (has v i) (has w i) (g i))
     ∙ any-or 64 (λ i. has v i && g i) (λ i. has w i && g i)
-
--- The one member of a set of one.
-some-item : (i : ℕ) (g : ℕ → Bool) → i < 64 → someIn (itemOf i) g ≡ g i
-some-item i g l = both (someIn (itemOf i) g) (g i) there back
-  where
-    there : someIn (itemOf i) g ≡ true → g i ≡ true
-    there e =
-        let (j, lj, h) = any-witness 64 (λ j. has (itemOf i) j && g j) e in
-        let (p, q) = and-true (has (itemOf i) j) (g j) h in
-        rw (eqb-true j i (sym (has-item i j lj) ∙ p)) at q
-
-    back : g i ≡ true → someIn (itemOf i) g ≡ true
-    back e = any-here 64 (λ j. has (itemOf i) j && g j) i l (and-both (has-item i i l ∙ eq-eqb i i refl) e)
 
 -- Those that something is so of with some member.
 unites : (P : ℕ → ℕ → Bool) → Unites (λ w. those (λ x. someIn w (P x)))

@@ -8,11 +8,11 @@ use native.Mathlib.Omega.{arith}
 use lib.Dec.{eqb, ltb}
 use lib.ListN.{length, getD, length-map}
 use borrow.Author.Tests.{ltb-true, ltb-false, eqb-true, eq-eqb, ne-eqb, not-true}
-use Rattle.words.specs.Words.{has, itemOf, lessOf, imageOf, anyTo}
+use Rattle.words.specs.Words.{has, itemOf, lessOf, imageOf}
 use Rattle.words.proofs.WordsLaws.{word-none, has-zero, has-out, has-in, has-less, has-item, both, and-true, and-both, any-here, any-witness}
 use Rattle.words.proofs.RelationLaws.{has-image}
 use Rattle.tables.specs.Tables.{Tables, sessionUsers, sessionRoles}
-use Rattle.tables.specs.Functions.{dominates, active}
+use Rattle.tables.specs.Functions.{dominates, active, someIn}
 use Rattle.tables.specs.Checks.{allTo, implies, reflexive, transitive, antisymmetric, ranked, inReach}
 use Rattle.tables.specs.Accepted.{Fits, Below, Bounded}
 use Rattle.tables.specs.code.Reads.{belowAt, rankAt, reaching}
@@ -199,22 +199,22 @@ module _ (rows : List ℕ) (r : ℕ) where
   unfolding rankAt
   rank-one-way e z = rw (e, eq-eqb (lessOf (belowAt rows r) (getD rows r 0)) 0 z)
 
+-- The one member of a set of one.
+pub some-item : (i : ℕ) (g : ℕ → Bool) → i < 64 → someIn (itemOf i) g ≡ g i
+some-item i g l = both (someIn (itemOf i) g) (g i) there back
+  where
+    there : someIn (itemOf i) g ≡ true → g i ≡ true
+    there e =
+        let (j, lj, h) = any-witness 64 (λ j. has (itemOf i) j && g j) e in
+        let (p, q) = and-true (has (itemOf i) j) (g j) h in
+        rw (eqb-true j i (sym (has-item i j lj) ∙ p)) at q
+
+    back : g i ≡ true → someIn (itemOf i) g ≡ true
+    back e = any-here 64 (λ j. has (itemOf i) j && g j) i l (and-both (has-item i i l ∙ eq-eqb i i refl) e)
+
 -- The image of one user is its row.
 image-item : (rows : List ℕ) (u x : ℕ) → u < 64 → x < 64 → has (imageOf rows (itemOf u)) x ≡ has (getD rows u 0) x
-image-item rows u x l k = has-image rows (itemOf u) x k ∙ both (anyTo 64 f) (has (getD rows u 0) x) there back
-  where
-    f : ℕ → Bool
-    f i = has (itemOf u) i && has (getD rows i 0) x
-
-    there : anyTo 64 f ≡ true → has (getD rows u 0) x ≡ true
-    there e =
-        let w = any-witness 64 f e in
-        let p = and-true (has (itemOf u) (w .0)) (has (getD rows (w .0) 0) x) (w .2) in
-        let q = eqb-true (w .0) u (sym (has-item u (w .0) (w .1)) ∙ p .0) in
-        rw q at (p .1)
-
-    back : has (getD rows u 0) x ≡ true → anyTo 64 f ≡ true
-    back e = any-here 64 f u l (and-both (has-item u u l ∙ eq-eqb u u refl) e)
+image-item rows u x l k = has-image rows (itemOf u) x k ∙ some-item u (λ i. has (getD rows i 0) x) l
 
 pub reach-words : (T : Tables) → Fits T → Bounded T → reaching (T .userRows) (map itemOf (sessionUsers T)) (sessionRoles T) ≡ inReach T
 unfolding reaching inReach Below

@@ -5,7 +5,7 @@ use mathlib.Core.List.{List, [], _∷_, map}
 use Prim.Native.Nat.{ℕ, suc, _+_, _*_, _^_, _≤_, _<_}
 use native.Mathlib.Nat.{mul-suc}
 use native.Mathlib.Omega.{arith}
-use lib.ListN.{length, length-append, length-map}
+use lib.ListN.{length, length-append}
 use Rattle.tables.specs.Tables.{Session, Tables}
 use Rattle.tables.specs.Bytes.{Bytes, AreBytes, lowestFirst}
 use Rattle.tables.specs.Accepted.{Known, Every, Sound}

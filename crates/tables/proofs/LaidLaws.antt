@@ -12,7 +12,7 @@ use Rattle.tables.specs.Accepted.{Fits}
 use Rattle.tables.specs.Layout.{room, wholeLength}
 use Rattle.tables.specs.Flat.{padded, tabulate, counts, objectRows, operationRows, sections, laid, flat}
 use Rattle.tables.specs.Reading.{Rights, Collections}
-use Rattle.tables.specs.code.Reads.{put, withSection, withSessions, withNames, withRights, withCollections, Filled}
+use Rattle.tables.specs.code.Reads.{put, putSessions, withCount, withSection, withSessions, withNames, withRights, withCollections, Filled}
 use Rattle.tables.proofs.FlatLaws.{length-padded, length-tabulate}
 use Rattle.tables.proofs.SectionsLaws.{product-few}
 
@@ -73,7 +73,7 @@ module _ (cs : List ℕ) (ss : List (List ℕ)) where
 
 section-laid : (cs : List ℕ) (ss : List (List ℕ)) (k : ℕ) (xs : List ℕ) → length cs < room → k < length ss → getD ss k [] ≡ [] → length xs ≤ room
     → withSection (laid (cs ∷ ss)) (length cs) (room * suc k) xs ≡ laid ((cs ++ (length xs ∷ [])) ∷ set ss k xs)
-unfolding withSection
+unfolding withCount
 section-laid cs ss k xs l h q m = rw (count-laid cs ss (length xs) l) (rows-laid (cs ++ (length xs ∷ [])) ss k xs h q m)
 
 abbrev ten : (a b c d e f g h i j : List ℕ) → List (List ℕ)
@@ -83,7 +83,7 @@ module _ (x y : ℕ) (r u : List ℕ) where
   sessions-laid : (ss : List Session) → length ss ≤ room
       → withSessions (laid ((x ∷ y ∷ []) ∷ ten r u [] [] [] [] [] [] [] [])) ss
       ≡ laid ((x ∷ y ∷ length ss ∷ []) ∷ ten r u (map itemOf (map (λ s. s .user) ss)) (map (λ s. s .active) ss) [] [] [] [] [] [])
-  unfolding withSessions
+  unfolding withCount putSessions
   sessions-laid ss l =
       let o = map itemOf (map (λ s. s .user) ss) in
       let v = map (λ s. s .active) ss in

@@ -1,4 +1,4 @@
--- Document 01: "The largest tables take 3,785 bytes": tables of that length are accepted.
+-- Document 01: "The largest tables take 3,785 bytes": how many bytes accepted tables have, and that tables of that length are accepted.
 -- Assumes nothing.
 use mathlib.Core.Path.{_≡_, refl, sym, ap, _∙_}
 use mathlib.Core.Bool.{true, _&&_}
@@ -18,12 +18,16 @@ use Rattle.tables.specs.Bytes.{Bytes, AreBytes}
 use Rattle.tables.specs.Accepted.{Below, Known, Every, Passes}
 use Rattle.tables.specs.Reading.{taken, tablesOf}
 use Rattle.tables.specs.Flat.{tabulate}
-use Rattle.tables.specs.Encode.{encode}
+use Rattle.tables.specs.Encode.{encode, bytesOf}
 use Rattle.tables.proofs.FlatLaws.{length-tabulate, tabulate-at}
 use Rattle.tables.proofs.AllLaws.{all-every}
 use Rattle.tables.proofs.CheckLaws.{implied}
-use Rattle.tables.proofs.EncodeLaws.{passes-accepted}
+use Rattle.tables.proofs.EncodeLaws.{passes-accepted, accepted-bytes}
 use Rattle.tables.proofs.EncodedLaws.{encode-length, encode-bytes}
+
+-- Accepted tables have the bytes that their counts say.
+pub accepted-size : (b : Bytes) → AreBytes b → {T : Tables} → tablesOf b ≡ taken T → length b ≡ bytesOf T
+accepted-size b h {T} q = ap length (accepted-bytes b h q) ∙ encode-length T
 
 -- Full sections: roles that dominate themselves alone, users and permissions without roles, 64 sessions of user 0, and the words 0 to 63.
 abbrev alone : List ℕ

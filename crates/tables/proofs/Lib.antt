@@ -10,7 +10,6 @@ pub mod CheckLaws
 pub mod FitsLaws
 pub mod BytesLaws
 pub mod EncodeLaws
-pub mod SizeLaws
 pub mod EncodedLaws
 pub mod LargestLaws
 pub mod LocalLaws

@@ -173,6 +173,12 @@ local-sections =
     (λ ss k. local-next Any 579 1539 (λ s a t q. tt) (local-rights (length rs))
     (λ q l. local-next Any 1539 0 (λ s a t q. tt) (local-collections _ _ _) (λ c m. local-give _)))))
 
+-- "The largest tables take 3,785 bytes": no more are accepted.
+pub accepted-short : (b : Bytes) {T : Tables} → tablesOf b ≡ taken T → length b ≤ 3785
+accepted-short b {T} q =
+    let r = accepted-read b q in
+    omega (arith, local-sections .uses b T (r .rest) (r .reads), r .none)
+
 -- "the first refusal met is the answer and nothing further is read": a refusal 2 to 6 is the answer whatever bytes follow.
 pub first-refusal : (s x : Bytes) (e : Refusal) → sections s ≡ stop e → 2 ≤ numberOf e → tablesOf (s ++ x) ≡ rejected e
 first-refusal s x e q l = load-stop (s ++ x) (local-sections .same s x (λ z. told l (sym q ∙ z)) ∙ ap (extend x) q)

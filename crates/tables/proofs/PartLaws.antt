@@ -15,7 +15,7 @@ use Rattle.tables.specs.Layout.{roleRowsAt, userRowsAt, sessionUsersAt, 
 use Rattle.tables.specs.Flat.{padded, counts, sections, laid, flat}
 use Rattle.tables.specs.Accepted.{Fits, Below, Bounded}
 use Rattle.tables.specs.code.Reads.{reaching, CountsFit}
-use Rattle.tables.proofs.FlatLaws.{length-padded, length-flat, flat-at}
+use Rattle.tables.proofs.FlatLaws.{length-padded, length-flat, count-at}
 use Rattle.tables.proofs.CheckLaws.{reach-words}
 
 padded-front : (n : ℕ) (xs : List ℕ) → length xs ≤ n → take (length xs) (padded n xs) ≡ xs
@@ -37,14 +37,13 @@ pub part-length : (ws : List ℕ) (from n : ℕ) {p : List ℕ} → Whole ws →
 part-length ws from n h l m e = ap length e ∙ length-take-le n (drop from ws) (rw length-drop (omega arith))
 
 module _ (T : Tables) (fits : Fits T) {ws : List ℕ} (e : ws ≡ flat T) where
-  count-at : (j : ℕ) → j < room → getD ws j 0 ≡ getD (counts T) j 0
-  unfolding sections
-  count-at j l = let q : room * 0 + j ≡ j = omega arith in rw e (rw q at (flat-at T 0 j l))
+  counts-here : (j : ℕ) → j < room → getD ws j 0 ≡ getD (counts T) j 0
+  counts-here j l = rw e (count-at T j l)
 
   part-at : (j k : ℕ) → j < room → getD (counts T) j 0 ≡ length (getD (sections T) k []) → length (getD (sections T) k []) ≤ room
       → take (getD ws j 0) (drop (room * k) ws) ≡ getD (sections T) k []
   unfolding flat
-  part-at j k l q m = rw (count-at j l ∙ q, e) (part-laid (sections T) k m)
+  part-at j k l q m = rw (counts-here j l ∙ q, e) (part-laid (sections T) k m)
 
   pub roles-part : {p : List ℕ} → p ≡ take (getD ws roleCountAt 0) (drop roleRowsAt ws) → p ≡ T .roleRows
   unfolding sections counts
@@ -91,10 +90,10 @@ module _ (T : Tables) (fits : Fits T) {ws : List ℕ} (e : ws ≡ flat T) where
   counts-fit =
       record {
         whole = rw e (length-flat T);
-        roles = rw (count-at roleCountAt (omega arith)) (fits .roles);
-        users = rw (count-at userCountAt (omega arith)) (fits .users);
-        sessions = rw (count-at sessionCountAt (omega arith)) (fits .sessions);
-        crs = rw (count-at crCountAt (omega arith)) (fits .crs);
-        cus = rw (count-at cuCountAt (omega arith)) (fits .cus);
-        cps = rw (count-at cpCountAt (omega arith)) (fits .cps);
+        roles = rw (counts-here roleCountAt (omega arith)) (fits .roles);
+        users = rw (counts-here userCountAt (omega arith)) (fits .users);
+        sessions = rw (counts-here sessionCountAt (omega arith)) (fits .sessions);
+        crs = rw (counts-here crCountAt (omega arith)) (fits .crs);
+        cus = rw (counts-here cuCountAt (omega arith)) (fits .cus);
+        cps = rw (counts-here cpCountAt (omega arith)) (fits .cps);
       }

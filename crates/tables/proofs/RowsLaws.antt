@@ -10,7 +10,7 @@ use Rattle.words.specs.Words.{itemOf}
 use Rattle.tables.specs.declared.Step.the-variants.{Took}
 use Rattle.tables.specs.Tables.{Session}
 use Rattle.tables.specs.Reading.{Bytes, Taken, Reader, stop, took, next, rows}
-use Rattle.tables.specs.code.Reads.{Reads, takes, Is, IsSession, put, RowsAt, SessionsAt}
+use Rattle.tables.specs.code.Reads.{Reads, takes, Is, IsSession, put, rowsFrom, putSessions, RowsAt}
 use Rattle.tables.specs.Layout.{room, sessionUsersAt, sessionRolesAt}
 use Rattle.tables.proofs.ReadLaws.{Got}
 use Rattle.tables.proofs.PutLaws.{length-put, put-more, put-both}
@@ -70,76 +70,69 @@ module _ {A : Type 0} (row : Reader A) (n : ℕ) where
         let e : n - i ≡ 0 = omega arith in
         g .reads ∙ rw (e, append-nil (g .done))
 
--- The rows read so far are stored from word `to` on.
-pub record Storing (row : Reader ℕ) (n : ℕ) (b s : Bytes) (old new : List ℕ) (to from i : ℕ) : Type 0 where
+-- The rows read so far are stored: the words are the old ones with those in them.
+pub record Storing {A : Type 0} (row : Reader A) (n : ℕ) (b s : Bytes) (write : List ℕ → List A → List ℕ) (old new : List ℕ) (from i : ℕ) : Type 0 where
   pub along : Along row n b s from i
-  pub words : new ≡ put old to (along .done)
+  pub words : new ≡ write old (along .done)
   pub long : length new ≡ length old
 
-module _ (row : Reader ℕ) (n : ℕ) where
-  pub storing-none : (s : Bytes) (at : ℕ) (old : List ℕ) (to : ℕ) → at ≤ length s → Storing row n (drop at s) s old old to at 0
-  unfolding put along-none
-  storing-none s at old to h = record { along = along-none row n s at h; words = refl; long = refl }
+module _ {A : Type 0} (row : Reader A) (n : ℕ) where
+  storing-none : (s : Bytes) (at : ℕ) (write : List ℕ → List A → List ℕ) (old : List ℕ) → old ≡ write old [] → at ≤ length s
+      → Storing row n (drop at s) s write old old at 0
+  unfolding along-none
+  storing-none s at write old e h = record { along = along-none row n s at h; words = e; long = refl }
 
-  module _ {b s : Bytes} {old new : List ℕ} {to from i : ℕ} (g : Storing row n b s old new to from i) where
-    pub storing-more : {v m : ℕ} → i < n → Got s Is v m (row (drop from s)) → Storing row n b s old (set new (to + i) v) to m (i + 1)
+  module _ {b s : Bytes} {write : List ℕ → List A → List ℕ} {old new : List ℕ} {from i : ℕ} (g : Storing row n b s write old new from i) where
+    storing-more : {a : A} {m : ℕ} {w : List ℕ} → i < n → row (drop from s) ≡ took a (drop m s) → m ≤ length s
+        → w ≡ write old (g .along .done ++ (a ∷ [])) → length w ≡ length old → Storing row n b s write old w m (i + 1)
     unfolding along-more
-    storing-more {v} {m} l r =
-        let a = g .along in
-        let w : set new (to + i) v ≡ put old to (a .done ++ (r .value ∷ [])) =
-        rw (r .holds, g .words, ← a .size) (put-more old to (a .done) v) in
-        record {
-          along = along-more row n a l (r .reads) (r .within);
-          words = w;
-          long = ap length w ∙ length-put old to (a .done ++ (r .value ∷ []));
-        }
+    storing-more l q h e k = record { along = along-more row n (g .along) l q h; words = e; long = k }
 
-    pub storing-all : n ≤ i → Reads s (RowsAt old new to n) (Took n from) (rows row n b)
+    pub storing-all : n ≤ i → Reads s (RowsAt write old new n) (Took n from) (rows row n b)
     storing-all l =
         let a = g .along in
-        let h : RowsAt old new to n (a .done) n = record { count = omega (arith, a .size, a .few); all = refl; words = g .words } in
+        let h : RowsAt write old new n (a .done) n = record { count = omega (arith, a .size, a .few); all = refl; words = g .words } in
         takes (along-all row n a l) (a .within) h
 
--- The same of sessions, in two lists.
-pub record StoringTwo (row : Reader Session) (n : ℕ) (b s : Bytes) (old new : List ℕ) (from i : ℕ) : Type 0 where
-  pub along : Along row n b s from i
-  pub words : new ≡ put (put old sessionUsersAt (map itemOf (map (λ s. s .user) (along .done)))) sessionRolesAt (map (λ s. s .active) (along .done))
-  pub long : length new ≡ length old
+-- Words from word `to` on.
+module _ (row : Reader ℕ) (n to : ℕ) where
+  pub words-none : (s : Bytes) (at : ℕ) (old : List ℕ) → at ≤ length s → Storing row n (drop at s) s (rowsFrom to) old old at 0
+  unfolding put
+  words-none s at old h = storing-none row n s at (rowsFrom to) old refl h
 
+  pub words-more : {b s : Bytes} {old new : List ℕ} {from i v m : ℕ} → Storing row n b s (rowsFrom to) old new from i → i < n
+      → Got s Is v m (row (drop from s)) → Storing row n b s (rowsFrom to) old (set new (to + i) v) m (i + 1)
+  words-more {old = old} {new} {i = i} {v} g l r =
+      let a = g .along in
+      let w : set new (to + i) v ≡ put old to (a .done ++ (r .value ∷ [])) = rw (r .holds, g .words, ← a .size) (put-more old to (a .done) v) in
+      storing-more row n g l (r .reads) (r .within) w (ap length w ∙ length-put old to (a .done ++ (r .value ∷ [])))
+
+-- Sessions, in two lists.
 map-more : {A B : Type 0} (f : A → B) (xs : List A) (x : A) → map f (xs ++ (x ∷ [])) ≡ map f xs ++ (f x ∷ [])
 map-more f [] x = refl
 map-more f (y ∷ xs) x = ap (λ r. f y ∷ r) (map-more f xs x)
 
 module _ (row : Reader Session) (n : ℕ) where
-  pub sessions-none : (s : Bytes) (at : ℕ) (old : List ℕ) → at ≤ length s → StoringTwo row n (drop at s) s old old at 0
-  unfolding put along-none
-  sessions-none s at old h = record { along = along-none row n s at h; words = refl; long = refl }
+  pub sessions-none : (s : Bytes) (at : ℕ) (old : List ℕ) → at ≤ length s → Storing row n (drop at s) s putSessions old old at 0
+  unfolding putSessions put
+  sessions-none s at old h = storing-none row n s at putSessions old refl h
 
-  module _ {b s : Bytes} {old new : List ℕ} {from i : ℕ} (g : StoringTwo row n b s old new from i) where
-    pub sessions-more : {users u v m : ℕ} → i < n → n ≤ room → u ≡ itemOf (getD s from 0)
-        → Got s (IsSession s from users) v m (row (drop from s)) → StoringTwo row n b s old (set (set new (sessionUsersAt + i) u) (sessionRolesAt + i) v) m (i + 1)
-    unfolding along-more
-    sessions-more {users} {u} {v} {m} l h q r =
-        let a = g .along in
-        let d = a .done in
-        let x = r .value in
-        let us = map itemOf (map (λ s. s .user) d) in
-        let vs = map (λ s. s .active) d in
-        let lu : length us ≡ i = length-map (map (λ s. s .user) d) itemOf ∙ length-map d (λ s. s .user) ∙ a .size in
-        let lv : length vs ≡ i = length-map d (λ s. s .active) ∙ a .size in
-        let e : set (set new (sessionUsersAt + i) u) (sessionRolesAt + i) v ≡ put (put old sessionUsersAt (us ++ (u ∷ []))) sessionRolesAt (vs ++ (v ∷ [])) =
-        rw (g .words) (put-both old sessionUsersAt sessionRolesAt i us vs u v lu lv (omega arith)) in
-        let eu : map itemOf (map (λ s. s .user) (d ++ (x ∷ []))) ≡ us ++ (u ∷ []) =
-        rw (map-more (λ s. s .user) d x, map-more itemOf (map (λ s. s .user) d) (x .user), q, r .holds .user) in
-        let ev : map (λ s. s .active) (d ++ (x ∷ [])) ≡ vs ++ (v ∷ []) = rw (map-more (λ s. s .active) d x, r .holds .active) in
-        record {
-          along = along-more row n a l (r .reads) (r .within);
-          words = rw (eu, ev) e;
-          long = ap length e ∙ length-put (put old sessionUsersAt (us ++ (u ∷ []))) sessionRolesAt (vs ++ (v ∷ [])) ∙ length-put old sessionUsersAt (us ++ (u ∷ []));
-        }
-
-    pub sessions-all : n ≤ i → Reads s (SessionsAt old new n) (Took n from) (rows row n b)
-    sessions-all l =
-        let a = g .along in
-        let h : SessionsAt old new n (a .done) n = record { count = omega (arith, a .size, a .few); all = refl; words = g .words } in
-        takes (along-all row n a l) (a .within) h
+  pub sessions-more : {b s : Bytes} {old new : List ℕ} {from i users u v m : ℕ} → Storing row n b s putSessions old new from i → i < n
+      → n ≤ room → u ≡ itemOf (getD s from 0) → Got s (IsSession s from users) v m (row (drop from s))
+      → Storing row n b s putSessions old (set (set new (sessionUsersAt + i) u) (sessionRolesAt + i) v) m (i + 1)
+  unfolding putSessions
+  sessions-more {old = old} {new} {i = i} {u = u} {v} g l h q r =
+      let a = g .along in
+      let d = a .done in
+      let x = r .value in
+      let us = map itemOf (map (λ s. s .user) d) in
+      let vs = map (λ s. s .active) d in
+      let lu : length us ≡ i = length-map (map (λ s. s .user) d) itemOf ∙ length-map d (λ s. s .user) ∙ a .size in
+      let lv : length vs ≡ i = length-map d (λ s. s .active) ∙ a .size in
+      let e : set (set new (sessionUsersAt + i) u) (sessionRolesAt + i) v ≡ put (put old sessionUsersAt (us ++ (u ∷ []))) sessionRolesAt (vs ++ (v ∷ [])) =
+      rw (g .words) (put-both old sessionUsersAt sessionRolesAt i us vs u v lu lv (omega arith)) in
+      let eu : map itemOf (map (λ s. s .user) (d ++ (x ∷ []))) ≡ us ++ (u ∷ []) =
+      rw (map-more (λ s. s .user) d x, map-more itemOf (map (λ s. s .user) d) (x .user), q, r .holds .user) in
+      let ev : map (λ s. s .active) (d ++ (x ∷ [])) ≡ vs ++ (v ∷ []) = rw (map-more (λ s. s .active) d x, r .holds .active) in
+      storing-more row n g l (r .reads) (r .within) (rw (eu, ev) e)
+      (ap length e ∙ length-put (put old sessionUsersAt (us ++ (u ∷ []))) sessionRolesAt (vs ++ (v ∷ [])) ∙ length-put old sessionUsersAt (us ++ (u ∷ [])))

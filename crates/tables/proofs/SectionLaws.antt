@@ -9,12 +9,10 @@ use borrow.Author.Tests.{eq-eqb, ne-eqb}
 use Rattle.answers.specs.declared.Refusal.{Refusal}
 use Rattle.answers.specs.declared.Refusal.the-variants.{Miscounted}
 use Rattle.tables.specs.declared.Step.{Step}
-use Rattle.tables.specs.Tables.{Session}
 use Rattle.tables.specs.Reading.{Bytes, Reader, stop, next, refuse, byte, count, rows, section}
 use Rattle.tables.specs.Reading.{markedRow, permissions}
-use Rattle.tables.specs.code.Reads.{Reads, Is, IsCount, RowsAt, SectionAt, SessionsAt, SessionSection}
-use Rattle.tables.specs.code.Reads.{withSection, withSessions}
-use Rattle.tables.specs.Layout.{room, sessionCountAt}
+use Rattle.tables.specs.code.Reads.{Reads, Is, IsCount, RowsAt, SectionAt, withCount}
+use Rattle.tables.specs.Layout.{room}
 use Rattle.tables.proofs.ReadLaws.{Got, read-on}
 
 module _ (s : Bytes) (at : ℕ) {A : Type 0} (row : ℕ → Reader A) where
@@ -42,16 +40,9 @@ module _ (s : Bytes) (at product roles : ℕ) where
   permissions-on {v = v} g h x = rw (g .reads, g .holds, eq-eqb v product h) x
 
 -- The count is stored before the rows.
-pub counted : (old : List ℕ) {new : List ℕ} (place to n : ℕ) {xs : List ℕ} {v : ℕ} → n ≤ room
-    → RowsAt (set old place n) new to n xs v → SectionAt old new place to xs v
-unfolding withSection
-counted old place to n h x =
+pub counted : {A : Type 0} (write : List ℕ → List A → List ℕ) (old : List ℕ) {new : List ℕ} (place n : ℕ) {xs : List A} {v : ℕ} → n ≤ room
+    → RowsAt write (set old place n) new n xs v → SectionAt write place old new xs v
+unfolding withCount
+counted write old place n h x =
     let e = sym (x .all) ∙ x .count in
     record { count = x .count; few = omega (arith, x .all); words = rw e at (x .words) }
-
-pub counted-sessions : (old : List ℕ) {new : List ℕ} (n : ℕ) {ss : List Session} {v : ℕ}
-    → SessionsAt (set old sessionCountAt n) new n ss v → SessionSection old new ss v
-unfolding withSessions
-counted-sessions old n x =
-    let e = sym (x .all) ∙ x .count in
-    record { words = rw e at (x .words) }

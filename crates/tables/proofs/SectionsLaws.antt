@@ -10,9 +10,9 @@ use Rattle.tables.specs.declared.Step.{Step}
 use Rattle.tables.specs.declared.Step.the-variants.{Took}
 use Rattle.tables.specs.Reading.{Bytes, stop, took, next, count, section, permissions, Rights, rights, Collections, collections}
 use Rattle.tables.specs.Reading.{wordRow, markedRow, sessionRow, sections, assembled}
-use Rattle.tables.specs.code.Reads.{Reads, stops, takes, IsCount, SectionAt, PermissionsAt, SessionSection, RightsAt, CollectionsAt, Filled}
-use Rattle.tables.specs.code.Reads.{withNames, withRights, withCollections}
-use Rattle.tables.specs.Layout.{roleCountAt, userCountAt, operationCountAt, objectCountAt, crCountAt, cuCountAt, cpCountAt}
+use Rattle.tables.specs.code.Reads.{Reads, stops, takes, IsCount, SectionAt, PermissionsAt, RightsAt, CollectionsAt, Filled}
+use Rattle.tables.specs.code.Reads.{withNames, rowsFrom, putSessions, withRights, withCollections}
+use Rattle.tables.specs.Layout.{roleCountAt, userCountAt, sessionCountAt, operationCountAt, objectCountAt, crCountAt, cuCountAt, cpCountAt}
 use Rattle.tables.specs.Layout.{roleRowsAt, userRowsAt, crAt, cuAt, cpAt}
 use Rattle.tables.proofs.ReadLaws.{Got}
 
@@ -50,13 +50,13 @@ module _ (s : Bytes) (at r u p : ℕ) where
   unfolding collections next
   collections-stop q = rw q
 
-  module _ {old w₁ : List ℕ} {v i : ℕ} (f : Got s (SectionAt old w₁ crCountAt crAt) v i (section (λ _. wordRow r) (drop at s))) where
+  module _ {old w₁ : List ℕ} {v i : ℕ} (f : Got s (SectionAt (rowsFrom crAt) crCountAt old w₁) v i (section (λ _. wordRow r) (drop at s))) where
     pub collections-stop-2 : {e : Refusal} → section (λ _. wordRow u) (drop i s) ≡ stop e → collections r u p (drop at s) ≡ stop e
     unfolding collections next
     collections-stop-2 q = rw (f .reads, q)
 
-    module _ {w₂ : List ℕ} {v′ j : ℕ} (g : Got s (SectionAt w₁ w₂ cuCountAt cuAt) v′ j (section (λ _. wordRow u) (drop i s))) where
-      pub collections-all : {new : List ℕ} {c : Step} → Reads s (SectionAt w₂ new cpCountAt cpAt) c (section (λ _. wordRow p) (drop j s))
+    module _ {w₂ : List ℕ} {v′ j : ℕ} (g : Got s (SectionAt (rowsFrom cuAt) cuCountAt w₁ w₂) v′ j (section (λ _. wordRow u) (drop i s))) where
+      pub collections-all : {new : List ℕ} {c : Step} → Reads s (SectionAt (rowsFrom cpAt) cpCountAt w₂ new) c (section (λ _. wordRow p) (drop j s))
           → Reads s (CollectionsAt old new) c (collections r u p (drop at s))
       unfolding collections next withCollections
       collections-all (stops {e = e} q) =
@@ -73,17 +73,17 @@ module _ (s : Bytes) where
   unfolding sections next
   sections-stop q = rw q
 
-  module _ {old w₁ : List ℕ} {r i : ℕ} (f : Got s (SectionAt old w₁ roleCountAt roleRowsAt) r i (section (λ n. wordRow n) s)) where
+  module _ {old w₁ : List ℕ} {r i : ℕ} (f : Got s (SectionAt (rowsFrom roleRowsAt) roleCountAt old w₁) r i (section (λ n. wordRow n) s)) where
     pub sections-stop-2 : {e : Refusal} → section (λ _. markedRow r) (drop i s) ≡ stop e → sections s ≡ stop e
     unfolding sections next
     sections-stop-2 q = rw (f .reads, ← f .holds .count, q)
 
-    module _ {w₂ : List ℕ} {u j : ℕ} (g : Got s (SectionAt w₁ w₂ userCountAt userRowsAt) u j (section (λ _. markedRow r) (drop i s))) where
+    module _ {w₂ : List ℕ} {u j : ℕ} (g : Got s (SectionAt (rowsFrom userRowsAt) userCountAt w₁ w₂) u j (section (λ _. markedRow r) (drop i s))) where
       pub sections-stop-3 : {e : Refusal} → section (λ _. sessionRow u r) (drop j s) ≡ stop e → sections s ≡ stop e
       unfolding sections next
       sections-stop-3 q = rw (f .reads, ← f .holds .count, g .reads, ← g .holds .count, q)
 
-      module _ {w₃ : List ℕ} {v k : ℕ} (h : Got s (SessionSection w₂ w₃) v k (section (λ _. sessionRow u r) (drop j s))) where
+      module _ {w₃ : List ℕ} {v k : ℕ} (h : Got s (SectionAt putSessions sessionCountAt w₂ w₃) v k (section (λ _. sessionRow u r) (drop j s))) where
         pub sections-stop-4 : {e : Refusal} → rights r (drop k s) ≡ stop e → sections s ≡ stop e
         unfolding sections next
         sections-stop-4 q = rw (f .reads, ← f .holds .count, g .reads, ← g .holds .count, h .reads, q)

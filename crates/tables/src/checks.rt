@@ -1,7 +1,7 @@
 // What is asked of the tables as a whole: rank, overreach, twins.
 // Each check takes the very rows that it is about.
 ghost use mathlib.Core.Path.{_≡_};
-ghost use Prim.Native.Nat.{ℕ, _+_, _≤_, _<_, _^_};
+ghost use Prim.Native.Nat.{_+_, _≤_, _<_};
 ghost use lib.ListN.{length, take, drop};
 ghost use Rattle.tables.specs.Checks.{ranked as rankedOf, inReach as inReachOf, apart as apartOf, noTwin, late};
 ghost use Rattle.tables.specs.code.Reads.{rankAt, reaching, newAt, CountsFit};

@@ -3,7 +3,7 @@
 ghost use mathlib.Core.Path.{_≡_};
 ghost use Prim.Native.Nat.{_+_, _≤_, _<_, _^_};
 ghost use lib.Dec.{leb};
-ghost use lib.ListN.{length, getD, drop, take};
+ghost use lib.ListN.{length, drop, take};
 ghost use Rattle.tables.specs.Reading.{wordFrom, byte as byteOf, count as countOf, wordWithin, wordRow, markedRow, sessionRow};
 ghost use Rattle.tables.specs.code.Reads.{Reads, Is, IsCount, IsSession, rowOf, RowFits};
 use crate::Row;

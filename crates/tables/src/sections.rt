@@ -6,8 +6,8 @@ ghost use lib.ListN.{length, drop};
 ghost use Rattle.tables.specs.Reading.{wordRow, sessionRow, rows as rowsOf, section as sectionOf};
 ghost use Rattle.tables.specs.Reading.{permissions as permissionsOf, rights as rightsOf};
 ghost use Rattle.tables.specs.Reading.{collections as collectionsOf, sections as sectionsOf};
-ghost use Rattle.tables.specs.Layout.{room, wholeLength, Whole, roleCountAt, roleRowsAt};
-ghost use Rattle.tables.specs.code.Reads.{Reads, rowOf, RowFits, RowsAt, SessionsAt, SectionAt, SessionSection};
+ghost use Rattle.tables.specs.Layout.{room, wholeLength, Whole, roleCountAt, roleRowsAt, sessionCountAt};
+ghost use Rattle.tables.specs.code.Reads.{Reads, rowOf, RowFits, rowsFrom, putSessions, RowsAt, SectionAt};
 ghost use Rattle.tables.specs.code.Reads.{withNames, PermissionsAt, RightsAt, CollectionsAt, Filled};
 use crate::Row;
 use crate::Step;
@@ -42,7 +42,7 @@ pub fn rows(bytes: &[u8], at: usize, n: usize, kind: Row, words: &mut [u64], to:
     requires { ⌜ at ≤ length (now bytes) ⌝ }
     requires { ⌜ (n ≤ room) × (RowFits kind) ⌝ }
     requires { ⌜ (to + room ≤ wholeLength) × (Whole (now words)) ⌝ }
-    ensures { λ r. ⌜ Reads (now (bytes .entry)) (RowsAt (now (words .entry)) (now (words .exit)) to n) r (rowsOf (rowOf kind) n (drop at (now (bytes .entry)))) ⌝ }
+    ensures { λ r. ⌜ Reads (now (bytes .entry)) (RowsAt (rowsFrom to) (now (words .entry)) (now (words .exit)) n) r (rowsOf (rowOf kind) n (drop at (now (bytes .entry)))) ⌝ }
 {
     let mut from = at;
     let mut i: usize = 0;
@@ -73,7 +73,7 @@ pub fn session_rows(
     requires { ⌜ at ≤ length (now bytes) ⌝ }
     requires { ⌜ (n ≤ room) × (roles ≤ 64) ⌝ }
     requires { ⌜ Whole (now words) ⌝ }
-    ensures { λ r. ⌜ Reads (now (bytes .entry)) (SessionsAt (now (words .entry)) (now (words .exit)) n) r (rowsOf (sessionRow users roles) n (drop at (now (bytes .entry)))) ⌝ }
+    ensures { λ r. ⌜ Reads (now (bytes .entry)) (RowsAt putSessions (now (words .entry)) (now (words .exit)) n) r (rowsOf (sessionRow users roles) n (drop at (now (bytes .entry)))) ⌝ }
 {
     let mut from = at;
     let mut i: usize = 0;
@@ -119,7 +119,7 @@ pub fn section(
     requires { ⌜ at ≤ length (now bytes) ⌝ }
     requires { ⌜ (RowFits kind) × (Whole (now words)) ⌝ }
     requires { ⌜ (place < room) × (to + room ≤ wholeLength) ⌝ }
-    ensures { λ r. ⌜ Reads (now (bytes .entry)) (SectionAt (now (words .entry)) (now (words .exit)) place to) r (sectionOf (λ n. rowOf kind) (drop at (now (bytes .entry)))) ⌝ }
+    ensures { λ r. ⌜ Reads (now (bytes .entry)) (SectionAt (rowsFrom to) place (now (words .entry)) (now (words .exit))) r (sectionOf (λ n. rowOf kind) (drop at (now (bytes .entry)))) ⌝ }
 {
     let read = count(bytes, at, 64);
     let Step::Took { value, next } = read else {
@@ -132,7 +132,7 @@ pub fn section(
 // Section 1.
 pub fn roles(bytes: &[u8], words: &mut [u64]) -> Step
     requires { ⌜ Whole (now words) ⌝ }
-    ensures { λ r. ⌜ Reads (now (bytes .entry)) (SectionAt (now (words .entry)) (now (words .exit)) roleCountAt roleRowsAt) r (sectionOf (λ n. wordRow n) (now (bytes .entry))) ⌝ }
+    ensures { λ r. ⌜ Reads (now (bytes .entry)) (SectionAt (rowsFrom roleRowsAt) roleCountAt (now (words .entry)) (now (words .exit))) r (sectionOf (λ n. wordRow n) (now (bytes .entry))) ⌝ }
 {
     let read = count(bytes, 0, 64);
     let Step::Took { value, next } = read else {
@@ -153,7 +153,7 @@ pub fn roles(bytes: &[u8], words: &mut [u64]) -> Step
 pub fn sessions(bytes: &[u8], at: usize, users: u64, roles: u64, words: &mut [u64]) -> Step
     requires { ⌜ at ≤ length (now bytes) ⌝ }
     requires { ⌜ (roles ≤ 64) × (Whole (now words)) ⌝ }
-    ensures { λ r. ⌜ Reads (now (bytes .entry)) (SessionSection (now (words .entry)) (now (words .exit))) r (sectionOf (λ n. sessionRow users roles) (drop at (now (bytes .entry)))) ⌝ }
+    ensures { λ r. ⌜ Reads (now (bytes .entry)) (SectionAt putSessions sessionCountAt (now (words .entry)) (now (words .exit))) r (sectionOf (λ n. sessionRow users roles) (drop at (now (bytes .entry)))) ⌝ }
 {
     let read = count(bytes, at, 64);
     let Step::Took { value, next } = read else {

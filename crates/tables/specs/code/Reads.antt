@@ -62,13 +62,22 @@ unfoldable pub put : List ℕ → ℕ → List ℕ → List ℕ
 put ws k [] = ws
 put ws k (x ∷ xs) = put (set ws k x) (suc k) xs
 
--- A section's count at its place, and its rows from word `to` on.
-unfoldable pub withSection : List ℕ → ℕ → ℕ → List ℕ → List ℕ
-withSection ws place to xs = put (set ws place (length xs)) to xs
+-- A section's rows from word `to` on; the sessions' users, as words of one item, and active roles.
+abbrev pub rowsFrom : ℕ → List ℕ → List ℕ → List ℕ
+rowsFrom to ws xs = put ws to xs
 
--- The sessions: their count, their users as words of one item, their active roles.
-unfoldable pub withSessions : List ℕ → List Session → List ℕ
-withSessions ws ss = put (put (set ws sessionCountAt (length ss)) sessionUsersAt (map itemOf (map (λ s. s .user) ss))) sessionRolesAt (map (λ s. s .active) ss)
+unfoldable pub putSessions : List ℕ → List Session → List ℕ
+putSessions ws ss = put (put ws sessionUsersAt (map itemOf (map (λ s. s .user) ss))) sessionRolesAt (map (λ s. s .active) ss)
+
+-- Rows that are written so, behind their count at its place.
+unfoldable pub withCount : {A : Type 0} → (List ℕ → List A → List ℕ) → ℕ → List ℕ → List A → List ℕ
+withCount write place ws xs = write (set ws place (length xs)) xs
+
+abbrev pub withSection : List ℕ → ℕ → ℕ → List ℕ → List ℕ
+withSection ws place to = withCount (rowsFrom to) place ws
+
+abbrev pub withSessions : List ℕ → List Session → List ℕ
+withSessions = withCount putSessions sessionCountAt
 
 -- Of each permission its object and its operation.
 unfoldable pub withNames : List ℕ → ℕ → ℕ → List ℕ
@@ -82,28 +91,20 @@ withRights ws q =
 unfoldable pub withCollections : List ℕ → Collections → List ℕ
 withCollections ws c = withSection (withSection (withSection ws crCountAt crAt (c .cr)) cuCountAt cuAt (c .cu)) cpCountAt cpAt (c .cp)
 
--- The code's value is the count of the n rows, and the words are the old ones with the rows in them.
-pub record RowsAt (old new : List ℕ) (to n : ℕ) (xs : List ℕ) (v : ℕ) : Type 0 where
+-- The code's value is the count of the n rows, and the words are the old ones with the rows in them; the same of a section.
+pub record RowsAt {A : Type 0} (write : List ℕ → List A → List ℕ) (old new : List ℕ) (n : ℕ) (xs : List A) (v : ℕ) : Type 0 where
   pub count : v ≡ length xs
   pub all : v ≡ n
-  pub words : new ≡ put old to xs
+  pub words : new ≡ write old xs
 
-pub record SessionsAt (old new : List ℕ) (n : ℕ) (ss : List Session) (v : ℕ) : Type 0 where
-  pub count : v ≡ length ss
-  pub all : v ≡ n
-  pub words : new ≡ put (put old sessionUsersAt (map itemOf (map (λ s. s .user) ss))) sessionRolesAt (map (λ s. s .active) ss)
-
-pub record SectionAt (old new : List ℕ) (place to : ℕ) (xs : List ℕ) (v : ℕ) : Type 0 where
+pub record SectionAt {A : Type 0} (write : List ℕ → List A → List ℕ) (place : ℕ) (old new : List ℕ) (xs : List A) (v : ℕ) : Type 0 where
   pub count : v ≡ length xs
   pub few : v ≤ room
-  pub words : new ≡ withSection old place to xs
+  pub words : new ≡ withCount write place old xs
 
 pub record PermissionsAt (old new : List ℕ) (product : ℕ) (xs : List ℕ) (v : ℕ) : Type 0 where
-  pub section : SectionAt old new permissionCountAt permissionRowsAt xs v
+  pub section : SectionAt (rowsFrom permissionRowsAt) permissionCountAt old new xs v
   pub all : v ≡ product
-
-pub record SessionSection (old new : List ℕ) (ss : List Session) (v : ℕ) : Type 0 where
-  pub words : new ≡ withSessions old ss
 
 pub record RightsAt (old new : List ℕ) (q : Rights) (v : ℕ) : Type 0 where
   pub count : v ≡ length (q .permissionRows)

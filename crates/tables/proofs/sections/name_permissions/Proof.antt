@@ -4,7 +4,7 @@ use borrow.Author.Needs.{needs}
 use Prim.Native.Nat.{_+_, _-_, _≤_}
 use mathlib.Core.Path.{_≡_, _∙_, sym}
 use native.Mathlib.Omega.{arith}
-use lib.ListN.{length, length-set}
+use lib.ListN.{length-set}
 use Rattle.tables.specs.code.Reads.{withNames}
 use Rattle.tables.specs.Layout.{Whole}
 use Rattle.tables.proofs.PutLaws.{names-none, names-more, names-long}

@@ -4,6 +4,7 @@ use mathlib.Core.Path.{_∙_}
 use native.Mathlib.Omega.{arith}
 use lib.ListN.{length-set}
 use Rattle.tables.specs.Reading.{wordRow}
+use Rattle.tables.specs.code.Reads.{rowsFrom}
 use Rattle.tables.specs.Layout.{roleCountAt, roleRowsAt}
 use Rattle.tables.proofs.ReadLaws.{as-took, as-stop, stops-as, reads-as}
 use Rattle.tables.proofs.SectionLaws.{section-stop, section-on, counted}
@@ -49,7 +50,7 @@ returns-2 c =
     let read = c .before .before .before .before .before .read in
     let rows = c .before .before .rows in
     let g = as-took (count .ensures) (read .given .1) in
-    section-on (args .bytes .now) 0 (λ n. wordRow n) g (reads-as (rows .ensures) (λ xs v x. counted (args .words .now) roleCountAt roleRowsAt _ (g .holds .few) x))
+    section-on (args .bytes .now) 0 (λ n. wordRow n) g (reads-as (rows .ensures) (λ xs v x. counted (rowsFrom roleRowsAt) (args .words .now) roleCountAt _ (g .holds .few) x))
 
 pub roles-spec : {M : Type 1} → statement M
 roles-spec =

@@ -4,14 +4,14 @@ use borrow.Author.Needs.{needs}
 use Prim.Native.Nat.{_-_}
 use native.Mathlib.Omega.{arith}
 use lib.ListN.{drop}
-use Rattle.tables.specs.code.Reads.{rowOf}
+use Rattle.tables.specs.code.Reads.{rowOf, rowsFrom}
 use Rattle.tables.proofs.ReadLaws.{as-took, as-stop, stops-as}
-use Rattle.tables.proofs.RowsLaws.{Storing, storing-none, storing-more, storing-all, along-stop}
+use Rattle.tables.proofs.RowsLaws.{Storing, words-none, words-more, storing-all, along-stop}
 use Rattle.tables.proofs.sections.rows.Statement.{statement}
 use Rattle.tables.proofs.sections.rows.Tie as tie
 
 abbrev Inv-loop : tie.InvT-loop
-Inv-loop bytes at n kind words₀ to from₀ i₀ words from i = Storing (rowOf kind) n (drop at bytes) bytes words₀ words to from i
+Inv-loop bytes at n kind words₀ to from₀ i₀ words from i = Storing (rowOf kind) n (drop at bytes) bytes (rowsFrom to) words₀ words from i
 
 abbrev μ-loop : tie.MeasureT-loop
 μ-loop bytes at n kind words₀ to from₀ i₀ words from i = n - i
@@ -20,7 +20,7 @@ loop-holds : tie.Need-loop-holds Inv-loop μ-loop
 loop-holds c =
     let args = c .before .before .args in
     let pre = c .before .before .pre in
-    storing-none (rowOf (args .kind)) (args .n) (args .bytes .now) (args .at) (args .words .now) (args .to) (pre .0)
+    words-none (rowOf (args .kind)) (args .n) (args .to) (args .bytes .now) (args .at) (args .words .now) (pre .0)
 
 row-requires : tie.Need-row-requires Inv-loop μ-loop
 row-requires c κs =
@@ -76,7 +76,7 @@ loop-again c =
     let loop = c .before .before .before .before .before .loop in
     let loop-test = c .before .before .before .before .loop-test in
     let row = c .before .before .before .row in
-    storing-more (rowOf (args .kind)) (args .n) (loop .inv) (loop-test .taken) (as-took (row .ensures) (c .before .read .given .1))
+    words-more (rowOf (args .kind)) (args .n) (args .to) (loop .inv) (loop-test .taken) (as-took (row .ensures) (c .before .read .given .1))
 
 same-length-2 : tie.Need-same-length-2 Inv-loop μ-loop
 same-length-2 c = c .before .loop .inv .long

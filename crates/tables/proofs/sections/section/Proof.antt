@@ -2,7 +2,7 @@
 -- Assumes nothing.
 use mathlib.Core.Path.{_∙_}
 use lib.ListN.{length-set}
-use Rattle.tables.specs.code.Reads.{rowOf}
+use Rattle.tables.specs.code.Reads.{rowOf, rowsFrom}
 use Rattle.tables.proofs.ReadLaws.{as-took, as-stop, stops-as, reads-as}
 use Rattle.tables.proofs.SectionLaws.{section-stop, section-on, counted}
 use borrow.Author.Needs.{needs}
@@ -50,7 +50,7 @@ returns-2 c =
     let read = c .before .before .before .before .before .read in
     let rows = c .before .before .rows in
     let g = as-took (count .ensures) (read .given .1) in
-    section-on (args .bytes .now) (args .at) (λ n. rowOf (args .kind)) g (reads-as (rows .ensures) (λ xs v x. counted (args .words .now) (args .place) (args .to) _ (g .holds .few) x))
+    section-on (args .bytes .now) (args .at) (λ n. rowOf (args .kind)) g (reads-as (rows .ensures) (λ xs v x. counted (rowsFrom (args .to)) (args .words .now) (args .place) _ (g .holds .few) x))
 
 pub section-spec : {M : Type 1} → statement M
 section-spec =

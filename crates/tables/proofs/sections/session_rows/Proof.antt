@@ -5,13 +5,14 @@ use Prim.Native.Nat.{_-_}
 use native.Mathlib.Omega.{arith}
 use lib.ListN.{drop, length-set}
 use Rattle.tables.specs.Reading.{sessionRow}
+use Rattle.tables.specs.code.Reads.{putSessions}
 use Rattle.tables.proofs.ReadLaws.{as-took, as-stop, stops-as}
-use Rattle.tables.proofs.RowsLaws.{StoringTwo, sessions-none, sessions-more, sessions-all, along-stop}
+use Rattle.tables.proofs.RowsLaws.{Storing, sessions-none, sessions-more, storing-all, along-stop}
 use Rattle.tables.proofs.sections.session_rows.Statement.{statement}
 use Rattle.tables.proofs.sections.session_rows.Tie as tie
 
 abbrev Inv-loop : tie.InvT-loop
-Inv-loop bytes at n users roles words₀ from₀ i₀ words from i = StoringTwo (sessionRow users roles) n (drop at bytes) bytes words₀ words from i
+Inv-loop bytes at n users roles words₀ from₀ i₀ words from i = Storing (sessionRow users roles) n (drop at bytes) bytes putSessions words₀ words from i
 
 abbrev μ-loop : tie.MeasureT-loop
 μ-loop bytes at n users roles words₀ from₀ i₀ words from i = n - i
@@ -118,7 +119,7 @@ same-length-2 c = c .before .loop .inv .long
 returns-2 : tie.Need-returns-2 Inv-loop μ-loop
 returns-2 c =
     let args = c .before .before .before .before .args in
-    sessions-all (sessionRow (args .users) (args .roles)) (args .n) (c .before .loop .inv) (c .loop-test .left)
+    storing-all (sessionRow (args .users) (args .roles)) (args .n) (c .before .loop .inv) (c .loop-test .left)
 
 pub session-rows-spec : {M : Type 1} → statement M
 session-rows-spec =

@@ -3,8 +3,10 @@
 use mathlib.Core.Path.{_∙_}
 use lib.ListN.{length-set}
 use Rattle.tables.specs.Reading.{sessionRow}
+use Rattle.tables.specs.Layout.{sessionCountAt}
+use Rattle.tables.specs.code.Reads.{putSessions}
 use Rattle.tables.proofs.ReadLaws.{as-took, as-stop, stops-as, reads-as}
-use Rattle.tables.proofs.SectionLaws.{section-stop, section-on, counted-sessions}
+use Rattle.tables.proofs.SectionLaws.{section-stop, section-on, counted}
 use borrow.Author.Needs.{needs}
 use Rattle.tables.proofs.sections.sessions.Statement.{statement}
 use Rattle.tables.proofs.sections.sessions.Tie as tie
@@ -49,7 +51,7 @@ returns-2 c =
     let session-rows = c .before .before .session-rows in
     let g = as-took (count .ensures) (read .given .1) in
     section-on (args .bytes .now) (args .at) (λ n. sessionRow (args .users) (args .roles)) g
-    (reads-as (session-rows .ensures) (λ ss v x. counted-sessions (args .words .now) _ x))
+    (reads-as (session-rows .ensures) (λ ss v x. counted putSessions (args .words .now) sessionCountAt _ (g .holds .few) x))
 
 pub sessions-spec : {M : Type 1} → statement M
 sessions-spec =
