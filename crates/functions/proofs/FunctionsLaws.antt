@@ -15,9 +15,9 @@ use Rattle.words.proofs.WordsLaws.{word-ext, both, and-true, and-both, any-here
 use Rattle.words.proofs.RelationLaws.{reach, reach-ext, image-reach, preimage-reach, image-image, preimage-image, has-preimage}
 use Rattle.tables.specs.Tables.{Tables, sessionUsers, sessionRoles}
 use Rattle.tables.specs.Accepted.{Fits}
-use Rattle.tables.specs.Layout.{roleCountAt, userCountAt, sessionCountAt, permissionCountAt, roleRowsAt, userRowsAt, sessionUsersAt, sessionRolesAt}
-use Rattle.tables.specs.Layout.{permissionRowsAt, objectRowsAt, operationRowsAt}
-use Rattle.tables.specs.Flat.{counts, objectRows, operationRows, sections, sectionAt}
+use Rattle.tables.specs.code.Layout.{roleCountAt, userCountAt, sessionCountAt, permissionCountAt, roleRowsAt, userRowsAt, sessionUsersAt}
+use Rattle.tables.specs.code.Layout.{sessionRolesAt, permissionRowsAt, objectRowsAt, operationRowsAt, sectionAt}
+use Rattle.tables.specs.Flat.{counts, objectRows, operationRows, sections}
 use Rattle.tables.proofs.FlatLaws.{map-at, length-tabulate, tabulate-at}
 use Rattle.tables.specs.Functions.{sessionOf, isPermission, userOfSessions, userOfRoles, rolesOfUsers, rolesOfSessions, rolesOfPermissions}
 use Rattle.tables.specs.Functions.{juniorsOfUsers, juniorsOfSessions, seniorsOfPermissions, sessionsOfUsers}

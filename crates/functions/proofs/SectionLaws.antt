@@ -12,8 +12,8 @@ use lib.Seq.{getD-take}
 use Rattle.words.specs.Words.{imageOf, preimageOf}
 use Rattle.words.proofs.RelationLaws.{image-ext, preimage-ext}
 use Rattle.tables.specs.Tables.{Tables}
-use Rattle.tables.specs.Layout.{room}
-use Rattle.tables.specs.Flat.{sectionAt, flat}
+use Rattle.tables.specs.Flat.{room, flat}
+use Rattle.tables.specs.code.Layout.{sectionAt}
 use Rattle.tables.proofs.FlatLaws.{section-at}
 
 module _ (T : Tables) (at n : ℕ) (begins : at % room ≡ 0) (h : min 64 (length (sectionAt T at)) ≤ n) where

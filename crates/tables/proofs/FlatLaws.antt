@@ -7,8 +7,8 @@ use native.Mathlib.Omega.{arith}
 use lib.ListN.{length, getD, drop, length-append, List·getD-append}
 use lib.Seq.{getD-append-add, getD-drop}
 use Rattle.tables.specs.Tables.{Tables}
-use Rattle.tables.specs.Layout.{room, Whole}
-use Rattle.tables.specs.Flat.{padded, tabulate, counts, sections, sectionAt, laid, flat}
+use Rattle.tables.specs.code.Layout.{Whole, sectionAt}
+use Rattle.tables.specs.Flat.{room, padded, tabulate, counts, sections, laid, flat}
 
 pub length-padded : (n : ℕ) (xs : List ℕ) → length (padded n xs) ≡ n
 unfolding padded

@@ -9,8 +9,7 @@ use lib.Seq.{set-append-left, set-getD, set-set, getD-set-same}
 use Rattle.words.specs.Words.{itemOf}
 use Rattle.tables.specs.Tables.{Session, Tables}
 use Rattle.tables.specs.Accepted.{Fits}
-use Rattle.tables.specs.Layout.{room, wholeLength}
-use Rattle.tables.specs.Flat.{padded, tabulate, counts, objectRows, operationRows, sections, laid, flat}
+use Rattle.tables.specs.Flat.{wholeLength, room, padded, tabulate, counts, objectRows, operationRows, sections, laid, flat}
 use Rattle.tables.specs.Reading.{Rights, Collections}
 use Rattle.tables.specs.code.Reads.{put, putSessions, withCount, withSection, withSessions, withNames, withRights, withCollections, Filled}
 use Rattle.tables.proofs.FlatLaws.{length-padded, length-tabulate}

@@ -18,8 +18,7 @@ use Rattle.tables.specs.Accepted.{Every, Sound}
 use Rattle.tables.specs.Checks.{Check, lateChecks, firstFailing, late}
 use Rattle.tables.specs.Reading.{Bytes, stop, took, next, refuse, sections, nothingLeft, settle, whole, rejected, taken, tablesOf, wordsOf, Reading}
 use Rattle.tables.specs.Reading.{outcomeNumber, readingNumber}
-use Rattle.tables.specs.Layout.{wholeLength}
-use Rattle.tables.specs.Flat.{flat}
+use Rattle.tables.specs.Flat.{wholeLength, flat}
 use Rattle.tables.specs.code.Reads.{readingOutcome, Filled}
 use Rattle.answers.proofs.AnswerLaws.{number-some, same-number}
 use Rattle.tables.proofs.ReadLaws.{Got}

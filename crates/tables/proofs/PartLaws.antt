@@ -10,9 +10,9 @@ use lib.Seq.{take-append-le, drop-append-add, length-take-le}
 use Rattle.words.specs.Words.{itemOf}
 use Rattle.tables.specs.Tables.{Tables, sessionUsers, sessionRoles}
 use Rattle.tables.specs.Checks.{ranked, inReach}
-use Rattle.tables.specs.Layout.{room, wholeLength, Whole, roleCountAt, userCountAt, sessionCountAt, crCountAt, cuCountAt, cpCountAt}
-use Rattle.tables.specs.Layout.{roleRowsAt, userRowsAt, sessionUsersAt, sessionRolesAt, crAt, cuAt, cpAt}
-use Rattle.tables.specs.Flat.{padded, counts, sections, laid, flat}
+use Rattle.tables.specs.code.Layout.{Whole, roleCountAt, userCountAt, sessionCountAt, crCountAt, cuCountAt, cpCountAt, roleRowsAt, userRowsAt}
+use Rattle.tables.specs.code.Layout.{sessionUsersAt, sessionRolesAt, crAt, cuAt, cpAt}
+use Rattle.tables.specs.Flat.{wholeLength, room, padded, counts, sections, laid, flat}
 use Rattle.tables.specs.Accepted.{Fits, Below, Bounded}
 use Rattle.tables.specs.code.Reads.{reaching, CountsFit}
 use Rattle.tables.proofs.FlatLaws.{length-padded, length-flat, count-at}

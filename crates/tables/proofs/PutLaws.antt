@@ -9,8 +9,8 @@ use lib.ListN.{length, set, length-set}
 use lib.Seq.{set-comm}
 use Rattle.words.specs.Words.{itemOf}
 use Rattle.tables.specs.code.Reads.{put, withNames}
-use Rattle.tables.specs.Layout.{room, objectRowsAt, operationRowsAt}
-use Rattle.tables.specs.Flat.{tabulate}
+use Rattle.tables.specs.code.Layout.{objectRowsAt, operationRowsAt}
+use Rattle.tables.specs.Flat.{room, tabulate}
 use Rattle.tables.proofs.FlatLaws.{length-tabulate}
 
 pub length-put : (ws : List ℕ) (k : ℕ) (xs : List ℕ) → length (put ws k xs) ≡ length ws

@@ -8,10 +8,11 @@ use lib.ListN.{length, getD, drop, set, length-append, length-map}
 use Rattle.answers.specs.declared.Refusal.{Refusal}
 use Rattle.words.specs.Words.{itemOf}
 use Rattle.tables.specs.declared.Step.the-variants.{Took}
+use Rattle.tables.specs.Flat.{room}
 use Rattle.tables.specs.Tables.{Session}
 use Rattle.tables.specs.Reading.{Bytes, Taken, Reader, stop, took, next, rows}
 use Rattle.tables.specs.code.Reads.{Reads, takes, Is, IsSession, put, rowsFrom, putSessions, RowsAt}
-use Rattle.tables.specs.Layout.{room, sessionUsersAt, sessionRolesAt}
+use Rattle.tables.specs.code.Layout.{sessionUsersAt, sessionRolesAt}
 use Rattle.tables.proofs.ReadLaws.{Got}
 use Rattle.tables.proofs.PutLaws.{length-put, put-more, put-both}
 

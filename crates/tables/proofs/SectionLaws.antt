@@ -9,10 +9,10 @@ use borrow.Author.Tests.{eq-eqb, ne-eqb}
 use Rattle.answers.specs.declared.Refusal.{Refusal}
 use Rattle.answers.specs.declared.Refusal.the-variants.{Miscounted}
 use Rattle.tables.specs.declared.Step.{Step}
+use Rattle.tables.specs.Flat.{room}
 use Rattle.tables.specs.Reading.{Bytes, Reader, stop, next, refuse, byte, count, rows, section}
 use Rattle.tables.specs.Reading.{markedRow, permissions}
 use Rattle.tables.specs.code.Reads.{Reads, Is, IsCount, RowsAt, SectionAt, withCount}
-use Rattle.tables.specs.Layout.{room}
 use Rattle.tables.proofs.ReadLaws.{Got, read-on}
 
 module _ (s : Bytes) (at : ℕ) {A : Type 0} (row : ℕ → Reader A) where

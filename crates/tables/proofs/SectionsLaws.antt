@@ -12,8 +12,8 @@ use Rattle.tables.specs.Reading.{Bytes, stop, took, next, count, section
 use Rattle.tables.specs.Reading.{wordRow, markedRow, sessionRow, sections, assembled}
 use Rattle.tables.specs.code.Reads.{Reads, stops, takes, IsCount, SectionAt, PermissionsAt, RightsAt, CollectionsAt, Filled}
 use Rattle.tables.specs.code.Reads.{withNames, rowsFrom, putSessions, withRights, withCollections}
-use Rattle.tables.specs.Layout.{roleCountAt, userCountAt, sessionCountAt, operationCountAt, objectCountAt, crCountAt, cuCountAt, cpCountAt}
-use Rattle.tables.specs.Layout.{roleRowsAt, userRowsAt, crAt, cuAt, cpAt}
+use Rattle.tables.specs.code.Layout.{roleCountAt, userCountAt, sessionCountAt, operationCountAt, objectCountAt, crCountAt, cuCountAt}
+use Rattle.tables.specs.code.Layout.{cpCountAt, roleRowsAt, userRowsAt, crAt, cuAt, cpAt}
 use Rattle.tables.proofs.ReadLaws.{Got}
 
 pub product-few : {a b : ℕ} → a ≤ 8 → b ≤ 8 → a * b ≤ 64

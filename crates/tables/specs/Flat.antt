@@ -2,10 +2,16 @@
 -- Assumes nothing.
 use mathlib.Core.List.{List, [], _∷_, _++_, map}
 use Prim.Native.Nat.{ℕ, zero, suc, _/_, _%_}
-use lib.ListN.{length, getD}
+use lib.ListN.{length}
 use Rattle.words.specs.Words.{itemOf}
 use Rattle.tables.specs.Tables.{Tables, sessionUsers, sessionRoles}
-use Rattle.tables.specs.Layout.{room}
+
+-- Eleven sections of 64 words each: the words of a section, and of all.
+abbrev pub room : ℕ
+room = 64
+
+abbrev pub wholeLength : ℕ
+wholeLength = 704
 
 -- The first n of the words and of zeros after them.
 unfoldable pub padded : ℕ → List ℕ → List ℕ
@@ -37,10 +43,6 @@ unfoldable pub sections : Tables → List (List ℕ)
 sections T =
     counts T ∷ T .roleRows ∷ T .userRows ∷ map itemOf (sessionUsers T) ∷ sessionRoles T ∷ T .permissionRows
     ∷ T .cr ∷ T .cu ∷ T .cp ∷ objectRows T ∷ operationRows T ∷ []
-
--- The section that begins at a word.
-abbrev pub sectionAt : Tables → ℕ → List ℕ
-sectionAt T at = getD (sections T) (at / room) []
 
 -- Sections one after another, each with room for 64 words.
 unfoldable pub laid : List (List ℕ) → List ℕ

@@ -1,5 +1,5 @@
 -- The tables: their record, the functions of Figure 2 on them, the checks on the whole, what accepted tables are, reading them from bytes,
--- their bytes, the layout of the flat words, the flat words that hold them, and what the readers in code give.
+-- their bytes, the flat words that hold them, and what the readers in code give.
 pub mod Tables
 pub mod Functions
 pub mod Checks
@@ -7,6 +7,5 @@ pub mod Accepted
 pub mod Bytes
 pub mod Reading
 pub mod Encode
-pub mod Layout
 pub mod Flat
 pub mod code

@@ -12,8 +12,7 @@ use Rattle.tables.specs.declared.Outcome.{Outcome}
 use Rattle.tables.specs.declared.Outcome.the-variants.{Refused, Accepted}
 use Rattle.tables.specs.Tables.{Session, Tables}
 use Rattle.tables.specs.Checks.{late}
-use Rattle.tables.specs.Layout.{wholeLength}
-use Rattle.tables.specs.Flat.{flat}
+use Rattle.tables.specs.Flat.{wholeLength, flat}
 unfoldable pub use Rattle.tables.specs.Bytes.{Bytes, wordFrom}
 
 -- "the first refusal met is the answer and nothing further is read": a refusal, or what was taken and the bytes left.

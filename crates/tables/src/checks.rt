@@ -7,8 +7,8 @@ ghost use Rattle.tables.specs.Checks.{ranked as rankedOf, inReach as inR
 ghost use Rattle.tables.specs.code.Reads.{rankAt, reaching, newAt, CountsFit};
 ghost use Rattle.tables.specs.Tables.{Tables};
 ghost use Rattle.tables.specs.Accepted.{Fits, Below, Bounded};
-ghost use Rattle.tables.specs.Layout.{room, wholeLength, Whole};
-ghost use Rattle.tables.specs.Flat.{flat};
+ghost use Rattle.tables.specs.code.Layout.{Whole};
+ghost use Rattle.tables.specs.Flat.{wholeLength, room, flat};
 use crate::Outcome;
 use crate::layout;
 use answers::Refusal;

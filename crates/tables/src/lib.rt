@@ -3,8 +3,8 @@
 ghost use mathlib.Core.Path.{_≡_};
 ghost use lib.ListN.{replicate};
 ghost use Rattle.tables.specs.declared.Outcome.the-variants.{Accepted as AcceptedOutcome};
+ghost use Rattle.tables.specs.Flat.{wholeLength};
 ghost use Rattle.tables.specs.Reading.{tablesOf, outcomeNumber, readingNumber, wordsOf};
-ghost use Rattle.tables.specs.Layout.{wholeLength};
 ghost use Rattle.tables.specs.code.Reads.{readingOutcome};
 use crate::checks::checked;
 use crate::layout::WHOLE;

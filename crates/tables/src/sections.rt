@@ -3,10 +3,11 @@
 ghost use mathlib.Core.Path.{_≡_};
 ghost use Prim.Native.Nat.{_+_, _*_, _≤_, _<_};
 ghost use lib.ListN.{length, drop};
+ghost use Rattle.tables.specs.Flat.{room, wholeLength};
 ghost use Rattle.tables.specs.Reading.{wordRow, sessionRow, rows as rowsOf, section as sectionOf};
 ghost use Rattle.tables.specs.Reading.{permissions as permissionsOf, rights as rightsOf};
 ghost use Rattle.tables.specs.Reading.{collections as collectionsOf, sections as sectionsOf};
-ghost use Rattle.tables.specs.Layout.{room, wholeLength, Whole, roleCountAt, roleRowsAt, sessionCountAt};
+ghost use Rattle.tables.specs.code.Layout.{Whole, roleCountAt, roleRowsAt, sessionCountAt};
 ghost use Rattle.tables.specs.code.Reads.{Reads, rowOf, RowFits, rowsFrom, putSessions, RowsAt, SectionAt};
 ghost use Rattle.tables.specs.code.Reads.{withNames, PermissionsAt, RightsAt, CollectionsAt, Filled};
 use crate::Row;

@@ -13,9 +13,9 @@ use borrow.Author.Tests.{lt-ltb, le-ltb}
 use Rattle.words.specs.Words.{allOf, itemOf}
 use Rattle.tables.specs.Tables.{Tables}
 use Rattle.tables.specs.Accepted.{Fits}
-use Rattle.tables.specs.Layout.{room, roleCountAt, userCountAt, sessionCountAt, operationCountAt, objectCountAt, permissionCountAt}
-use Rattle.tables.specs.Layout.{crCountAt, cuCountAt, cpCountAt, crAt, cuAt, cpAt}
-use Rattle.tables.specs.Flat.{counts, sections, flat}
+use Rattle.tables.specs.code.Layout.{roleCountAt, userCountAt, sessionCountAt, operationCountAt, objectCountAt, permissionCountAt, crCountAt}
+use Rattle.tables.specs.code.Layout.{cuCountAt, cpCountAt, crAt, cuAt, cpAt}
+use Rattle.tables.specs.Flat.{room, counts, sections, flat}
 use Rattle.tables.proofs.FlatLaws.{flat-at, count-at}
 use Rattle.syntax.specs.code.Nodes.{firstCall}
 use Rattle.rules.specs.Kind.{baseKind}
@@ -79,7 +79,7 @@ one-none T x k e = rw e
 
 -- of a collection it is the word there.
 module _ (T : Tables) (x : ℕ) (k : ℕ) (l : firstCollection ≤ k) (h : k < noKind) where
-  pub one-word : x ≤ 63 → getD (flat T) (getD collectionPlaces (k - firstCollection) 0 + x) 0 ≡ oneValue T (kindOf k) x
+  pub one-word : x < room → getD (flat T) (getD collectionPlaces (k - firstCollection) 0 + x) 0 ≡ oneValue T (kindOf k) x
   unfolding sections oneValue kindOf kindList
   one-word m =
       let up : firstCollection + (k - firstCollection) ≡ k = omega arith in
@@ -87,7 +87,7 @@ module _ (T : Tables) (x : ℕ) (k : ℕ) (l : firstCollection ≤ k) (h : k < n
       (((tt, flat-at T 6 x (omega arith)), flat-at T 8 x (omega arith)), flat-at T 7 x (omega arith)) (k - firstCollection) (omega arith)
       ∙ ap (λ (j : ℕ). oneValue T (kindOf j) x) up
 
-  pub one-far : Fits T → 63 < x → 0 ≡ oneValue T (kindOf k) x
+  pub one-far : Fits T → room ≤ x → 0 ≡ oneValue T (kindOf k) x
   unfolding oneValue kindOf kindList
   one-far f m =
       let up : firstCollection + (k - firstCollection) ≡ k = omega arith in

@@ -13,7 +13,7 @@ ghost use mathlib.Core.Path.{_≡_};
 ghost use Prim.Native.Nat.{_<_, _≤_};
 ghost use Rattle.tables.specs.Tables.{Tables};
 ghost use Rattle.tables.specs.Accepted.{Fits};
-ghost use Rattle.tables.specs.Layout.{Whole};
+ghost use Rattle.tables.specs.code.Layout.{Whole};
 ghost use Rattle.tables.specs.Flat.{flat};
 ghost use Rattle.syntax.specs.Term.{user, roles, roles*};
 ghost use Rattle.rules.specs.code.Numbers.{kindsFit, kindOf};

@@ -4,7 +4,7 @@ ghost use Prim.Native.Nat.{_<_};
 ghost use lib.ListN.{getD};
 ghost use Rattle.tables.specs.Tables.{Tables};
 ghost use Rattle.tables.specs.Accepted.{Fits};
-ghost use Rattle.tables.specs.Layout.{Whole};
+ghost use Rattle.tables.specs.code.Layout.{Whole};
 ghost use Rattle.tables.specs.Flat.{flat};
 ghost use Rattle.rules.specs.Kind.{Sort, baseKind};
 ghost use Rattle.rules.specs.code.Numbers.{firstSet, kindsFit, kindOf};
@@ -54,7 +54,7 @@ pub fn one(t: &[u64], kind: u8, x: usize) -> u64
     if NO_KIND <= kind {
         return 0;
     }
-    if 63 < x {
+    if layout::ROOM <= x {
         return 0;
     }
     let k = (kind - FIRST_COLLECTION) as usize;

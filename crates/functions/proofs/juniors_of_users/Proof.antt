@@ -3,8 +3,7 @@
 use mathlib.Core.Path.{ap, _∙_}
 use borrow.Author.Needs.{needs}
 use Rattle.words.specs.Words.{imageOf}
-use Rattle.tables.specs.Layout.{roleRowsAt}
-use Rattle.tables.specs.Flat.{sectionAt}
+use Rattle.tables.specs.code.Layout.{roleRowsAt, sectionAt}
 use Rattle.functions.proofs.FunctionsLaws.{juniors-of-users}
 use Rattle.functions.proofs.juniors_of_users.Statement.{statement}
 use Rattle.functions.proofs.juniors_of_users.Tie as tie

@@ -3,8 +3,7 @@
 use mathlib.Core.Path.{ap, ap₂, _∙_}
 use borrow.Author.Needs.{needs}
 use Rattle.words.specs.Words.{imageOf, meetOf}
-use Rattle.tables.specs.Layout.{operationRowsAt}
-use Rattle.tables.specs.Flat.{sectionAt}
+use Rattle.tables.specs.code.Layout.{operationRowsAt, sectionAt}
 use Rattle.functions.proofs.FunctionsLaws.{operations-on, counted-permissions, counted-objects}
 use Rattle.functions.proofs.operations_on.Statement.{statement}
 use Rattle.functions.proofs.operations_on.Tie as tie

@@ -3,8 +3,7 @@
 use mathlib.Core.Path.{ap, _∙_}
 use borrow.Author.Needs.{needs}
 use Rattle.words.specs.Words.{preimageOf}
-use Rattle.tables.specs.Layout.{permissionRowsAt}
-use Rattle.tables.specs.Flat.{sectionAt}
+use Rattle.tables.specs.code.Layout.{permissionRowsAt, sectionAt}
 use Rattle.functions.proofs.FunctionsLaws.{permissions-of-juniors, counted-permissions}
 use Rattle.functions.proofs.permissions_of_juniors.Statement.{statement}
 use Rattle.functions.proofs.permissions_of_juniors.Tie as tie

@@ -3,8 +3,7 @@
 use mathlib.Core.Path.{ap, _∙_}
 use borrow.Author.Needs.{needs}
 use Rattle.words.specs.Words.{preimageOf}
-use Rattle.tables.specs.Layout.{roleRowsAt}
-use Rattle.tables.specs.Flat.{sectionAt}
+use Rattle.tables.specs.code.Layout.{roleRowsAt, sectionAt}
 use Rattle.functions.proofs.FunctionsLaws.{seniors-of-permissions, counted-roles}
 use Rattle.functions.proofs.seniors_of_permissions.Statement.{statement}
 use Rattle.functions.proofs.seniors_of_permissions.Tie as tie

@@ -18,10 +18,10 @@ use Rattle.tables.specs.Tables.{Session, Tables}
 use Rattle.tables.specs.Reading.{Bytes, Taken, Reader, stop, took, wordRow, markedRow, Rights, Collections, Reading, rejected, taken}
 use Rattle.tables.specs.Functions.{dominates}
 use Rattle.tables.specs.Checks.{allTo}
-use Rattle.tables.specs.Layout.{room, Whole, roleCountAt, userCountAt, sessionCountAt, operationCountAt, objectCountAt, permissionCountAt}
-use Rattle.tables.specs.Layout.{crCountAt, cuCountAt, cpCountAt, roleRowsAt, userRowsAt, sessionUsersAt, sessionRolesAt, permissionRowsAt}
-use Rattle.tables.specs.Layout.{crAt, cuAt, cpAt, objectRowsAt, operationRowsAt}
-use Rattle.tables.specs.Flat.{tabulate}
+use Rattle.tables.specs.code.Layout.{Whole, roleCountAt, userCountAt, sessionCountAt, operationCountAt, objectCountAt, permissionCountAt}
+use Rattle.tables.specs.code.Layout.{crCountAt, cuCountAt, cpCountAt, roleRowsAt, userRowsAt, sessionUsersAt, sessionRolesAt}
+use Rattle.tables.specs.code.Layout.{permissionRowsAt, crAt, cuAt, cpAt, objectRowsAt, operationRowsAt}
+use Rattle.tables.specs.Flat.{room, tabulate}
 
 -- The code stopped with the reader's refusal, or took what the reader took, up to the same byte; Holds relates the two values.
 pub data Reads {A : Type 0} (s : Bytes) (Holds : A → ℕ → Type 0) : Step → Taken A → Type 0 where

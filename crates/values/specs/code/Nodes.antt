@@ -8,7 +8,7 @@ use lib.Dec.{eqb}
 use lib.ListN.{length, getD}
 use Rattle.tables.specs.Tables.{Tables}
 use Rattle.tables.specs.Accepted.{Fits}
-use Rattle.tables.specs.Layout.{Whole}
+use Rattle.tables.specs.code.Layout.{Whole}
 use Rattle.tables.specs.Flat.{flat}
 use Rattle.syntax.specs.Term.{Base, bU, bR, bOP, bOBJ, bP, bS, bCR, bCP, bCU, Fn, user, roles, roles*, sessions, permissions}
 use Rattle.syntax.specs.Term.{permissions*, object, operations, meet, join, Pair, calls, joins, Term, Choices}

@@ -4,7 +4,7 @@ use mathlib.Core.Path.{sym, _∙_}
 use native.Mathlib.Omega.{arith}
 use borrow.Author.Tests.{not-true, not-false}
 use Rattle.tables.specs.Checks.{lateChecks, firstFailing}
-use Rattle.tables.specs.Layout.{roleRowsAt}
+use Rattle.tables.specs.code.Layout.{roleRowsAt}
 use Rattle.tables.proofs.PartLaws.{part-length, rank-part}
 use borrow.Author.Needs.{needs}
 use Rattle.tables.proofs.checks.checked.Statement.{statement}

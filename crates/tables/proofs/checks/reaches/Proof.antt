@@ -2,7 +2,7 @@
 -- Assumes nothing.
 use mathlib.Core.Path.{sym, _∙_}
 use native.Mathlib.Omega.{arith}
-use Rattle.tables.specs.Layout.{sessionUsersAt, sessionRolesAt}
+use Rattle.tables.specs.code.Layout.{sessionUsersAt, sessionRolesAt}
 use Rattle.tables.proofs.PartLaws.{part-length, reach-part}
 use borrow.Author.Needs.{needs}
 use Rattle.tables.proofs.checks.reaches.Statement.{statement}

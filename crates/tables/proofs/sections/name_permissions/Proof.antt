@@ -6,7 +6,7 @@ use mathlib.Core.Path.{_≡_, _∙_, sym}
 use native.Mathlib.Omega.{arith}
 use lib.ListN.{length-set}
 use Rattle.tables.specs.code.Reads.{withNames}
-use Rattle.tables.specs.Layout.{Whole}
+use Rattle.tables.specs.code.Layout.{Whole}
 use Rattle.tables.proofs.PutLaws.{names-none, names-more, names-long}
 use Rattle.tables.proofs.sections.name_permissions.Statement.{statement}
 use Rattle.tables.proofs.sections.name_permissions.Tie as tie

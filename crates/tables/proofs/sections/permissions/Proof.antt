@@ -3,7 +3,7 @@
 use mathlib.Core.Path.{_∙_}
 use native.Mathlib.Omega.{arith}
 use lib.ListN.{length-set}
-use Rattle.tables.specs.Layout.{permissionCountAt, permissionRowsAt}
+use Rattle.tables.specs.code.Layout.{permissionCountAt, permissionRowsAt}
 use Rattle.tables.proofs.ReadLaws.{as-took, as-stop, stops-as, reads-as}
 use Rattle.tables.specs.code.Reads.{stops, rowsFrom}
 use Rattle.tables.proofs.SectionLaws.{permissions-stop, permissions-wrong, permissions-on, counted}

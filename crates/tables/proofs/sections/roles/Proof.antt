@@ -5,7 +5,7 @@ use native.Mathlib.Omega.{arith}
 use lib.ListN.{length-set}
 use Rattle.tables.specs.Reading.{wordRow}
 use Rattle.tables.specs.code.Reads.{rowsFrom}
-use Rattle.tables.specs.Layout.{roleCountAt, roleRowsAt}
+use Rattle.tables.specs.code.Layout.{roleCountAt, roleRowsAt}
 use Rattle.tables.proofs.ReadLaws.{as-took, as-stop, stops-as, reads-as}
 use Rattle.tables.proofs.SectionLaws.{section-stop, section-on, counted}
 use borrow.Author.Needs.{needs}

@@ -3,7 +3,7 @@
 use mathlib.Core.Path.{_∙_}
 use lib.ListN.{length-set}
 use Rattle.tables.specs.Reading.{sessionRow}
-use Rattle.tables.specs.Layout.{sessionCountAt}
+use Rattle.tables.specs.code.Layout.{sessionCountAt}
 use Rattle.tables.specs.code.Reads.{putSessions}
 use Rattle.tables.proofs.ReadLaws.{as-took, as-stop, stops-as, reads-as}
 use Rattle.tables.proofs.SectionLaws.{section-stop, section-on, counted}

@@ -1,24 +1,22 @@
--- The layout of the flat tables: eleven sections of 64 words each. Nothing else spells one of these numbers.
--- Assumes nothing.
+-- The layout of the flat tables, by word: where the counts stand and where the sections begin. Nothing else spells one of these numbers.
+-- Internal: contracts of entry points do not speak of it. Assumes nothing.
 use mathlib.Core.Path.{_≡_}
-use mathlib.Core.List.{List}
-use Prim.Native.Nat.{ℕ, _*_, _%_, _<_}
-use lib.ListN.{length}
-
--- The words of a section, and of all.
-abbrev pub room : ℕ
-room = 64
-
-abbrev pub wholeLength : ℕ
-wholeLength = 704
+use mathlib.Core.List.{List, []}
+use Prim.Native.Nat.{ℕ, _*_, _/_, _%_, _<_}
+use lib.ListN.{length, getD}
+use Rattle.tables.specs.Tables.{Tables}
+use Rattle.tables.specs.Flat.{room, wholeLength, sections}
 
 -- These words are whole tables.
 abbrev pub Whole : List ℕ → Type 0
 Whole ws = length ws ≡ wholeLength
 
--- A section begins at this word.
+-- A section begins at this word, and which.
 abbrev pub Begins : ℕ → Type 0
 Begins at = (at % room ≡ 0) × (at < wholeLength)
+
+abbrev pub sectionAt : Tables → ℕ → List ℕ
+sectionAt T at = getD (sections T) (at / room) []
 
 -- The first section has the counts, in the sections' order of document 01.
 abbrev pub roleCountAt : ℕ
