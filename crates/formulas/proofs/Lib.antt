@@ -1,5 +1,5 @@
 -- Laws of formulas, and the theorems on what the entry points answer.
-pub mod AcceptLaws
+pub mod DepthLaws
 pub mod RebuildLaws
 pub mod WrittenLaws
 pub mod ReduceLaws

@@ -1,7 +1,7 @@
--- Rebuilding on texts: exactly the formulas of accepted rules, one rule for each, and how a reader with fixed bounds finds it.
+-- Rebuilding on texts: exactly the formulas of accepted rules, one rule for each, and how the reader of formulas finds it.
 -- Assumes nothing.
 use mathlib.Core.Path.{_≡_, refl, ap, sym, _∙_}
-use mathlib.Core.List.{[], _∷_, _++_}
+use mathlib.Core.List.{[]}
 use mathlib.Core.Option.{Option, none, some}
 use mathlib.Core.Bool.{Bool, true, false}
 use Prim.Native.Nat.{ℕ, _≤_}
@@ -11,17 +11,14 @@ use Rattle.answers.specs.Answer.{Answer, refused, wrote}
 use Rattle.answers.specs.declared.Refusal.{Refusal}
 use Rattle.answers.specs.declared.Refusal.the-variants.{NotARule, NoRulesFormula}
 use Rattle.syntax.specs.Bytes.{Bytes, same}
-use Rattle.syntax.specs.Term.{Choices}
-use Rattle.syntax.specs.Rule.{Rule, ruleText, ruleVars, formula, readFormula, whole, ruleOfFormula}
+use Rattle.syntax.specs.Rule.{Rule, ruleText, formula, readFormula, whole, ruleOfFormula}
 use Rattle.syntax.proofs.BytesLaws.{same-own, same-gives}
-use Rattle.syntax.proofs.RuleLaws.{formula-back, Within, read-formula}
-use Rattle.syntax.specs.code.Printing.{printed}
-use Rattle.syntax.proofs.Closed.{formula-in}
-use Rattle.syntax.proofs.Length.{Small, text-grows, rule-grows, rule-small, formula-short}
+use Rattle.syntax.specs.code.Reading.{clauseRoom}
+use Rattle.syntax.proofs.RuleLaws.{formula-back, clauses-few, read-formula}
+use Rattle.rules.proofs.AcceptLaws.{Accepted, accepted-gives}
 use Rattle.rules.specs.Accept.{refusal, isNone, accepted}
 use Rattle.formulas.specs.Formulas.{formulaOf, wroteOr, reduced, RuleOf, Rebuilds, gives, givesNone}
 use Rattle.formulas.specs.code.Rebuilding.{kept, rebuilt, rebuiltAnswer}
-use Rattle.formulas.proofs.AcceptLaws.{Accepted, accepted-gives}
 
 -- What `reduced` writes is the formula of an accepted text, and the other way.
 
@@ -62,31 +59,18 @@ module _ {f s : Bytes} (p : RuleOf f s) where
   pub rule-reduced : reduced s ≡ wrote f
   rule-reduced = wrote-reduced s f (none-true (refusal s) (p .accepts)) (p .formula)
 
--- No choice of an accepted rule is written with more than 448 bytes, whatever choices are known; nor is the rule.
+-- The reader of formulas finds the rule of every formula of an accepted rule, within its bounds on clauses and quantifiers.
+pub read-back : {s : Bytes} (a : Accepted s) → whole (readFormula clauseRoom 9 [] (formula (a .rule))) ≡ some (a .rule)
+read-back a =
+    let l : length (ruleText [] (a .rule)) ≤ clauseRoom = rw (← (a .text)) (a .short) in
+    read-formula clauseRoom 9 (a .rule) (a .numbers) (omega (arith, clauses-few [] (a .rule))) (omega (arith, a .few))
 
-small-within : (σ xs : Choices) → Small 256 xs → Within 512 σ xs
-small-within σ [] h = tt
-small-within σ (x ∷ xs) h = (omega (arith, text-grows σ x, h .0), small-within (σ ++ (x ∷ [])) xs (h .1))
-
--- The reader of formulas with fixed bounds finds the rule of every formula of an accepted rule.
-pub read-back : {s : Bytes} (a : Accepted s) → whole (readFormula 512 9 [] (formula (a .rule))) ≡ some (a .rule)
-unfolding whole printed
-read-back {s} a =
-    let ρ : Rule = a .rule in
-    let τ : Choices = ruleVars [] ρ in
-    let l : length (ruleText [] ρ) ≤ 256 = rw (← (a .text)) (a .short) in
-    let w : length (ruleText τ ρ) ≤ 512 = omega (arith, rule-grows τ ρ) in
-    rw (formula-in ρ, read-formula 512 9 [] τ τ refl ρ (a .numbers) (small-within [] τ (rule-small 256 [] ρ tt l)) w (omega (arith, a .few)))
-
-pub formula-within : {s : Bytes} (a : Accepted s) → length (formula (a .rule)) ≤ 4096
-formula-within a = formula-short (a .rule) (rw (← (a .text)) (a .short)) (a .few)
-
--- A reader with fixed bounds finds the one candidate.
+-- It finds the one candidate.
 module _ {f s : Bytes} (p : RuleOf f s) where
-  pub rule-read : whole (readFormula 512 9 [] f) ≡ some (rule-accepted p .rule)
-  rule-read = ap (λ (g : Bytes). whole (readFormula 512 9 [] g)) (sym (rule-formula p)) ∙ read-back (rule-accepted p)
+  pub rule-read : whole (readFormula clauseRoom 9 [] f) ≡ some (rule-accepted p .rule)
+  rule-read = ap (λ (g : Bytes). whole (readFormula clauseRoom 9 [] g)) (sym (rule-formula p)) ∙ read-back (rule-accepted p)
 
-  pub rule-only : (ρ : Rule) → whole (readFormula 512 9 [] f) ≡ some ρ → s ≡ ruleText [] ρ
+  pub rule-only : (ρ : Rule) → whole (readFormula clauseRoom 9 [] f) ≡ some ρ → s ≡ ruleText [] ρ
   rule-only ρ e =
       let h : rule-accepted p .rule ≡ ρ = cc (rule-read, e) in
       rule-accepted p .text ∙ ap (ruleText []) h

@@ -16,11 +16,11 @@ use Rattle.syntax.specs.Rule.{Rule, ruleText, ruleVars, formula, readFormula, w
 use Rattle.syntax.specs.code.Arena.{HoldsRule}
 use Rattle.syntax.specs.code.Printing.{printed}
 use Rattle.syntax.proofs.Closed.{formula-in}
-use Rattle.syntax.specs.code.Reading.{Rooted}
+use Rattle.syntax.specs.code.Reading.{clauseRoom, Rooted}
 use Rattle.syntax.proofs.BytesLaws.{same-own, same-gives}
 use Rattle.rules.specs.declared.Checked.{Checked}
 use Rattle.rules.specs.declared.Checked.the-variants.{Refused as RuleRefused, Accepted as Taken}
-use Rattle.rules.specs.Accept.{refusal}
+use Rattle.rules.specs.Accept.{deep, refusal}
 use Rattle.rules.specs.code.Parsed.{checkedOf}
 use Rattle.rules.specs.code.Parsed.{Parses}
 use Rattle.printer.specs.code.Printed.{Prints, Printable, formulaIn}
@@ -31,9 +31,10 @@ use Rattle.answers.specs.declared.Written.the-variants.{Refused, Wrote}
 use Rattle.formulas.specs.Formulas.{reduced, RuleOf, gives, givesNone, RebuildAnswers}
 use Rattle.answers.specs.Written.{Answers}
 use Rattle.answers.proofs.AnswerLaws.{kept-refused}
-use Rattle.formulas.proofs.AcceptLaws.{accepted-gives}
-use Rattle.formulas.proofs.RebuildLaws.{wrote-reduced, accepted-formula, formula-within, rule-of}
+use Rattle.rules.proofs.AcceptLaws.{accepted-gives, formula-within}
+use Rattle.formulas.proofs.RebuildLaws.{wrote-reduced, accepted-formula, rule-of}
 use Rattle.formulas.proofs.RebuildLaws.{rule-accepted, rule-formula, rule-reduced, rule-read, rule-only}
+use Rattle.formulas.proofs.DepthLaws.{formula-shallow}
 use Rattle.formulas.proofs.WrittenLaws.{answers-refusal, answers-wrote, answers-refused}
 
 pub answers-as : {a b : Answer} (n : ℕ) {old new : Bytes} {w : Written} → a ≡ b → Answers (lent n b) old new w → Answers (lent n a) old new w
@@ -96,11 +97,19 @@ module _ (f old : Bytes) where
   pub rebuild-long : 4096 < length f → Sixteen
   rebuild-long h = sixteen (λ s p. omega (arith, formula-within (rule-accepted p), ap length (rule-formula p)))
 
-  pub rebuild-unread : whole (readFormula 512 9 [] f) ≡ none → Sixteen
+  -- The formula of a rule that passes check 12 passes it.
+  pub rebuild-deep : deep 0 0 f ≡ true → Sixteen
+  rebuild-deep e = sixteen (λ s p.
+      let a = rule-accepted p in
+      let q : deep 0 0 (formula (a .rule)) ≡ false = formula-shallow (a .rule) (rw (← (a .text)) (a .shallow)) in
+      let z : _≡_ {A = ℕ} 0 1 = cc (ap (deep 0 0) (rule-formula p)) in
+      omega arith)
+
+  pub rebuild-unread : whole (readFormula clauseRoom 9 [] f) ≡ none → Sixteen
   rebuild-unread e = sixteen (λ s p. let z : _≡_ {A = ℕ} 0 1 = cc (rule-read p) in omega arith)
 
   -- The candidate c is the tree's own text as far as 257 bytes, which are too many for a rule.
-  module _ {ρ : Rule} {c : Bytes} (e : whole (readFormula 512 9 [] f) ≡ some ρ) (h : c ≡ take 257 (ruleText [] ρ)) where
+  module _ {ρ : Rule} {c : Bytes} (e : whole (readFormula clauseRoom 9 [] f) ≡ some ρ) (h : c ≡ take 257 (ruleText [] ρ)) where
     other : (reduced c ≡ wrote f → ⊥) → Sixteen
     other x = sixteen go
       where

@@ -17,8 +17,8 @@ use Rattle.syntax.specs.Rule.{Rule, RuleFits, ruleText, formula, ruleOf}
 use Rattle.syntax.proofs.RuleLaws.{rule-back, rule-text}
 use Rattle.rules.specs.Accept.{refusal, accepted}
 use Rattle.formulas.specs.Formulas.{formulaOf, reduced, Rebuilds, gives, givesNone}
-use Rattle.formulas.proofs.AcceptLaws.{accepted-gives}
-use Rattle.formulas.proofs.RebuildLaws.{reduced-wrote, wrote-reduced, accepted-formula, formula-within}
+use Rattle.rules.proofs.AcceptLaws.{accepted-gives, formula-within}
+use Rattle.formulas.proofs.RebuildLaws.{reduced-wrote, wrote-reduced, accepted-formula}
 use Rattle.formulas.proofs.RebuildLaws.{none-true, rule-of, rule-once, rebuilds-once}
 
 -- "For an accepted rule the bytes written are the formula of document 01": of the rule that the text is.

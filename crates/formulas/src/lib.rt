@@ -48,11 +48,15 @@ pub fn reduce(rule: &[u8], out: &mut [u8]) -> Written
     answers::lend(text, out)
 }
 
-// Formula to rule: 16, then 17. The candidate is the tree's own text, kept where its formula is the input byte for byte.
+// Formula to rule: 16, then 17. No accepted rule's formula is deeper than check 12 lets a rule be, so deeper ones are turned away before anything is read
+// and the stack stays small. The candidate is the tree's own text, kept where its formula is the input byte for byte.
 pub fn rebuild(formula: &[u8], out: &mut [u8]) -> Written
     ensures { λ r. ⌜ RebuildAnswers (now (formula .entry)) (now (out .entry)) (now (out .exit)) r ⌝ }
 {
     if formula.len() > 4096 {
+        return Written::Refused(Refusal::NoRulesFormula);
+    }
+    if rules::depth::too_deep(formula) {
         return Written::Refused(Refusal::NoRulesFormula);
     }
     let mut nodes = [0u32; 4096];

@@ -20,7 +20,7 @@ use Rattle.answers.specs.Answer.{wrote, lent}
 use Rattle.answers.proofs.AnswerLaws.{lent-fits, lent-wrote}
 use Rattle.rules.specs.Accept.{refusal, accepted}
 use Rattle.formulas.specs.Formulas.{RuleOf, formulaOf, reduced, Rebuilds, gives}
-use Rattle.formulas.proofs.AcceptLaws.{accepted-gives}
+use Rattle.rules.proofs.AcceptLaws.{accepted-gives}
 use Rattle.formulas.proofs.RebuildLaws.{accepted-formula, none-true, rule-of, rule-once, rebuilds-once}
 use Rattle.formulas.proofs.Theorems.{rule-given}
 use Rattle.rcl2000.proofs.CallLaws.{through, sees-refused, sees-wrote, refuses-exactly, writes-exactly, call-ends}

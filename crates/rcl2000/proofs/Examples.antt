@@ -24,7 +24,7 @@ use Rattle.tables.specs.Functions.{userOfSessions, userOfRoles, rolesOfUsers, r
 use Rattle.syntax.specs.Bytes.{Bytes, next, skip, scan, either, same}
 use Rattle.syntax.proofs.BytesLaws.{same-gives}
 use Rattle.syntax.specs.Term.{bU, base, Term≟, digitFrom, namedFrom, spell, spellMiddle, opening, parting, oeText, aoText, text, bracketHeads, callHeads, collectionHeads}
-use Rattle.syntax.specs.Term.{heads, middles, known, closed, second, inner, readTerm}
+use Rattle.syntax.specs.Term.{heads, middles, known, closed, second, inner, termWithin, readTerm}
 use Rattle.syntax.specs.Rule.{is, empty, plain, last, Rule, spellCmp, spellBetween, digits, countText, testText, clauseText, ruleText, add, vars, countVars}
 use Rattle.syntax.specs.Rule.{testVars, clauseVars, ruleVars, quantifiers, formulaWith, formula, cmps, betweens, down, readCount, readSecond}
 use Rattle.syntax.specs.Rule.{readTest, readClause, readRule, readFormula, whole, ruleOf, ruleOfFormula}
@@ -151,7 +151,7 @@ all-right (l ∷ ls) q =
 
 -- Opening this opens all that the examples compute with.
 unfoldable everything : Unit {0}
-unfolding next skip scan either same Term≟ digitFrom namedFrom spell spellMiddle opening parting oeText aoText text bracketHeads callHeads collectionHeads heads middles known closed second inner readTerm spellCmp spellBetween digits countText testText clauseText ruleText add vars countVars testVars clauseVars ruleVars quantifiers formulaWith formula cmps betweens down readCount readSecond readTest readClause readRule readFormula whole ruleOf ruleOfFormula formulaOf kept rebuilt reduced rebuiltAnswer oneOf baseKind takes makes ofElement callKind inside oneKind othersKind asSet joined row call2Kind twoKind kind countable isMember countKinds testKinds clauseKinds ruleKinds deep treeRefusal refusal sumTo walk walkFirst firstTo variablesOf isSmall count isOnce isFree isAfter isOrder shareOf sortItems kindItems ofSort callValue call2Value opValue twoValue variableOf oneValue value compared signed countValue testTrue clauseTrue ruleTrue namesIn outcomeOf lowestFirst written answerBy hasItem wordOf anyTo countTo sizeOf allOf itemOf meetOf joinOf lessOf userOfSessions userOfRoles rolesOfUsers rolesOfSessions rolesOfPermissions
+unfolding next skip scan either same Term≟ digitFrom namedFrom spell spellMiddle opening parting oeText aoText text bracketHeads callHeads collectionHeads heads middles known closed second inner termWithin readTerm spellCmp spellBetween digits countText testText clauseText ruleText add vars countVars testVars clauseVars ruleVars quantifiers formulaWith formula cmps betweens down readCount readSecond readTest readClause readRule readFormula whole ruleOf ruleOfFormula formulaOf kept rebuilt reduced rebuiltAnswer oneOf baseKind takes makes ofElement callKind inside oneKind othersKind asSet joined row call2Kind twoKind kind countable isMember countKinds testKinds clauseKinds ruleKinds deep treeRefusal refusal sumTo walk walkFirst firstTo variablesOf isSmall count isOnce isFree isAfter isOrder shareOf sortItems kindItems ofSort callValue call2Value opValue twoValue variableOf oneValue value compared signed countValue testTrue clauseTrue ruleTrue namesIn outcomeOf lowestFirst written answerBy hasItem wordOf anyTo countTo sizeOf allOf itemOf meetOf joinOf lessOf userOfSessions userOfRoles rolesOfUsers rolesOfSessions rolesOfPermissions
 everything = tt
 
 pub examples : All table

@@ -16,7 +16,7 @@ use Rattle.answers.proofs.AnswerLaws.{lent-refused, lent-fits, lent-short}
 use Rattle.syntax.specs.Bytes.{Bytes}
 use Rattle.rules.specs.Accept.{refusal, isNone, accepted}
 use Rattle.formulas.specs.Formulas.{RuleOf, reduced, Rebuilds, gives, givesNone}
-use Rattle.formulas.proofs.AcceptLaws.{accepted-gives}
+use Rattle.rules.proofs.AcceptLaws.{accepted-gives}
 use Rattle.formulas.proofs.RebuildLaws.{wrote-reduced, accepted-formula, none-true, rebuilds-once}
 use Rattle.formulas.proofs.Theorems.{formula-at-most, rule-at-most}
 use Rattle.rcl2000.specs.Calls.{Reduces, Writes, LongEnough, ReduceRefuses, RebuildRefuses, ruleRefused, formulaLonger, noRule, ruleLonger}

@@ -2,19 +2,21 @@
 -- Assumes nothing.
 use mathlib.Core.Path.{_≡_, refl}
 use mathlib.Core.List.{[]}
-use mathlib.Core.Bool.{Bool, true, false, _&&_}
+use mathlib.Core.Bool.{Bool, true, false, _&&_, and-eq-true-iff}
 use mathlib.Core.Option.{Option, none, some}
 use Prim.Native.Nat.{ℕ, _<_, _≤_}
 use native.Mathlib.Decide.{decLt}
 use native.Mathlib.Omega.{arith}
 use lib.Dec.{ltb, leb, lit≤}
 use lib.ListN.{length}
-use borrow.Author.Tests.{lt-ltb, le-ltb, le-leb, lt-leb}
+use borrow.Author.Tests.{lt-ltb, le-ltb, le-leb, lt-leb, leb-true}
 use Rattle.answers.specs.Refusal.{numberOf}
 use Rattle.answers.specs.declared.Refusal.{Refusal}
 use Rattle.answers.specs.declared.Refusal.the-variants.{RuleLength, Deep, NotARule, KindMismatch, Choices}
 use Rattle.syntax.specs.Bytes.{Bytes}
-use Rattle.syntax.specs.Rule.{Rule, ruleVars, ruleOf}
+use Rattle.syntax.specs.Rule.{Rule, RuleFits, ruleText, ruleVars, formula, ruleOf}
+use Rattle.syntax.proofs.RuleLaws.{rule-text}
+use Rattle.syntax.proofs.Length.{formula-short}
 use Rattle.rules.specs.Accept.{deep, treeRefusal, refusal}
 use Rattle.rules.specs.Kind.{ruleKinds}
 
@@ -81,16 +83,44 @@ firstOf b d o =
       | true ↦ elim d [ true ↦ some Deep | false ↦ elim o [ none ↦ some NotARule | some ρ ↦ treeRefusal ρ ] ]
     ]
 
--- An accepted text is the text of a rule that the checks on rules accept.
-pub accepted-rule : (s : Bytes) → refusal s ≡ none → (ρ : Rule) × (ruleOf s ≡ some ρ) × (treeRefusal ρ ≡ none)
+-- What it says of a text that none of 11 to 15 refuses it.
+pub record Accepted (s : Bytes) : Type 0 where
+  pub rule : Rule
+  pub reads : ruleOf s ≡ some rule
+  pub text : s ≡ ruleText [] rule
+  pub numbers : RuleFits rule
+  pub short : length s ≤ 256
+  pub shallow : deep 0 0 s ≡ false
+  pub fits : treeRefusal rule ≡ none
+  pub few : length (ruleVars [] rule) ≤ 8
+
+pub accepted-gives : (s : Bytes) → refusal s ≡ none → Accepted s
 unfolding refusal
-accepted-rule s e = go (ltb 0 (length s) && leb (length s) 256) (deep 0 0 s) (ruleOf s) refl e
+accepted-gives s e = go (ltb 0 (length s) && leb (length s) 256) (deep 0 0 s) (ruleOf s) refl refl refl e
   where
-    go : (b d : Bool) (o : Option Rule) → ruleOf s ≡ o → firstOf b d o ≡ none → (ρ : Rule) × (ruleOf s ≡ some ρ) × (treeRefusal ρ ≡ none)
-    go false d o q e = let z : _≡_ {A = ℕ} 0 1 = cc in absurd (omega arith)
-    go true true o q e = let z : _≡_ {A = ℕ} 0 1 = cc in absurd (omega arith)
-    go true false none q e = let z : _≡_ {A = ℕ} 0 1 = cc in absurd (omega arith)
-    go true false (some ρ) q e = (ρ, q, e)
+    go : (b d : Bool) (o : Option Rule) → (ltb 0 (length s) && leb (length s) 256) ≡ b → deep 0 0 s ≡ d → ruleOf s ≡ o → firstOf b d o ≡ none → Accepted s
+    go false d o p h q e = let z : _≡_ {A = ℕ} 0 1 = cc in absurd (omega arith)
+    go true true o p h q e = let z : _≡_ {A = ℕ} 0 1 = cc in absurd (omega arith)
+    go true false none p h q e = let z : _≡_ {A = ℕ} 0 1 = cc in absurd (omega arith)
+    go true false (some ρ) p h q e =
+        let w = rule-text s ρ q in
+        record {
+          rule = ρ;
+          reads = q;
+          text = w .0;
+          numbers = w .1;
+          short = leb-true _ _ (and-eq-true-iff (ltb 0 (length s)) (leb (length s) 256) .0 p .1);
+          shallow = h;
+          fits = e;
+          few = tree-few ρ e;
+        }
+
+pub accepted-rule : (s : Bytes) → refusal s ≡ none → (ρ : Rule) × (ruleOf s ≡ some ρ) × (treeRefusal ρ ≡ none)
+accepted-rule s e = let a = accepted-gives s e in (a .rule, a .reads, a .fits)
+
+-- "No formula passes 4,096 bytes."
+pub formula-within : {s : Bytes} (a : Accepted s) → length (formula (a .rule)) ≤ 4096
+formula-within a = formula-short (a .rule) (rw (← (a .text)) (a .short)) (a .few)
 
 pub accepted-tree : (s : Bytes) (ρ : Rule) → refusal s ≡ none → ruleOf s ≡ some ρ → treeRefusal ρ ≡ none
 accepted-tree s ρ e h =

@@ -6,7 +6,7 @@ use Prim.Native.Nat.{ℕ}
 use lib.Dec.{T, eqb}
 use Rattle.answers.specs.Answer.{numberOrZero}
 use Rattle.syntax.specs.Bytes.{Bytes, ascii, next, skip, scan, either}
-use Rattle.syntax.specs.Term.{Term≟, digitFrom, namedFrom, spell, spellMiddle, heads, collectionHeads, callHeads, bracketHeads, middles, known, closed, second, inner, readTerm}
+use Rattle.syntax.specs.Term.{Term≟, digitFrom, namedFrom, spell, spellMiddle, heads, collectionHeads, callHeads, bracketHeads, middles, known, closed, second, inner, termWithin, readTerm}
 use Rattle.syntax.specs.Rule.{spellCmp, spellBetween, digits, add, vars, countVars, testVars, clauseVars, ruleVars, cmps, betweens, down}
 use Rattle.syntax.specs.Rule.{readCount, readSecond, readTest, readClause, readRule, whole, ruleOf}
 use Rattle.rules.specs.Kind.{oneOf, baseKind, takes, makes, ofElement, callKind, inside, oneKind, othersKind, asSet, joined, row, call2Kind, twoKind, kind}
@@ -63,5 +63,5 @@ table =
     ∷ []
 
 examples : T (allRight table)
-unfolding right allRight next skip scan either Term≟ digitFrom namedFrom spell spellMiddle heads collectionHeads callHeads bracketHeads middles known closed second inner readTerm spellCmp spellBetween digits add vars countVars testVars clauseVars ruleVars cmps betweens down readCount readSecond readTest readClause readRule whole ruleOf oneOf baseKind takes makes ofElement callKind inside oneKind othersKind asSet joined row call2Kind twoKind kind countable isMember countKinds testKinds clauseKinds ruleKinds deep treeRefusal refusal
+unfolding right allRight next skip scan either Term≟ digitFrom namedFrom spell spellMiddle heads collectionHeads callHeads bracketHeads middles known closed second inner termWithin readTerm spellCmp spellBetween digits add vars countVars testVars clauseVars ruleVars cmps betweens down readCount readSecond readTest readClause readRule whole ruleOf oneOf baseKind takes makes ofElement callKind inside oneKind othersKind asSet joined row call2Kind twoKind kind countable isMember countKinds testKinds clauseKinds ruleKinds deep treeRefusal refusal
 examples = tt

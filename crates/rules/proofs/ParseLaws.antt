@@ -4,7 +4,6 @@ use mathlib.Core.Path.{_≡_, ap, sym, _∙_}
 use mathlib.Core.Bool.{false}
 use mathlib.Core.List.{List, []}
 use mathlib.Core.Option.{Option, none, some}
-use mathlib.Core.Logic.{⊎-elim}
 use Prim.Native.Nat.{ℕ, _<_, _≤_}
 use native.Mathlib.Omega.{arith}
 use lib.Dec.{eqb}
@@ -12,15 +11,13 @@ use lib.ListN.{length, getD, take}
 use lib.Seq.{getD-take, length-take-le}
 use borrow.Author.Tests.{eq-eqb, ne-eqb}
 use Rattle.answers.specs.declared.Refusal.{Refusal}
-use Rattle.answers.specs.declared.Refusal.the-variants.{RuleLength, KindMismatch, Choices}
+use Rattle.answers.specs.declared.Refusal.the-variants.{KindMismatch, Choices}
 use Rattle.syntax.specs.Bytes.{Bytes}
-use Rattle.syntax.specs.Rule.{Rule, ruleText, ruleVars, formula, ruleOf}
+use Rattle.syntax.specs.Rule.{Rule, ruleVars, formula, ruleOf}
 use Rattle.syntax.specs.code.Arena.{HoldsRule}
 use Rattle.syntax.specs.code.Reading.{Rooted, Reads, noRule, someRule}
 use Rattle.syntax.specs.declared.Whole.{Whole}
 use Rattle.syntax.specs.declared.Whole.the-variants.{Nothing, Root}
-use Rattle.syntax.proofs.RuleLaws.{rule-text}
-use Rattle.syntax.proofs.Length.{formula-short}
 use Rattle.rules.specs.declared.Checked.{Checked}
 use Rattle.rules.specs.declared.Checked.the-variants.{Refused, Accepted}
 use Rattle.rules.specs.declared.TreeCheck.{TreeCheck}
@@ -33,8 +30,7 @@ use Rattle.rules.specs.code.Numbers.{noKind, kindsFit, Kinded}
 use Rattle.rules.specs.code.Variables.{VarsOf}
 use Rattle.rules.specs.code.Lengths.{LengthsOf, FormulaLength}
 use Rattle.rules.specs.code.Parsed.{RuleAt, Fitted, ChecksTree, unfit, fit, Finds, rejected, found, Blank, Parses}
-use Rattle.rules.proofs.AcceptLaws.{refuse-long, refuse-tree, tree-mismatch, tree-choices, tree-fits}
-use Rattle.rules.proofs.NodeLaws.{lt-or-le}
+use Rattle.rules.proofs.AcceptLaws.{refuse-tree, tree-mismatch, tree-choices, tree-fits, accepted-gives, formula-within}
 use Rattle.rules.proofs.VariableLaws.{listed-count}
 
 -- The checks on a tree.
@@ -124,21 +120,10 @@ parse-found {n = n} {root = root} {count = count} (found {n = n′} {root = root
     let i : count′ ≡ count = cc in
     record { outcome = rw e; accepted = λ _. rw g at (rw h at (rw i at a)); refused = λ r y. let z : _≡_ {A = ℕ} 0 1 = cc in absurd (omega arith) }
 
--- An accepted text has 1 to 256 bytes, and its formula at most 4,096, so that its length is told exactly.
-
-pub accepted-short : (s : Bytes) → refusal s ≡ none → length s ≤ 256
-accepted-short s e = ⊎-elim (λ (h : 256 < length s). absurd (clash (refuse-long s h))) (λ (h : length s ≤ 256). h) (lt-or-le 256 (length s))
-  where
-    clash : refusal s ≡ some RuleLength → ⊥
-    clash q = let z : _≡_ {A = ℕ} 0 1 = cc in omega arith
-
-pub formula-bounded : {s ns : List ℕ} {n root : ℕ} {ks vs : List ℕ} {c : ℕ} → refusal s ≡ none → (a : RuleAt s ns n root ks vs c) → length (formula (a .tree)) ≤ 4096
-formula-bounded {s} e a =
-    let t = rule-text s (a .tree) (a .reads) .0 in
-    let h : length (ruleText [] (a .tree)) ≤ 256 = rw t at (accepted-short s e) in
-    formula-short (a .tree) h (omega (arith, a .counted, a .few))
-
+-- The formula of an accepted text is so short that its length is told exactly.
 pub formula-exact : {s ns : List ℕ} {n root : ℕ} {ks vs ls : List ℕ} {c r : ℕ} → refusal s ≡ none → (a : RuleAt s ns n root ks vs c) → LengthsOf ns n (take c vs) ls → FormulaLength ls (take c vs) root r → r ≡ length (formula (a .tree))
-formula-exact {ns = ns} {n = n} e a l f =
-    let b = formula-bounded e a in
+formula-exact {s = s} {ns = ns} {n = n} e a l f =
+    let g = accepted-gives s e in
+    let same : g .rule ≡ a .tree = cc (g .reads, a .reads) in
+    let b : length (formula (a .tree)) ≤ 4096 = rw same at (formula-within g) in
     f .is ns n (a .tree) (a .within) (a .holds) (a .knows) (l .measured (ruleVars [] (a .tree)) (a .knows)) ∙ omega arith

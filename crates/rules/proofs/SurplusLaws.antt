@@ -4,7 +4,7 @@ use mathlib.Core.Path.{_≡_, refl, ap, sym, _∙_}
 use mathlib.Core.List.{List, _∷_}
 use mathlib.Core.Bool.{Bool, true, false, _||_, cond}
 use mathlib.Core.Logic.{⊎-elim}
-use Prim.Native.Nat.{ℕ, suc, _+_, _-_, _<_, _≤_}
+use Prim.Native.Nat.{ℕ, suc, _+_, _-_, _*_, _<_, _≤_}
 use native.Mathlib.Omega.{arith}
 use native.Mathlib.Numerals.{add-one}
 use lib.Dec.{eqb, ltb}
@@ -17,7 +17,7 @@ use mir.Val.{SFits, toZ, ofZ}
 use mir.ValLaws.{toZ-ofZ}
 use borrow.Author.Tests.{lt-ltb, le-ltb, ltb-false}
 use Rattle.rules.specs.Accept.{deep}
-use Rattle.rules.specs.code.Surplus.{stepped, Read}
+use Rattle.rules.specs.code.Surplus.{textRoom, stepped, Read}
 use Rattle.rules.proofs.NodeLaws.{lt-or-le}
 
 -- A difference hangs on nothing but the difference.
@@ -172,19 +172,19 @@ module _ {s : List ℕ} {i : ℕ} {z w : ℤ} (r : Read s i z) (h : i < length s
       }
 
 -- A small surplus fits an i32, and one bracket more too.
-fits : {z : ℤ} → mag z ≤ 512 → SFits w32 z
+fits : {z : ℤ} → mag z ≤ 2 * textRoom → SFits w32 z
 fits h = record { sfits = omega arith }
 
-pub up-fits : (z : ℤ) → mag z ≤ 256 → SFits w32 (z +ℤ pos 1)
+pub up-fits : (z : ℤ) → mag z ≤ textRoom → SFits w32 (z +ℤ pos 1)
 up-fits (pos n) h = fits (omega arith)
 up-fits (negsuc n) h = fits (omega (arith, mag-sub 1 (suc n)))
 
-pub down-fits : (z : ℤ) → mag z ≤ 256 → SFits w32 (z -ℤ pos 1)
+pub down-fits : (z : ℤ) → mag z ≤ textRoom → SFits w32 (z -ℤ pos 1)
 down-fits (pos n) h = fits (omega (arith, mag-sub n 1))
 down-fits (negsuc n) h = fits (omega arith)
 
 -- The surplus after a byte, as the machine reads it back from its bits.
-pub stepped-back : {w : ℤ} (b : ℕ) (z : ℤ) → mag z ≤ 256 → w ≡ stepped b z → toZ w32 (ofZ w32 w) ≡ stepped b z
+pub stepped-back : {w : ℤ} (b : ℕ) (z : ℤ) → mag z ≤ textRoom → w ≡ stepped b z → toZ w32 (ofZ w32 w) ≡ stepped b z
 unfolding stepped
 stepped-back {w} b z h e = rw e (toZ-ofZ w32 (stepped b z) (go (eqb b 40) (eqb b 41)))
   where

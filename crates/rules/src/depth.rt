@@ -5,11 +5,11 @@ ghost use Prim.Native.Nat.{_≤_, _<_};
 ghost use lib.ListN.{length};
 ghost use lib.Signed.{mag};
 ghost use Rattle.rules.specs.Accept.{deep};
-ghost use Rattle.rules.specs.code.Surplus.{stepped};
+ghost use Rattle.rules.specs.code.Surplus.{textRoom, stepped};
 
 // The count of `(` less the count of `)`, with one byte more.
 fn surplus_after(b: u8, surplus: i32) -> i32
-    requires { ⌜ mag surplus ≤ 256 ⌝ }
+    requires { ⌜ mag surplus ≤ textRoom ⌝ }
     ensures { λ r. ⌜ r ≡ stepped b surplus ⌝ }
 {
     if b == 40 {
@@ -21,9 +21,9 @@ fn surplus_after(b: u8, surplus: i32) -> i32
     surplus
 }
 
-// Whether the surplus passes 32 somewhere in the text.
+// Whether the surplus passes 32 somewhere in the text, which is a rule's or a formula's.
 pub fn too_deep(s: &[u8]) -> bool
-    requires { ⌜ length (now s) ≤ 256 ⌝ }
+    requires { ⌜ length (now s) ≤ textRoom ⌝ }
     ensures { λ r. ⌜ r ≡ deep 0 0 (now (s .entry)) ⌝ }
 {
     let mut surplus: i32 = 0;

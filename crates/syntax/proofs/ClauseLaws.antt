@@ -43,13 +43,13 @@ next-same fail = refl
 next-same (got a w) = refl
 
 -- The first c clauses, with a `^` behind each, were read from `start` to `at`.
-pub record Passed (σ : Choices) (left K : ℕ) (s : Bytes) (start : ℕ) (list : List ℕ) (a : Arena) (at c : ℕ) : Type 0 where
+pub record Passed (σ : Choices) (K : ℕ) (s : Bytes) (start : ℕ) (list : List ℕ) (a : Arena) (at c : ℕ) : Type 0 where
   pub before : List Clause
   pub size : length before ≡ c
-  pub reads : readRule left σ K (drop start s) ≡ next (readRule left σ (K - c) (drop at s)) (λ ρ w. got (graft before ρ) w)
+  pub reads : readRule σ K (drop start s) ≡ next (readRule σ (K - c) (drop at s)) (λ ρ w. got (graft before ρ) w)
   pub each : (i : ℕ) → i < c → (d : Clause) → HoldsClause (a .nodes) (getD list i 0) (getD before i d)
 
-pub record Passing (s : Bytes) (start : ℕ) (vars : List ℕ) (a₀ : Arena) (left K : ℕ) (list : List ℕ) (a : Arena) (at c : ℕ) : Type 0 where
+pub record Passing (s : Bytes) (start : ℕ) (vars : List ℕ) (a₀ : Arena) (K : ℕ) (list : List ℕ) (a : Arena) (at c : ℕ) : Type 0 where
   pub few : c ≤ K
   pub size : length list ≡ K
   pub below : (i : ℕ) → i < c → getD list i 0 < a .n
@@ -57,11 +57,11 @@ pub record Passing (s : Bytes) (start : ℕ) (vars : List ℕ) (a₀ : Arena) (l
   pub count : a .n + start + c ≤ a₀ .n + at
   pub stays : Stays a₀ a
   pub tidy : Tidy (a .nodes) (a .n)
-  pub passed : (σ : Choices) → Knows a₀ vars σ → Passed σ left K s start list a at c
+  pub passed : (σ : Choices) → Knows a₀ vars σ → Passed σ K s start list a at c
 
-pub pass-start : {s : Bytes} {start left : ℕ} {vars list : List ℕ} {a : Arena} → Readable s start vars a → Passing s start vars a left (length list) list a start 0
+pub pass-start : {s : Bytes} {start : ℕ} {vars list : List ℕ} {a : Arena} → Readable s start vars a → Passing s start vars a (length list) list a start 0
 unfolding graft
-pass-start {s} {start} {left} {vars} {list} {a} g =
+pass-start {s} {start} {vars} {list} {a} g =
     record {
       few = omega arith;
       size = refl;
@@ -70,13 +70,13 @@ pass-start {s} {start} {left} {vars} {list} {a} g =
       count = omega arith;
       stays = stays-refl a;
       tidy = g .tidy;
-      passed = λ σ w. record { before = []; size = refl; reads = same σ ∙ next-same (readRule left σ (length list - 0) (drop start s)); each = λ i h d. absurd (omega arith) };
+      passed = λ σ w. record { before = []; size = refl; reads = same σ ∙ next-same (readRule σ (length list - 0) (drop start s)); each = λ i h d. absurd (omega arith) };
     }
   where
-    same : (σ : Choices) → readRule left σ (length list) (drop start s) ≡ readRule left σ (length list - 0) (drop start s)
-    same σ = let z : length list ≡ length list - 0 = omega arith in ap (λ (m : ℕ). readRule left σ m (drop start s)) z
+    same : (σ : Choices) → readRule σ (length list) (drop start s) ≡ readRule σ (length list - 0) (drop start s)
+    same σ = let z : length list ≡ length list - 0 = omega arith in ap (λ (m : ℕ). readRule σ m (drop start s)) z
 
-module _ {s : Bytes} {start left K at c : ℕ} {vars list : List ℕ} {a₀ a : Arena} (p : Passing s start vars a₀ left K list a at c) where
+module _ {s : Bytes} {start K at c : ℕ} {vars list : List ℕ} {a₀ a : Arena} (p : Passing s start vars a₀ K list a at c) where
   pub pass-ready : Readable s start vars a₀ → Readable s at vars a
   pass-ready g =
       record {
@@ -89,22 +89,22 @@ module _ {s : Bytes} {start left K at c : ℕ} {vars list : List ℕ} {a₀ a : 
       }
 
   module _ (σ : Choices) (w : Knows a₀ vars σ) where
-    pub pass-full : K ≤ c → readRule left σ K (drop start s) ≡ fail
+    pub pass-full : K ≤ c → readRule σ K (drop start s) ≡ fail
     unfolding next
     pass-full l =
         let q = p .passed σ w in
         let z : K - c ≡ 0 = omega arith in
-        q .reads ∙ rw (rule-zero left σ (K - c) (drop at s) z)
+        q .reads ∙ rw (rule-zero σ (K - c) (drop at s) z)
 
     module _ (l : c < K) where
       more : K - c ≡ 0 → ⊥
       more e = omega arith
 
-      pub pass-none : readClause left σ (drop at s) ≡ fail → readRule left σ K (drop start s) ≡ fail
+      pub pass-none : readClause σ (drop at s) ≡ fail → readRule σ K (drop start s) ≡ fail
       unfolding next
-      pass-none e = let q = p .passed σ w in q .reads ∙ rw (rule-none left σ (K - c) more (drop at s) e)
+      pass-none e = let q = p .passed σ w in q .reads ∙ rw (rule-none σ (K - c) more (drop at s) e)
 
-      module _ {b : Arena} {k e : ℕ} (f : Found HoldsClause s at a b k e (readClause left σ (drop at s))) where
+      module _ {b : Arena} {k e : ℕ} (f : Found HoldsClause s at a b k e (readClause σ (drop at s))) where
         -- The clauses so far and the new one.
         each-more : (cs : List Clause) → length cs ≡ c → ((i : ℕ) → i < c → (d : Clause) → HoldsClause (a .nodes) (getD list i 0) (getD cs i d)) → (i : ℕ) → i < c → (d : Clause) → HoldsClause (b .nodes) (getD (set list c k) i 0) (getD cs i d)
         each-more cs n h i m d =
@@ -119,7 +119,7 @@ module _ {s : Bytes} {start left K at c : ℕ} {vars list : List ℕ} {a₀ a : 
             (λ n. rw (getD-set-other list c i k 0 (omega arith)) (omega (arith, p .below i n, f .stays .more)))
             (rw here (f .within))
 
-        pub pass-last : skip (ascii "^") (drop e s) ≡ fail → Collected s start a₀ b (set list c k) (c + 1) e (readRule left σ K (drop start s))
+        pub pass-last : skip (ascii "^") (drop e s) ≡ fail → Collected s start a₀ b (set list c k) (c + 1) e (readRule σ K (drop start s))
         unfolding next
         pass-last z =
             let q = p .passed σ w in
@@ -128,7 +128,7 @@ module _ {s : Bytes} {start left K at c : ℕ} {vars list : List ℕ} {a₀ a : 
             record {
               before = q .before;
               final = d;
-              reads = q .reads ∙ rw (rule-last left σ (K - c) more f z);
+              reads = q .reads ∙ rw (rule-last σ (K - c) more f z);
               listed = record { size = omega (arith, q .size); each = λ i m. by-index (λ (i : ℕ). HoldsClause (b .nodes) (getD (set list c k) i 0) (getD (q .before) i d)) c i m (λ n. each-more (q .before) (q .size) (q .each) i n d) (rw (here, final) (f .holds)) };
               below = below-more;
               many = omega (arith, length-set list c k, p .size);
@@ -138,25 +138,25 @@ module _ {s : Bytes} {start left K at c : ℕ} {vars list : List ℕ} {a₀ a : 
               tidy = f .tidy;
             }
 
-        pass-on : Hit s e (ascii "^") → Passed σ left K s start (set list c k) b (e + 1) (c + 1)
+        pass-on : Hit s e (ascii "^") → Passed σ K s start (set list c k) b (e + 1) (c + 1)
         unfolding next
         pass-on h =
             let q = p .passed σ w in
             let d : Clause = f .thing in
             let m : K - c - 1 ≡ K - (c + 1) = omega arith in
-            let r : readRule left σ (K - c) (drop at s) ≡ next (readRule left σ (K - (c + 1)) (drop (e + 1) s)) (λ ρ v. got (also d ρ) v) = rule-more left σ (K - c) more f h ∙ ap (λ (n : ℕ). next (readRule left σ n (drop (e + 1) s)) (λ ρ v. got (also d ρ) v)) m in
+            let r : readRule σ (K - c) (drop at s) ≡ next (readRule σ (K - (c + 1)) (drop (e + 1) s)) (λ ρ v. got (also d ρ) v) = rule-more σ (K - c) more f h ∙ ap (λ (n : ℕ). next (readRule σ n (drop (e + 1) s)) (λ ρ v. got (also d ρ) v)) m in
             record {
               before = q .before ++ (d ∷ []);
               size = simp length-append (omega (arith, q .size));
               reads =
-                  q .reads ∙ rw r (next-next (readRule left σ (K - (c + 1)) (drop (e + 1) s)) _ _
-                  ∙ next-agree (readRule left σ (K - (c + 1)) (drop (e + 1) s)) _ _ (λ ρ v _. ap (λ (x : Rule). got x v) (sym (graft-more (q .before) d ρ))));
+                  q .reads ∙ rw r (next-next (readRule σ (K - (c + 1)) (drop (e + 1) s)) _ _
+                  ∙ next-agree (readRule σ (K - (c + 1)) (drop (e + 1) s)) _ _ (λ ρ v _. ap (λ (x : Rule). got x v) (sym (graft-more (q .before) d ρ))));
               each = λ i n x. by-index (λ (i : ℕ). HoldsClause (b .nodes) (getD (set list c k) i 0) (getD (q .before ++ (d ∷ [])) i x)) c i n
                   (λ o. rw (List·getD-append (q .before) (d ∷ []) x i (omega (arith, q .size))) (each-more (q .before) (q .size) (q .each) i o x))
                   (rw (here, ← q .size, getD-append-seam (q .before) d [] x) (f .holds));
             }
 
-  pub pass-more : {b : Arena} {k e : ℕ} (σ₀ : Choices) (l : c < K) → Found HoldsClause s at a b k e (readClause left σ₀ (drop at s)) → Knows a₀ vars σ₀ → Hit s e (ascii "^") → ((σ : Choices) → Knows a₀ vars σ → Found HoldsClause s at a b k e (readClause left σ (drop at s))) → Passing s start vars a₀ left K (set list c k) b (e + 1) (c + 1)
+  pub pass-more : {b : Arena} {k e : ℕ} (σ₀ : Choices) (l : c < K) → Found HoldsClause s at a b k e (readClause σ₀ (drop at s)) → Knows a₀ vars σ₀ → Hit s e (ascii "^") → ((σ : Choices) → Knows a₀ vars σ → Found HoldsClause s at a b k e (readClause σ (drop at s))) → Passing s start vars a₀ K (set list c k) b (e + 1) (c + 1)
   pass-more {b} {k} σ₀ l f w₀ h fs =
       record {
         few = omega arith;

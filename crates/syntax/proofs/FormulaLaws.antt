@@ -13,7 +13,7 @@ use Rattle.syntax.specs.Bytes.{Bytes, ascii, Read, fail, got, Reader, ne
 use Rattle.syntax.specs.Term.{Term, Choices, readTerm}
 use Rattle.syntax.specs.Rule.{Rule, readRule, readFormula, whole}
 use Rattle.syntax.specs.code.Arena.{Holds, HoldsRule, HoldsAll}
-use Rattle.syntax.specs.code.Reading.{Arena, mk, Knows, Found, chosenSet, Rooted, Reads, noRule, someRule}
+use Rattle.syntax.specs.code.Reading.{Arena, mk, Knows, Found, chosenSet, clauseRoom, Rooted, Reads, noRule, someRule}
 use Rattle.syntax.specs.declared.Whole.{Whole}
 use Rattle.syntax.specs.declared.Whole.the-variants.{Nothing as NoRoot, Root}
 use Rattle.syntax.proofs.BytesLaws.{next-agree, next-next}
@@ -37,8 +37,8 @@ ended-here {s} {k} {e} {ns₀} {b} {r} f l =
     someRule (record { rule = f .thing; is = q; holds = f .holds; within = f .within; few = omega (arith, f .count, f .end); tidy = f .tidy })
 
 -- The bound on the clauses may be written in another way.
-pub reads-alike : {s ns : List ℕ} {w : Whole} {k m : ℕ} (n : ℕ) → k ≡ m → Reads s ns w (whole (readRule n [] k s)) → Reads s ns w (whole (readRule n [] m s))
-reads-alike {s} {ns} {w} n e x = subst (λ (k : ℕ). Reads s ns w (whole (readRule n [] k s))) e x
+pub reads-alike : {s ns : List ℕ} {w : Whole} {k m : ℕ} → k ≡ m → Reads s ns w (whole (readRule [] k s)) → Reads s ns w (whole (readRule [] m s))
+reads-alike {s} {ns} {w} e x = subst (λ (k : ℕ). Reads s ns w (whole (readRule [] k s))) e x
 
 -- For those that call the reader.
 
@@ -71,7 +71,7 @@ module _ (σ : Choices) (s : Bytes) (at : ℕ) where
     set-other h = rw (drop-cons s at 0 l, ne-eqb (49 + length σ) (getD s at 0) (λ e. h (sym e)))
 
     module _ (e : getD s at 0 ≡ 49 + length σ) where
-      set-on : chosenSet σ (drop at s) ≡ next (skip (ascii "@") (drop (at + 1) s)) (λ _ w. next (readTerm 512 σ w) (λ x v. next (skip (ascii "]") v) (λ _ u. got x u)))
+      set-on : chosenSet σ (drop at s) ≡ next (skip (ascii "@") (drop (at + 1) s)) (λ _ w. next (readTerm σ w) (λ x v. next (skip (ascii "]") v) (λ _ u. got x u)))
       unfolding chosenSet skip next
       set-on = rw (drop-cons s at 0 l, eq-eqb (49 + length σ) (getD s at 0) (sym e), add-one at)
 
@@ -80,11 +80,11 @@ module _ (σ : Choices) (s : Bytes) (at : ℕ) where
       set-open q = set-on ∙ rw q
 
       module _ (h : Hit s (at + 1) (ascii "@")) where
-        pub set-none : readTerm 512 σ (drop (at + 2) s) ≡ fail → chosenSet σ (drop at s) ≡ fail
+        pub set-none : readTerm σ (drop (at + 2) s) ≡ fail → chosenSet σ (drop at s) ≡ fail
         unfolding next
         set-none q = let n : at + 1 + 1 ≡ at + 2 = omega arith in set-on ∙ rw (h .skips, n, q)
 
-        module _ {a b : Arena} {k z : ℕ} (f : Found Holds s (at + 2) a b k z (readTerm 512 σ (drop (at + 2) s))) where
+        module _ {a b : Arena} {k z : ℕ} (f : Found Holds s (at + 2) a b k z (readTerm σ (drop (at + 2) s))) where
           pub set-left : skip (ascii "]") (drop z s) ≡ fail → chosenSet σ (drop at s) ≡ fail
           unfolding next
           set-left q = let n : at + 1 + 1 ≡ at + 2 = omega arith in set-on ∙ rw (h .skips, n, f .reads, q)
@@ -103,48 +103,48 @@ unfolding next
 next-fail fail f h = refl
 next-fail (got a s) f h = h a s
 
-chosen-next : (σ : Choices) (f : Term → Reader Rule) (w : Bytes) → next (skip ((49 + length σ) ∷ []) w) (λ _ w₁. next (skip (ascii "@") w₁) (λ _ w₂. next (readTerm 512 σ w₂) (λ x w₃. next (skip (ascii "]") w₃) (λ _. f x)))) ≡ next (chosenSet σ w) f
+chosen-next : (σ : Choices) (f : Term → Reader Rule) (w : Bytes) → next (skip ((49 + length σ) ∷ []) w) (λ _ w₁. next (skip (ascii "@") w₁) (λ _ w₂. next (readTerm σ w₂) (λ x w₃. next (skip (ascii "]") w₃) (λ _. f x)))) ≡ next (chosenSet σ w) f
 unfolding chosenSet next
 chosen-next σ f w =
     sym
     (next-next (skip ((49 + length σ) ∷ []) w) _ f
     ∙ next-agree (skip ((49 + length σ) ∷ []) w) _ _ (λ _ w₁ _. next-next (skip (ascii "@") w₁) _ f
-    ∙ next-agree (skip (ascii "@") w₁) _ _ (λ _ w₂ _. next-next (readTerm 512 σ w₂) _ f
-    ∙ next-agree (readTerm 512 σ w₂) _ _ (λ x w₃ _. next-next (skip (ascii "]") w₃) _ f))))
+    ∙ next-agree (skip (ascii "@") w₁) _ _ (λ _ w₂ _. next-next (readTerm σ w₂) _ f
+    ∙ next-agree (readTerm σ w₂) _ _ (λ x w₃ _. next-next (skip (ascii "]") w₃) _ f))))
 
 module _ (k : ℕ) (few : k ≤ 8) (σ : Choices) (s : Bytes) (at : ℕ) where
-  at-more : readFormula 512 (9 - k) σ (drop at s) ≡ readFormula 512 (suc (8 - k)) σ (drop at s)
-  at-more = let e : 9 - k ≡ suc (8 - k) = omega arith in ap (λ (m : ℕ). readFormula 512 m σ (drop at s)) e
+  at-more : readFormula clauseRoom (9 - k) σ (drop at s) ≡ readFormula clauseRoom (suc (8 - k)) σ (drop at s)
+  at-more = let e : 9 - k ≡ suc (8 - k) = omega arith in ap (λ (m : ℕ). readFormula clauseRoom m σ (drop at s)) e
 
   module _ (e : skip (ascii "[v") (drop at s) ≡ fail) where
-    pub formula-open : skip (ascii ":") (drop at s) ≡ fail → readFormula 512 (9 - k) σ (drop at s) ≡ fail
+    pub formula-open : skip (ascii ":") (drop at s) ≡ fail → readFormula clauseRoom (9 - k) σ (drop at s) ≡ fail
     unfolding either next readFormula
     formula-open q = at-more ∙ rw (e, q)
 
-    pub formula-rule : Hit s at (ascii ":") → readFormula 512 (9 - k) σ (drop at s) ≡ readRule 512 σ 512 (drop (at + 1) s)
+    pub formula-rule : Hit s at (ascii ":") → readFormula clauseRoom (9 - k) σ (drop at s) ≡ readRule σ clauseRoom (drop (at + 1) s)
     unfolding either next readFormula
     formula-rule h = at-more ∙ rw (e, h .skips)
 
   module _ (h : Hit s at (ascii "[v")) where
-    choosing : readFormula 512 (9 - k) σ (drop at s) ≡ next (chosenSet σ (drop (at + 2) s)) (λ x. readFormula 512 (8 - k) (σ ++ (x ∷ [])))
+    choosing : readFormula clauseRoom (9 - k) σ (drop at s) ≡ next (chosenSet σ (drop (at + 2) s)) (λ x. readFormula clauseRoom (8 - k) (σ ++ (x ∷ [])))
     unfolding either readFormula
-    choosing = at-more ∙ rw (h .skips) (chosen-next σ (λ x. readFormula 512 (8 - k) (σ ++ (x ∷ []))) (drop (at + 2) s))
+    choosing = at-more ∙ rw (h .skips) (chosen-next σ (λ x. readFormula clauseRoom (8 - k) (σ ++ (x ∷ []))) (drop (at + 2) s))
 
-    pub formula-lost : chosenSet σ (drop (at + 2) s) ≡ fail → readFormula 512 (9 - k) σ (drop at s) ≡ fail
+    pub formula-lost : chosenSet σ (drop (at + 2) s) ≡ fail → readFormula clauseRoom (9 - k) σ (drop at s) ≡ fail
     unfolding next
     formula-lost q = choosing ∙ rw q
 
-    pub formula-more : {a b : Arena} {i e : ℕ} (f : Found Holds s (at + 2) a b i e (chosenSet σ (drop (at + 2) s))) → readFormula 512 (9 - k) σ (drop at s) ≡ readFormula 512 (9 - (k + 1)) (σ ++ (f .thing ∷ [])) (drop e s)
+    pub formula-more : {a b : Arena} {i e : ℕ} (f : Found Holds s (at + 2) a b i e (chosenSet σ (drop (at + 2) s))) → readFormula clauseRoom (9 - k) σ (drop at s) ≡ readFormula clauseRoom (9 - (k + 1)) (σ ++ (f .thing ∷ [])) (drop e s)
     unfolding next
     formula-more {e = e} f =
         let q : 8 - k ≡ 9 - (k + 1) = omega arith in
-        choosing ∙ rw (f .reads) (ap (λ (m : ℕ). readFormula 512 m (σ ++ (f .thing ∷ [])) (drop e s)) q)
+        choosing ∙ rw (f .reads) (ap (λ (m : ℕ). readFormula clauseRoom m (σ ++ (f .thing ∷ [])) (drop e s)) q)
 
-    pub formula-full : k ≡ 8 → readFormula 512 (9 - k) σ (drop at s) ≡ fail
+    pub formula-full : k ≡ 8 → readFormula clauseRoom (9 - k) σ (drop at s) ≡ fail
     unfolding readFormula
     formula-full q =
         let z : 8 - k ≡ 0 = omega arith in
-        choosing ∙ next-fail (chosenSet σ (drop (at + 2) s)) _ (λ x w. ap (λ (m : ℕ). readFormula 512 m (σ ++ (x ∷ [])) w) z)
+        choosing ∙ next-fail (chosenSet σ (drop (at + 2) s)) _ (λ x w. ap (λ (m : ℕ). readFormula clauseRoom m (σ ++ (x ∷ [])) w) z)
 
 -- One choice more.
 

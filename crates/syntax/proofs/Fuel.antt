@@ -1,15 +1,16 @@
--- The bound of `readTerm` does not matter once it is the number of bytes: any two such bounds read alike. Assumes nothing.
+-- The bound of `termWithin` does not matter once it is the number of bytes: any two such bounds read alike, so that the reader of terms reads the
+-- terms inside by itself, with fewer bytes left. Assumes nothing.
 use mathlib.Core.Path.{_≡_, refl, ap, sym}
 use mathlib.Core.List.{[], _∷_}
 use mathlib.Core.Option.{Option, none, some}
 use Prim.Native.Nat.{ℕ, suc, zero, _≤_, _<_}
 use native.Mathlib.Omega.{arith}
 use lib.ListN.{length, length-append}
-use Rattle.syntax.specs.Bytes.{Bytes, ascii, Read, fail, got, Reader, skip, scan, either}
+use Rattle.syntax.specs.Bytes.{Bytes, ascii, Read, fail, got, Reader, next, skip, scan, either}
 use Rattle.syntax.proofs.BytesLaws.{never, next-case, next-agree, skip-gives}
 use Rattle.syntax.proofs.BytesLaws.{scan-gives}
 use Rattle.syntax.specs.Term.{Term, Choices, namedFrom, Head, isBase, isCall, isOE, isAO, isBracket, isChoice, spell}
-use Rattle.syntax.specs.Term.{Middle, isLess, spellMiddle, heads, collectionHeads, callHeads, bracketHeads, middles, known, closed, second, inner, readTerm, isCall2, isOp}
+use Rattle.syntax.specs.Term.{Middle, isLess, spellMiddle, heads, collectionHeads, callHeads, bracketHeads, middles, known, closed, second, inner, termWithin, readTerm, isCall2, isOp}
 use Rattle.syntax.proofs.TermLaws.{head-long, no-head}
 
 -- What is left is no longer than what was there.
@@ -32,7 +33,7 @@ known-short σ (c ∷ s) {a} {r} e = go (namedFrom 49 σ c) e
     go none e = never e
     go (some b) e = let q : s ≡ r = cc in rw q (omega arith)
 
-abbrev pub Shrinks : Reader Term → Type 0
+abbrev Shrinks : Reader Term → Type 0
 Shrinks rd = (s : Bytes) (a : Term) (r : Bytes) → rd s ≡ got a r → length r ≤ length s
 
 module _ (rd : Reader Term) (σ : Choices) (shr : Shrinks rd) where
@@ -64,12 +65,12 @@ module _ (rd : Reader Term) (σ : Choices) (shr : Shrinks rd) where
   inner-short isChoice s t r e =
       next-case (known σ s) _ e λ a s₁ e₁ e₂. let q : r ≡ s₁ = cc in omega (arith, known-short σ s e₁, ap length q)
 
-pub term-short : (n : ℕ) (σ : Choices) → Shrinks (readTerm n σ)
-unfolding readTerm
+term-short : (n : ℕ) (σ : Choices) → Shrinks (termWithin n σ)
+unfolding termWithin
 term-short zero σ s t r e = never e
 term-short (suc n) σ s t r e =
     next-case (scan spell heads s) _ e λ h s₁ e₁ e₂.
-    omega (arith, head-short s e₁, inner-short (readTerm n σ) σ (term-short n σ) h s₁ t r e₂)
+    omega (arith, head-short s e₁, inner-short (termWithin n σ) σ (term-short n σ) h s₁ t r e₂)
 
 -- Two readers of the terms inside that agree on texts of at most n bytes.
 module _ (rd rd' : Reader Term) (σ : Choices) (n : ℕ) (shr : Shrinks rd) (same : (s : Bytes) → length s ≤ n → rd s ≡ rd' s) where
@@ -96,16 +97,25 @@ module _ (rd rd' : Reader Term) (σ : Choices) (n : ℕ) (shr : Shrinks rd) (sam
       second-agree a m s₂ (omega (arith, shr s a s₁ e₁, middle-short s₁ e₂)))
   inner-agree isChoice s h = refl
 
-empty-read : (n : ℕ) (σ : Choices) (s : Bytes) → length s ≤ 0 → readTerm n σ s ≡ fail
+empty-read : (n : ℕ) (σ : Choices) (s : Bytes) → length s ≤ 0 → termWithin n σ s ≡ fail
 unfolding spell heads collectionHeads callHeads bracketHeads scan either skip
 empty-read n σ [] h = no-head n σ [] refl
 empty-read n σ (c ∷ s) h = absurd (omega arith)
 
-pub fuel-agree : (n m : ℕ) (σ : Choices) (s : Bytes) → length s ≤ n → length s ≤ m → readTerm n σ s ≡ readTerm m σ s
-unfolding readTerm
+fuel-agree : (n m : ℕ) (σ : Choices) (s : Bytes) → length s ≤ n → length s ≤ m → termWithin n σ s ≡ termWithin m σ s
+unfolding termWithin
 fuel-agree zero m σ s h k = sym (empty-read m σ s h)
 fuel-agree (suc n) zero σ s h k = empty-read (suc n) σ s k
 fuel-agree (suc n) (suc m) σ s h k =
     next-agree (scan spell heads s) _ _ λ b s₁ e₁.
     let w : length s₁ < length s = head-short s e₁ in
-    inner-agree (readTerm n σ) (readTerm m σ) σ (length s₁) (term-short n σ) (λ s₂ l. fuel-agree n m σ s₂ (omega arith) (omega arith)) b s₁ (omega arith)
+    inner-agree (termWithin n σ) (termWithin m σ) σ (length s₁) (term-short n σ) (λ s₂ l. fuel-agree n m σ s₂ (omega arith) (omega arith)) b s₁ (omega arith)
+
+-- The reader of terms calls itself with fewer bytes left.
+pub term-step : (σ : Choices) (s : Bytes) → readTerm σ s ≡ next (scan spell heads s) (inner (readTerm σ) σ)
+unfolding termWithin readTerm next spell heads collectionHeads callHeads bracketHeads scan either skip
+term-step σ [] = refl
+term-step σ (c ∷ s) =
+    next-agree (scan spell heads (c ∷ s)) _ _ λ h s₁ e.
+    let w : length s₁ < length (c ∷ s) = head-short (c ∷ s) e in
+    inner-agree (termWithin (length s) σ) (readTerm σ) σ (length s) (term-short (length s) σ) (λ s₂ l. fuel-agree (length s) (length s₂) σ s₂ l (omega arith)) h s₁ (omega arith)

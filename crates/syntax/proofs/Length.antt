@@ -1,5 +1,5 @@
 -- No formula of an accepted rule passes 4,096 bytes: 7 bytes of it for each 4 of the rule, in the rule and in each of 8 quantifiers. Assumes nothing.
-use mathlib.Core.List.{[], _∷_, _++_}
+use mathlib.Core.List.{[], _∷_}
 use mathlib.Core.Option.{Option, none, some}
 use Prim.Native.Nat.{ℕ, suc, _*_, _≤_}
 use native.Mathlib.Omega.{arith}
@@ -7,13 +7,13 @@ use lib.ListN.{length, length-append}
 use Rattle.syntax.specs.Bytes.{Bytes}
 use Rattle.syntax.specs.Term.{Term, base, call, oe, ao, two, Choices, digitFrom, digit, text, oeText, aoText, spell, spellMiddle}
 use Rattle.syntax.specs.Rule.{Count, number, count, Test, member, alike, empty, sized, Clause, plain, when, Rule, last, also}
-use Rattle.syntax.specs.Rule.{countText, testText, clauseText, ruleText, add, vars, countVars, testVars, clauseVars, ruleVars, quantifiers, formulaWith}
-use Rattle.syntax.specs.Rule.{formula}
+use Rattle.syntax.specs.Rule.{countText, testText, clauseText, ruleText, ruleVars, quantifiers, formulaWith, formula}
+use Rattle.syntax.proofs.PartLaws.{All, CountHas, TestHas, ClauseHas, RuleHas, Passes, rule-all}
 
-abbrev pub Grows : Bytes → Bytes → Type 0
+abbrev Grows : Bytes → Bytes → Type 0
 Grows w v = 4 * length w ≤ 7 * length v
 
-pub text-grows : (σ : Choices) (t : Term) → Grows (text σ t) (text [] t)
+text-grows : (σ : Choices) (t : Term) → Grows (text σ t) (text [] t)
 unfolding text oeText aoText digitFrom spell spellMiddle
 text-grows σ (base b) = omega arith
 text-grows σ (call f a) = simp length-append (omega (arith, text-grows σ a))
@@ -46,76 +46,55 @@ unfolding clauseText
 clause-grows σ (plain p) = test-grows σ p
 clause-grows σ (when p q) = simp length-append (omega (arith, test-grows σ p, test-grows σ q))
 
-pub rule-grows : (σ : Choices) (ρ : Rule) → Grows (ruleText σ ρ) (ruleText [] ρ)
+rule-grows : (σ : Choices) (ρ : Rule) → Grows (ruleText σ ρ) (ruleText [] ρ)
 unfolding ruleText
 rule-grows σ (last c) = clause-grows σ c
 rule-grows σ (also c ρ) = simp length-append (omega (arith, clause-grows σ c, rule-grows σ ρ))
 
--- Each choice's argument is written with at most n bytes.
-abbrev pub Small : ℕ → Choices → Type 0
-Small n [] = Unit {0}
-Small n (x ∷ xs) = (length (text [] x) ≤ n) × Small n xs
+-- No term of a rule is written with more bytes than the rule.
+abbrev Small : ℕ → Term → Type 0
+Small n t = length (text [] t) ≤ n
 
-snoc-small : (n : ℕ) (σ : Choices) (a : Term) → Small n σ → length (text [] a) ≤ n → Small n (σ ++ (a ∷ []))
-snoc-small n [] a h k = (k, tt)
-snoc-small n (x ∷ σ) a h k = (h .0, snoc-small n σ a (h .1) k)
-
-add-small : (n : ℕ) (σ : Choices) (a : Term) → Small n σ → length (text [] a) ≤ n → Small n (add σ a)
-unfolding add
-add-small n σ a h k = go (digit σ a)
-  where
-    go : (o : Option ℕ) → Small n (elim o [ none ↦ σ ++ (a ∷ []) | some _ ↦ σ ])
-    go none = snoc-small n σ a h k
-    go (some d) = h
+small-passes : (n : ℕ) → Passes (Small n) (Small n)
+unfolding text oeText aoText digitFrom
+small-passes n =
+    record {
+      inCall = λ f a h. omega (arith, simp length-append at h);
+      inOE = λ a h. let w : Small n a = omega (arith, simp length-append at h) in (w, w);
+      inAO = λ a h. let w : Small n a = omega (arith, simp length-append at h) in (w, w);
+      inTwo = λ o a b h. omega (arith, simp length-append at h);
+    }
 
 module _ (n : ℕ) where
-  vars-small : (σ : Choices) (t : Term) → Small n σ → length (text [] t) ≤ n → Small n (vars σ t)
-  unfolding vars text oeText aoText digitFrom
-  vars-small σ (base b) h k = h
-  vars-small σ (call f a) h k = vars-small σ a h (omega (arith, simp length-append at k))
-  vars-small σ (oe a) h k =
-      let w : length (text [] a) ≤ n = omega (arith, simp length-append at k) in
-      add-small n (vars σ a) a (vars-small σ a h w) w
-  vars-small σ (ao a) h k =
-      let w : length (text [] a) ≤ n = omega (arith, simp length-append at k) in
-      add-small n (vars σ a) a (vars-small σ a h w) w
-  vars-small σ (two o a b) h k =
-      let w : (length (text [] a) ≤ n) × (length (text [] b) ≤ n) = omega (arith, simp length-append at k) in
-      vars-small (vars σ a) b (vars-small σ a h (w .0)) (w .1)
+  count-small : (k : Count) → length (countText [] k) ≤ n → CountHas (Small n) k
+  unfolding countText
+  count-small (number m) h = tt
+  count-small (count a) h = omega (arith, simp length-append at h)
 
-  count-small : (σ : Choices) (k : Count) → Small n σ → length (countText [] k) ≤ n → Small n (countVars σ k)
-  unfolding countVars countText
-  count-small σ (number m) h k = h
-  count-small σ (count a) h k = vars-small σ a h (omega (arith, simp length-append at k))
+  test-small : (t : Test) → length (testText [] t) ≤ n → TestHas (Small n) t
+  unfolding testText
+  test-small (member a b) h = omega (arith, simp length-append at h)
+  test-small (alike g a b) h = omega (arith, simp length-append at h)
+  test-small (empty g a) h = omega (arith, simp length-append at h)
+  test-small (sized c a k) h =
+      let w : Small n a × (length (countText [] k) ≤ n) = omega (arith, simp length-append at h) in
+      (w .0, count-small k (w .1))
 
-  test-small : (σ : Choices) (t : Test) → Small n σ → length (testText [] t) ≤ n → Small n (testVars σ t)
-  unfolding testVars testText
-  test-small σ (member a b) h k =
-      let w : (length (text [] a) ≤ n) × (length (text [] b) ≤ n) = omega (arith, simp length-append at k) in
-      vars-small (vars σ a) b (vars-small σ a h (w .0)) (w .1)
-  test-small σ (alike g a b) h k =
-      let w : (length (text [] a) ≤ n) × (length (text [] b) ≤ n) = omega (arith, simp length-append at k) in
-      vars-small (vars σ a) b (vars-small σ a h (w .0)) (w .1)
-  test-small σ (empty g a) h k = vars-small σ a h (omega (arith, simp length-append at k))
-  test-small σ (sized c a m) h k =
-      let w : (length (text [] a) ≤ n) × (length (countText [] m) ≤ n) = omega (arith, simp length-append at k) in
-      count-small (vars σ a) m (vars-small σ a h (w .0)) (w .1)
+  clause-small : (c : Clause) → length (clauseText [] c) ≤ n → ClauseHas (Small n) c
+  unfolding clauseText
+  clause-small (plain p) h = test-small p h
+  clause-small (when p q) h =
+      let w : (length (testText [] p) ≤ n) × (length (testText [] q) ≤ n) = omega (arith, simp length-append at h) in
+      (test-small p (w .0), test-small q (w .1))
 
-  clause-small : (σ : Choices) (c : Clause) → Small n σ → length (clauseText [] c) ≤ n → Small n (clauseVars σ c)
-  unfolding clauseVars clauseText
-  clause-small σ (plain p) h k = test-small σ p h k
-  clause-small σ (when p q) h k =
-      let w : (length (testText [] p) ≤ n) × (length (testText [] q) ≤ n) = omega (arith, simp length-append at k) in
-      test-small (testVars σ p) q (test-small σ p h (w .0)) (w .1)
+  rule-small : (ρ : Rule) → length (ruleText [] ρ) ≤ n → RuleHas (Small n) ρ
+  unfolding ruleText
+  rule-small (last c) h = clause-small c h
+  rule-small (also c ρ) h =
+      let w : (length (clauseText [] c) ≤ n) × (length (ruleText [] ρ) ≤ n) = omega (arith, simp length-append at h) in
+      (clause-small c (w .0), rule-small ρ (w .1))
 
-  pub rule-small : (σ : Choices) (ρ : Rule) → Small n σ → length (ruleText [] ρ) ≤ n → Small n (ruleVars σ ρ)
-  unfolding ruleVars ruleText
-  rule-small σ (last c) h k = clause-small σ c h k
-  rule-small σ (also c ρ) h k =
-      let w : (length (clauseText [] c) ≤ n) × (length (ruleText [] ρ) ≤ n) = omega (arith, simp length-append at k) in
-      rule-small (clauseVars σ c) ρ (clause-small σ c h (w .0)) (w .1)
-
-quantifiers-short : (τ : Choices) (d : ℕ) (xs : Choices) → Small 256 xs → length (quantifiers τ d xs) ≤ 453 * length xs
+quantifiers-short : (τ : Choices) (d : ℕ) (xs : Choices) → All (Small 256) xs → length (quantifiers τ d xs) ≤ 453 * length xs
 unfolding quantifiers
 quantifiers-short τ d [] h = omega arith
 quantifiers-short τ d (x ∷ xs) h = simp length-append (omega (arith, text-grows τ x, quantifiers-short τ (suc d) xs (h .1)))
@@ -124,4 +103,4 @@ pub formula-short : (ρ : Rule) → length (ruleText [] ρ) ≤ 256 → length (
 unfolding formula formulaWith
 formula-short ρ h k =
     simp length-append
-    (omega (arith, rule-grows (ruleVars [] ρ) ρ, quantifiers-short (ruleVars [] ρ) 49 (ruleVars [] ρ) (rule-small 256 [] ρ tt h)))
+    (omega (arith, rule-grows (ruleVars [] ρ) ρ, quantifiers-short (ruleVars [] ρ) 49 (ruleVars [] ρ) (rule-all (Small 256) (Small 256) (small-passes 256) [] ρ tt (rule-small 256 ρ h))))

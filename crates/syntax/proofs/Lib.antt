@@ -4,6 +4,7 @@ pub mod TermLaws
 pub mod Fuel
 pub mod RuleLaws
 pub mod Closed
+pub mod PartLaws
 pub mod Length
 pub mod ChoosingLaws
 pub mod Slices

@@ -5,7 +5,7 @@ use mathlib.Core.Bool.{Bool, true, false}
 use mathlib.Core.List.{List, [], _∷_}
 use Prim.Native.Nat.{ℕ, suc, _+_, _-_, _<_, _≤_}
 use native.Mathlib.Omega.{arith}
-use borrow.Author.Tests.{lt-leb, eq-eqb, ne-eqb}
+use borrow.Author.Tests.{lt-leb, lt-ltb, le-ltb}
 use lib.ListN.{length, getD, drop}
 use Rattle.syntax.specs.Bytes.{Bytes, ascii, Read, fail, got, Reader, next, skip, either, scan}
 use Rattle.syntax.specs.Term.{Base, operations, meet, join, Term, base, call, oe, ao, two, Choices, Head, isBase, isCall, isOE}
@@ -13,13 +13,14 @@ use Rattle.syntax.specs.Term.{isAO, isBracket, isChoice, spell, heads, s
 use Rattle.syntax.specs.Term.{known, closed, second, inner, readTerm, Pair, calls, joins, isCall2, parting}
 use Rattle.syntax.specs.code.Arena.{baseOp, twoOp, None, One, Numbered, Both, Holds, hasTwo, Down, Tidy}
 use Rattle.syntax.specs.code.Reading.{Signed, headOp, Choice, Arena, mk, Stays, Fresh, Interned, Put, put, Knows, Readable, Found, Agree, noThing}
-use Rattle.syntax.specs.code.Reading.{someThing, Makes, Joint, pair, away, jointOp, spellJoint, joints, choice, less, ending, paired}
+use Rattle.syntax.specs.code.Reading.{someThing, Makes, Joint, pair, away, jointOp, spellJoint, fn2At, joints, choice, less, ending, paired}
 use Rattle.syntax.specs.declared.arena.Place.{Place}
 use Rattle.syntax.specs.declared.arena.Place.the-variants.{Nothing, Got}
-use Rattle.syntax.specs.code.Nodes.{firstCall, oeOp, aoOp, firstPair, firstCounted, opsEnd, bracketHead, choiceHead, operationOf, nodeOf, opAt, indexRoom}
+use Rattle.syntax.specs.code.Nodes.{firstCall, oeOp, aoOp, firstPair, firstJoin, firstCounted, opsEnd, bracketHead, choiceHead, operationOf, nodeOf, opAt, indexRoom}
 use Rattle.syntax.proofs.BytesLaws.{next-agree}
 use Rattle.syntax.proofs.ArenaLaws.{base-small, fn-range, two-range, stays-refl, stays-trans, holds-later, knows-later, parts}
 use Rattle.syntax.proofs.NameLaws.{Hit, meant}
+use Rattle.syntax.proofs.Fuel.{term-step}
 
 -- What a reader answered.
 
@@ -179,7 +180,7 @@ one-head isBracket l m = absurd (omega arith)
 one-head isChoice l m = absurd (omega arith)
 
 comma-paired : (rd : Reader Term) (σ : Choices) (s : Bytes) → inner rd σ (isCall2 operations) s ≡ paired rd σ firstPair s
-unfolding inner paired joints scan either spellJoint parting next ending
+unfolding inner paired joints fn2At scan either spellJoint parting next ending
 comma-paired rd σ s = next-agree (rd s) _ _ (λ a r e. go a r (skip (ascii ",") r) refl)
   where
     go : (a : Term) (r : Bytes) (o : Read (Unit {0})) → skip (ascii ",") r ≡ o → next (skip (ascii ",") r) (λ _. closed rd (two (calls operations) a)) ≡ next (scan spellJoint (joints firstPair) r) (ending rd σ a)
@@ -218,47 +219,39 @@ choice-head isChoice l rd σ s = refl
 
 -- A term by its beginning.
 
-pub read-zero : (f : ℕ) (σ : Choices) (s : Bytes) → f ≡ 0 → readTerm f σ s ≡ fail
-unfolding readTerm
-read-zero f σ s e = rw e
-
-read-more : (f : ℕ) (σ : Choices) (s : Bytes) → (f ≡ 0 → ⊥) → readTerm f σ s ≡ next (scan spell heads s) (inner (readTerm (f - 1) σ) σ)
-unfolding readTerm
-read-more f σ s h = let e : f ≡ suc (f - 1) = omega arith in ap (λ (m : ℕ). readTerm m σ s) e
-
 -- What make is, where the number is that of a function, OE or AO.
-pub record OneRead (f : ℕ) (σ : Choices) (s : Bytes) (at o e : ℕ) : Type 0 where
+pub record OneRead (σ : Choices) (s : Bytes) (at o e : ℕ) : Type 0 where
   pub make : Term → Term
   pub makes : Makes o make
-  pub is : readTerm f σ (drop at s) ≡ closed (readTerm (f - 1) σ) make (drop e s)
+  pub is : readTerm σ (drop at s) ≡ closed (readTerm σ) make (drop e s)
 
-module _ (f : ℕ) (σ : Choices) (s : Bytes) (at : ℕ) (h : f ≡ 0 → ⊥) where
-  pub read-unknown : scan spell heads (drop at s) ≡ fail → readTerm f σ (drop at s) ≡ fail
+module _ (σ : Choices) (s : Bytes) (at : ℕ) where
+  pub read-unknown : scan spell heads (drop at s) ≡ fail → readTerm σ (drop at s) ≡ fail
   unfolding next
-  read-unknown e = read-more f σ (drop at s) h ∙ rw e
+  read-unknown e = term-step σ (drop at s) ∙ rw e
 
-  read-head : {o e : ℕ} (x : Signed headOp s at o e (scan spell heads (drop at s))) → readTerm f σ (drop at s) ≡ inner (readTerm (f - 1) σ) σ (x .thing) (drop e s)
+  read-head : {o e : ℕ} (x : Signed headOp s at o e (scan spell heads (drop at s))) → readTerm σ (drop at s) ≡ inner (readTerm σ) σ (x .thing) (drop e s)
   unfolding next
-  read-head x = read-more f σ (drop at s) h ∙ rw (x .is)
+  read-head x = term-step σ (drop at s) ∙ rw (x .is)
 
-  pub read-leaf : {o e : ℕ} → Signed headOp s at o e (scan spell heads (drop at s)) → o < firstCall → (b : Base) × (baseOp b ≡ o) × (readTerm f σ (drop at s) ≡ got (base b) (drop e s))
+  pub read-leaf : {o e : ℕ} → Signed headOp s at o e (scan spell heads (drop at s)) → o < firstCall → (b : Base) × (baseOp b ≡ o) × (readTerm σ (drop at s) ≡ got (base b) (drop e s))
   unfolding headOp inner
   read-leaf {o} {e} x l =
       let y = leaf-head (x .thing) (omega (arith, x .numberIs)) in
-      (y .0, ap headOp (sym (y .1)) ∙ x .numberIs, read-head x ∙ ap (λ (g : Head). inner (readTerm (f - 1) σ) σ g (drop e s)) (y .1))
+      (y .0, ap headOp (sym (y .1)) ∙ x .numberIs, read-head x ∙ ap (λ (g : Head). inner (readTerm σ) σ g (drop e s)) (y .1))
 
-  pub read-one : {o e : ℕ} → Signed headOp s at o e (scan spell heads (drop at s)) → firstCall ≤ o → o < firstPair → OneRead f σ s at o e
+  pub read-one : {o e : ℕ} → Signed headOp s at o e (scan spell heads (drop at s)) → firstCall ≤ o → o < firstPair → OneRead σ s at o e
   read-one {o} {e} x l m =
       let y = one-head (x .thing) (omega (arith, x .numberIs)) (omega (arith, x .numberIs)) in
-      record { make = y .make; makes = subst (λ (p : ℕ). Makes p (y .make)) (x .numberIs) (y .makes); is = read-head x ∙ y .is (readTerm (f - 1) σ) σ (drop e s) }
+      record { make = y .make; makes = subst (λ (p : ℕ). Makes p (y .make)) (x .numberIs) (y .makes); is = read-head x ∙ y .is (readTerm σ) σ (drop e s) }
 
-  pub read-pair : {o e : ℕ} → Signed headOp s at o e (scan spell heads (drop at s)) → firstPair ≤ o → o < choiceHead → readTerm f σ (drop at s) ≡ paired (readTerm (f - 1) σ) σ o (drop e s)
+  pub read-pair : {o e : ℕ} → Signed headOp s at o e (scan spell heads (drop at s)) → firstPair ≤ o → o < choiceHead → readTerm σ (drop at s) ≡ paired (readTerm σ) σ o (drop e s)
   read-pair {o} {e} x l m =
-      read-head x ∙ two-head (x .thing) (omega (arith, x .numberIs)) (omega (arith, x .numberIs)) (readTerm (f - 1) σ) σ (drop e s)
-      ∙ ap (λ (p : ℕ). paired (readTerm (f - 1) σ) σ p (drop e s)) (x .numberIs)
+      read-head x ∙ two-head (x .thing) (omega (arith, x .numberIs)) (omega (arith, x .numberIs)) (readTerm σ) σ (drop e s)
+      ∙ ap (λ (p : ℕ). paired (readTerm σ) σ p (drop e s)) (x .numberIs)
 
-  pub read-known : {o e : ℕ} → Signed headOp s at o e (scan spell heads (drop at s)) → choiceHead ≤ o → readTerm f σ (drop at s) ≡ choice σ (drop e s)
-  read-known {o} {e} x l = read-head x ∙ choice-head (x .thing) (omega (arith, x .numberIs)) (readTerm (f - 1) σ) σ (drop e s)
+  pub read-known : {o e : ℕ} → Signed headOp s at o e (scan spell heads (drop at s)) → choiceHead ≤ o → readTerm σ (drop at s) ≡ choice σ (drop e s)
+  read-known {o} {e} x l = read-head x ∙ choice-head (x .thing) (omega (arith, x .numberIs)) (readTerm σ) σ (drop e s)
 
 -- A term and its closing bracket.
 
@@ -302,13 +295,17 @@ is-pair away h = absurd (h refl)
 
 -- The names between two terms, by the number of what stands before.
 
-pub joints-comma : (op : ℕ) → op ≡ firstPair → joints op ≡ pair (calls operations) ∷ []
+pub joints-comma : (op : ℕ) → op < firstJoin → joints op ≡ pair (calls (fn2At op)) ∷ []
 unfolding joints
-joints-comma op e = rw (eq-eqb op firstPair e)
+joints-comma op h = rw (lt-ltb op firstJoin h)
 
-pub joints-sign : (op : ℕ) → (op ≡ firstPair → ⊥) → joints op ≡ pair (joins meet) ∷ pair (joins join) ∷ away ∷ []
+pub joints-sign : (op : ℕ) → firstJoin ≤ op → joints op ≡ pair (joins meet) ∷ pair (joins join) ∷ away ∷ []
 unfolding joints
-joints-sign op h = rw (ne-eqb op firstPair h)
+joints-sign op h = rw (le-ltb op firstJoin h)
+
+pub fn2-number : (op : ℕ) → firstPair ≤ op → op < firstJoin → jointOp (pair (calls (fn2At op))) ≡ op
+unfolding jointOp twoOp fn2At
+fn2-number op l h = omega arith
 
 -- A node behind what was read, where one byte more is there.
 pub fresh-on : {A : Type 0} {H : List ℕ → ℕ → A → Type 0} {s : Bytes} {at i e o j : ℕ} {vars : List ℕ} {a b : Arena} {r : Read A} → Readable s at vars a → Found H s at a b i e r → e + 1 ≤ length s → o < opsEnd → j < b .n → Fresh b o i j
@@ -420,8 +417,8 @@ module _ (rd : Reader Term) (σ : Choices) (op : ℕ) {s : Bytes} {at i e : ℕ}
           ))
 
 -- A set or a collection.
-pub leaf-found : {s : Bytes} {at o e : ℕ} {a : Arena} {ns : List ℕ} {p : Place} (f : ℕ) (σ : Choices) → (f ≡ 0 → ⊥) → Signed headOp s at o e (scan spell heads (drop at s)) → o < firstCall → Put a (nodeOf o 0 0) e ns p → Agree Holds s at a ns p (readTerm f σ (drop at s))
+pub leaf-found : {s : Bytes} {at o e : ℕ} {a : Arena} {ns : List ℕ} {p : Place} (σ : Choices) → Signed headOp s at o e (scan spell heads (drop at s)) → o < firstCall → Put a (nodeOf o 0 0) e ns p → Agree Holds s at a ns p (readTerm σ (drop at s))
 unfolding Holds
-leaf-found {s} {at} {o} {e} {a} {ns} f σ h x l u =
-    let y = read-leaf f σ s at h x l in
+leaf-found {s} {at} {o} {e} {a} {ns} σ x l u =
+    let y = read-leaf σ s at x l in
     put-found (base (y .0)) u (stays-refl a) (omega (arith, x .more)) (x .fits) (y .2) (λ k n w. subst (λ (c : ℕ). None ns k c) (sym (y .1)) (leaf-node w))

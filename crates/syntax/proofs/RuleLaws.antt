@@ -109,46 +109,40 @@ scan-between isIn s = refl
 scan-between (isSign is) s = refl
 scan-between (isSign isnt) s = refl
 
-module _ (n : ℕ) (σ : Choices) where
-  read-count : (k : Count) (r : Bytes) → CountFits k → Stop r → length (countText σ k) ≤ n → readCount n σ (countText σ k ++ r) ≡ got k r
+module _ (σ : Choices) where
+  read-count : (k : Count) (r : Bytes) → CountFits k → Stop r → readCount σ (countText σ k ++ r) ≡ got k r
   unfolding readCount countText CountFits next skip
-  read-count (number m) r f st h = either-on (ascii "|") _ _ _ (digits-bar m r f) ∙ rw (scan-number 64 m r f (omega arith) st)
-  read-count (count a) r f st h =
-      let w : length (text σ a) ≤ n = omega (arith, simp length-append at h) in
-      either-own (ascii "|") _ _ _ ∙ rw (append-assoc, read-text n σ a _ w)
+  read-count (number m) r f st = either-on (ascii "|") _ _ _ (digits-bar m r f) ∙ rw (scan-number 64 m r f (omega arith) st)
+  read-count (count a) r f st =
+      either-own (ascii "|") _ _ _ ∙ rw (append-assoc, read-text σ a _)
 
   count-equals : (k : Count) (r : Bytes) → CountFits k → skip (ascii "=") (countText σ k ++ r) ≡ fail
   unfolding countText CountFits skip
   count-equals (number m) r f = digits-equals m r f
   count-equals (count a) r f = refl
 
-  read-test : (t : Test) (r : Bytes) → TestFits t → Stop r → length (testText σ t) ≤ n → readTest n σ (testText σ t ++ r) ≡ got t r
+  read-test : (t : Test) (r : Bytes) → TestFits t → Stop r → readTest σ (testText σ t ++ r) ≡ got t r
   unfolding readTest testText TestFits next skip readSecond
-  read-test (member a b) r f st h =
-      let w : (length (text σ a) ≤ n) × (length (text σ b) ≤ n) = omega (arith, simp length-append at h) in
-      rw (append-assoc, append-assoc) (either-on (ascii "|") _ _ _ (bar-free σ a _) ∙ rw (read-text n σ a _ (w .0), scan-between isIn, read-text n σ b r (w .1)))
-  read-test (alike g a b) r f st h =
-      let w : (length (text σ a) ≤ n) × (length (text σ b) ≤ n) = omega (arith, simp length-append at h) in
+  read-test (member a b) r f st =
+      rw (append-assoc, append-assoc) (either-on (ascii "|") _ _ _ (bar-free σ a _) ∙ rw (read-text σ a _, scan-between isIn, read-text σ b r))
+  read-test (alike g a b) r f st =
       rw (append-assoc, append-assoc)
       (either-on (ascii "|") _ _ _ (bar-free σ a _)
-      ∙ rw (read-text n σ a _ (w .0), scan-between (isSign g)) (either-on (ascii "{}") _ _ _ (brace-free σ b r) ∙ rw (read-text n σ b r (w .1))))
-  read-test (empty g a) r f st h =
-      let w : length (text σ a) ≤ n = omega (arith, simp length-append at h) in
+      ∙ rw (read-text σ a _, scan-between (isSign g)) (either-on (ascii "{}") _ _ _ (brace-free σ b r) ∙ rw (read-text σ b r)))
+  read-test (empty g a) r f st =
       rw (append-assoc, append-assoc)
       (either-on (ascii "|") _ _ _ (bar-free σ a _)
-      ∙ rw (read-text n σ a _ w, scan-between (isSign g)) (either-own (ascii "{}") _ _ r))
-  read-test (sized c a k) r f st h =
-      let w : (length (text σ a) ≤ n) × (length (countText σ k) ≤ n) = omega (arith, simp length-append at h) in
+      ∙ rw (read-text σ a _, scan-between (isSign g)) (either-own (ascii "{}") _ _ r))
+  read-test (sized c a k) r f st =
       either-own (ascii "|") _ _ _
-      ∙ rw (append-assoc, read-text n σ a _ (w .0), append-assoc, scan-cmp c _ (count-equals k r f), read-count k r f st (w .1))
+      ∙ rw (append-assoc, read-text σ a _, append-assoc, scan-cmp c _ (count-equals k r f), read-count k r f st)
 
-  read-clause : (c : Clause) (r : Bytes) → ClauseFits c → Stop r → skip (ascii "=>") r ≡ fail → length (clauseText σ c) ≤ n → readClause n σ (clauseText σ c ++ r) ≡ got c r
+  read-clause : (c : Clause) (r : Bytes) → ClauseFits c → Stop r → skip (ascii "=>") r ≡ fail → readClause σ (clauseText σ c ++ r) ≡ got c r
   unfolding readClause clauseText ClauseFits next
-  read-clause (plain p) r f st e h = rw (read-test p r f st h) (either-on (ascii "=>") _ _ r e)
-  read-clause (when p q) r f st e h =
-      let w : (length (testText σ p) ≤ n) × (length (testText σ q) ≤ n) = omega (arith, simp length-append at h) in
-      rw (append-assoc, read-test p (ascii "=>" ++ testText σ q ++ r) (f .0) (inr (omega arith)) (w .0))
-      (either-own (ascii "=>") _ _ (testText σ q ++ r) ∙ rw (read-test q r (f .1) st (w .1)))
+  read-clause (plain p) r f st e = rw (read-test p r f st) (either-on (ascii "=>") _ _ r e)
+  read-clause (when p q) r f st e =
+      rw (append-assoc, read-test p (ascii "=>" ++ testText σ q ++ r) (f .0) (inr (omega arith)))
+      (either-own (ascii "=>") _ _ (testText σ q ++ r) ∙ rw (read-test q r (f .1) st))
 
 test-long : (σ : Choices) (t : Test) → 1 ≤ length (testText σ t)
 unfolding testText
@@ -162,66 +156,58 @@ unfolding clauseText
 clause-long σ (plain p) = test-long σ p
 clause-long σ (when p q) = simp length-append (omega arith)
 
-rule-long : (σ : Choices) (ρ : Rule) → 1 ≤ length (ruleText σ ρ)
-unfolding ruleText
-rule-long σ (last c) = clause-long σ c
-rule-long σ (also c ρ) = simp length-append (omega arith)
+-- How many clauses a rule has.
+abbrev pub clauseCount : Rule → ℕ
+clauseCount (last c) = 1
+clauseCount (also c ρ) = suc (clauseCount ρ)
 
-pub read-rule : (n : ℕ) (σ : Choices) (k : ℕ) (ρ : Rule) → RuleFits ρ → length (ruleText σ ρ) ≤ n → length (ruleText σ ρ) ≤ k → readRule n σ k (ruleText σ ρ) ≡ got ρ []
+pub clauses-few : (σ : Choices) (ρ : Rule) → clauseCount ρ ≤ length (ruleText σ ρ)
+unfolding ruleText
+clauses-few σ (last c) = clause-long σ c
+clauses-few σ (also c ρ) = simp length-append (omega (arith, clauses-few σ ρ))
+
+read-rule : (σ : Choices) (k : ℕ) (ρ : Rule) → RuleFits ρ → clauseCount ρ ≤ k → readRule σ k (ruleText σ ρ) ≡ got ρ []
 unfolding readRule ruleText RuleFits next either skip
-read-rule n σ zero ρ f h l = let z : _≡_ {A = ℕ} 0 1 = omega (arith, rule-long σ ρ) in cc
-read-rule n σ (suc k) (last c) f h l = let e : readClause n σ (clauseText σ c) ≡ got c [] = rw append-nil at (read-clause n σ c [] f tt refl h) in rw e
-read-rule n σ (suc k) (also c ρ) f h l =
-    let w : (length (clauseText σ c) ≤ n) × (length (ruleText σ ρ) ≤ n) = omega (arith, simp length-append at h) in
-    let v : length (ruleText σ ρ) ≤ k = omega (arith, simp length-append at l, clause-long σ c) in
-    rw (read-clause n σ c (ascii "^" ++ ruleText σ ρ) (f .0) (inr (omega arith)) refl (w .0), read-rule n σ k ρ (f .1) (w .1) v)
+read-rule σ zero (last c) f h = absurd (omega arith)
+read-rule σ zero (also c ρ) f h = absurd (omega arith)
+read-rule σ (suc k) (last c) f h = let e : readClause σ (clauseText σ c) ≡ got c [] = rw append-nil at (read-clause σ c [] f tt refl) in rw e
+read-rule σ (suc k) (also c ρ) f h =
+    rw (read-clause σ c (ascii "^" ++ ruleText σ ρ) (f .0) (inr (omega arith)) refl, read-rule σ k ρ (f .1) (omega arith))
 
 -- A rule that was written is read.
 pub rule-back : (ρ : Rule) → RuleFits ρ → ruleOf (ruleText [] ρ) ≡ some ρ
 unfolding ruleOf whole
-rule-back ρ f = rw (read-rule (length (ruleText [] ρ)) [] (length (ruleText [] ρ)) ρ f (omega arith) (omega arith))
+rule-back ρ f = rw (read-rule [] (length (ruleText [] ρ)) ρ f (clauses-few [] ρ))
 
 -- A formula that was written is read.
-
--- Each of the choices xs, which come after those of σ, is written with at most n bytes.
-abbrev pub Within : ℕ → Choices → Choices → Type 0
-Within n σ [] = Unit {0}
-Within n σ (x ∷ xs) = (length (text σ x) ≤ n) × Within n (σ ++ (x ∷ [])) xs
-
-within-all : (n : ℕ) (σ xs : Choices) → length (quantifiersAfter σ xs) ≤ n → Within n σ xs
-unfolding quantifiersAfter
-within-all n σ [] h = tt
-within-all n σ (x ∷ xs) h =
-    let w : (length (text σ x) ≤ n) × (length (quantifiersAfter (σ ++ (x ∷ [])) xs) ≤ n) = omega (arith, simp length-append at h) in
-    (w .0, within-all n (σ ++ (x ∷ [])) xs (w .1))
 
 quantifiers-long : (σ xs : Choices) → length xs ≤ length (quantifiersAfter σ xs)
 unfolding quantifiersAfter
 quantifiers-long σ [] = omega arith
 quantifiers-long σ (x ∷ xs) = simp length-append (omega (arith, quantifiers-long (σ ++ (x ∷ [])) xs))
 
--- A bound for each term and for the rule is enough, and one more than the quantifiers.
-pub read-formula : (n k : ℕ) (σ xs τ : Choices) → σ ++ xs ≡ τ → (ρ : Rule) → RuleFits ρ → Within n σ xs → length (ruleText τ ρ) ≤ n → length xs < k
+-- The number of clauses is enough, and one more than the quantifiers.
+read-quantified : (n k : ℕ) (σ xs τ : Choices) → σ ++ xs ≡ τ → (ρ : Rule) → RuleFits ρ → clauseCount ρ ≤ n → length xs < k
     → readFormula n k σ (quantifiersAfter σ xs ++ (ascii ":" ++ ruleText τ ρ)) ≡ got ρ []
 unfolding readFormula quantifiersAfter next either skip
-read-formula n zero σ xs τ e ρ f h w l = let z : _≡_ {A = ℕ} 0 1 = omega arith in cc
-read-formula n (suc k) σ [] τ e ρ f h w l =
+read-quantified n zero σ xs τ e ρ f h l = let z : _≡_ {A = ℕ} 0 1 = omega arith in cc
+read-quantified n (suc k) σ [] τ e ρ f h l =
     let q : σ ≡ τ = sym (append-nil σ) ∙ e in
-    rw (q, read-rule n τ n ρ f w w)
-read-formula n (suc k) σ (x ∷ xs) τ e ρ f h w l =
-    rw (skip-own ((49 + length σ) ∷ []) _, append-assoc, read-text n σ x _ (h .0))
-    (read-formula n k (σ ++ (x ∷ [])) xs τ (append-assoc σ (x ∷ []) xs ∙ e) ρ f (h .1) w (omega arith))
+    rw (q, read-rule τ n ρ f h)
+read-quantified n (suc k) σ (x ∷ xs) τ e ρ f h l =
+    rw (skip-own ((49 + length σ) ∷ []) _, append-assoc, read-text σ x _)
+    (read-quantified n k (σ ++ (x ∷ [])) xs τ (append-assoc σ (x ∷ []) xs ∙ e) ρ f h (omega arith))
 
-printed-back : (ρ : Rule) → RuleFits ρ → ruleOfFormula (printed ρ) ≡ some ρ
-unfolding ruleOfFormula whole printed
-printed-back ρ f =
-    let τ : Choices = ruleVars [] ρ in
-    let n : ℕ = length (printed ρ) in
-    let l : (length (quantifiersAfter [] τ) + (1 + length (ruleText τ ρ)) ≤ n) = simp length-append (omega arith) in
-    rw (read-formula n n [] τ τ refl ρ f (within-all n [] τ (omega arith)) (omega arith) (omega (arith, quantifiers-long [] τ)))
+pub read-formula : (n k : ℕ) (ρ : Rule) → RuleFits ρ → clauseCount ρ ≤ n → length (ruleVars [] ρ) < k → whole (readFormula n k [] (formula ρ)) ≡ some ρ
+unfolding whole printed
+read-formula n k ρ f h l = rw (formula-in ρ, read-quantified n k [] (ruleVars [] ρ) (ruleVars [] ρ) refl ρ f h l)
 
 pub formula-back : (ρ : Rule) → RuleFits ρ → ruleOfFormula (formula ρ) ≡ some ρ
-formula-back ρ f = rw (formula-in ρ) (printed-back ρ f)
+unfolding ruleOfFormula printed
+formula-back ρ f =
+    let τ : Choices = ruleVars [] ρ in
+    let l : length (quantifiersAfter [] τ) + (1 + length (ruleText τ ρ)) ≡ length (formula ρ) = rw (formula-in ρ) (simp length-append (omega arith)) in
+    read-formula (length (formula ρ)) (length (formula ρ)) ρ f (omega (arith, clauses-few τ ρ)) (omega (arith, quantifiers-long [] τ))
 
 -- So two rules that are written alike are one, and two that have one formula are one.
 
@@ -248,55 +234,54 @@ RuleWas s ρ r = (s ≡ ruleText [] ρ ++ r) × RuleFits ρ
 given : {A : Type 0} (P : A → Bytes → Type 0) {a b : A} {s r : Bytes} → got a s ≡ got b r → P a s → P b r
 given P {a} {b} {s} {r} e p = let q : a ≡ b = cc in let q' : s ≡ r = cc in subst (λ x. P x r) q (subst (λ x. P a x) q' p)
 
-module _ (n : ℕ) where
-  count-was : (s : Bytes) (k : Count) (r : Bytes) → readCount n [] s ≡ got k r → CountWas s k r
-  unfolding readCount countText CountFits
-  count-was s k r e = either-case (ascii "|") _ _ s e
-      (λ s₁ e₁ e₂. next-case (readTerm n [] s₁) _ e₂ λ a s₂ e₃ e₄. next-case (skip (ascii "|") s₂) _ e₄ λ _ s₃ e₅ e₆.
-      given (CountWas s) e₆ (simp append-assoc (cc (text-read n s₁ a s₂ e₃, skip-gives (ascii "|") s₂ e₅)), tt))
-      (λ e₂. next-case (scan digits (down 64) s) _ e₂ λ m s₁ e₃ e₄.
-      given (CountWas s) e₄ (scan-gives digits (down 64) s e₃, number-small 64 m s s₁ e₃))
+count-was : (s : Bytes) (k : Count) (r : Bytes) → readCount [] s ≡ got k r → CountWas s k r
+unfolding readCount countText CountFits
+count-was s k r e = either-case (ascii "|") _ _ s e
+    (λ s₁ e₁ e₂. next-case (readTerm [] s₁) _ e₂ λ a s₂ e₃ e₄. next-case (skip (ascii "|") s₂) _ e₄ λ _ s₃ e₅ e₆.
+    given (CountWas s) e₆ (simp append-assoc (cc (text-read s₁ a s₂ e₃, skip-gives (ascii "|") s₂ e₅)), tt))
+    (λ e₂. next-case (scan digits (down 64) s) _ e₂ λ m s₁ e₃ e₄.
+    given (CountWas s) e₄ (scan-gives digits (down 64) s e₃, number-small 64 m s s₁ e₃))
 
-  second-was : (s : Bytes) (a : Term) (m : Between) (s₂ : Bytes) (t : Test) (r : Bytes) → s ≡ text [] a ++ (spellBetween m ++ s₂) → readSecond n [] a m s₂ ≡ got t r → TestWas s t r
-  unfolding readSecond testText TestFits
-  second-was s a isIn s₂ t r q e =
-      next-case (readTerm n [] s₂) _ e λ b s₃ e₁ e₂. given (TestWas s) e₂ (simp append-assoc (cc (text-read n s₂ b s₃ e₁)), tt)
-  second-was s a (isSign g) s₂ t r q e = either-case (ascii "{}") _ _ s₂ e
-      (λ s₃ e₁ e₂. given (TestWas s) e₂ (simp append-assoc (cc), tt))
-      (λ e₂. next-case (readTerm n [] s₂) _ e₂ λ b s₃ e₃ e₄. given (TestWas s) e₄ (simp append-assoc (cc (text-read n s₂ b s₃ e₃)), tt))
+second-was : (s : Bytes) (a : Term) (m : Between) (s₂ : Bytes) (t : Test) (r : Bytes) → s ≡ text [] a ++ (spellBetween m ++ s₂) → readSecond [] a m s₂ ≡ got t r → TestWas s t r
+unfolding readSecond testText TestFits
+second-was s a isIn s₂ t r q e =
+    next-case (readTerm [] s₂) _ e λ b s₃ e₁ e₂. given (TestWas s) e₂ (simp append-assoc (cc (text-read s₂ b s₃ e₁)), tt)
+second-was s a (isSign g) s₂ t r q e = either-case (ascii "{}") _ _ s₂ e
+    (λ s₃ e₁ e₂. given (TestWas s) e₂ (simp append-assoc (cc), tt))
+    (λ e₂. next-case (readTerm [] s₂) _ e₂ λ b s₃ e₃ e₄. given (TestWas s) e₄ (simp append-assoc (cc (text-read s₂ b s₃ e₃)), tt))
 
-  test-was : (s : Bytes) (t : Test) (r : Bytes) → readTest n [] s ≡ got t r → TestWas s t r
-  unfolding readTest testText TestFits
-  test-was s t r e = either-case (ascii "|") _ _ s e
-      (λ s₁ e₁ e₂. next-case (readTerm n [] s₁) _ e₂ λ a s₂ e₃ e₄. next-case (skip (ascii "|") s₂) _ e₄ λ _ s₃ e₅ e₆.
-      next-case (scan spellCmp cmps s₃) _ e₆ λ c s₄ e₇ e₈. next-case (readCount n [] s₄) _ e₈ λ k s₅ e₉ e₁₀.
-      let w : CountWas s₄ k s₅ = count-was s₄ k s₅ e₉ in
-      given (TestWas s) e₁₀ (simp append-assoc (cc (text-read n s₁ a s₂ e₃, skip-gives (ascii "|") s₂ e₅, scan-gives spellCmp cmps s₃ e₇)), w .1))
-      (λ e₂. next-case (readTerm n [] s) _ e₂ λ a s₁ e₃ e₄. next-case (scan spellBetween betweens s₁) _ e₄ λ m s₂ e₅ e₆.
-      second-was s a m s₂ t r (cc (text-read n s a s₁ e₃, scan-gives spellBetween betweens s₁ e₅)) e₆)
+test-was : (s : Bytes) (t : Test) (r : Bytes) → readTest [] s ≡ got t r → TestWas s t r
+unfolding readTest testText TestFits
+test-was s t r e = either-case (ascii "|") _ _ s e
+    (λ s₁ e₁ e₂. next-case (readTerm [] s₁) _ e₂ λ a s₂ e₃ e₄. next-case (skip (ascii "|") s₂) _ e₄ λ _ s₃ e₅ e₆.
+    next-case (scan spellCmp cmps s₃) _ e₆ λ c s₄ e₇ e₈. next-case (readCount [] s₄) _ e₈ λ k s₅ e₉ e₁₀.
+    let w : CountWas s₄ k s₅ = count-was s₄ k s₅ e₉ in
+    given (TestWas s) e₁₀ (simp append-assoc (cc (text-read s₁ a s₂ e₃, skip-gives (ascii "|") s₂ e₅, scan-gives spellCmp cmps s₃ e₇)), w .1))
+    (λ e₂. next-case (readTerm [] s) _ e₂ λ a s₁ e₃ e₄. next-case (scan spellBetween betweens s₁) _ e₄ λ m s₂ e₅ e₆.
+    second-was s a m s₂ t r (cc (text-read s a s₁ e₃, scan-gives spellBetween betweens s₁ e₅)) e₆)
 
-  clause-was : (s : Bytes) (c : Clause) (r : Bytes) → readClause n [] s ≡ got c r → ClauseWas s c r
-  unfolding readClause clauseText ClauseFits
-  clause-was s c r e =
-      next-case (readTest n [] s) _ e λ p s₁ e₁ e₂.
-      let w : TestWas s p s₁ = test-was s p s₁ e₁ in
-      either-case (ascii "=>") _ _ s₁ e₂
-      (λ s₂ e₃ e₄. next-case (readTest n [] s₂) _ e₄ λ q s₃ e₅ e₆.
-      let v : TestWas s₂ q s₃ = test-was s₂ q s₃ e₅ in
-      given (ClauseWas s) e₆ (simp append-assoc (cc), (w .1, v .1)))
-      (λ e₄. given (ClauseWas s) e₄ w)
+clause-was : (s : Bytes) (c : Clause) (r : Bytes) → readClause [] s ≡ got c r → ClauseWas s c r
+unfolding readClause clauseText ClauseFits
+clause-was s c r e =
+    next-case (readTest [] s) _ e λ p s₁ e₁ e₂.
+    let w : TestWas s p s₁ = test-was s p s₁ e₁ in
+    either-case (ascii "=>") _ _ s₁ e₂
+    (λ s₂ e₃ e₄. next-case (readTest [] s₂) _ e₄ λ q s₃ e₅ e₆.
+    let v : TestWas s₂ q s₃ = test-was s₂ q s₃ e₅ in
+    given (ClauseWas s) e₆ (simp append-assoc (cc), (w .1, v .1)))
+    (λ e₄. given (ClauseWas s) e₄ w)
 
-  rule-was : (k : ℕ) (s : Bytes) (ρ : Rule) (r : Bytes) → readRule n [] k s ≡ got ρ r → RuleWas s ρ r
-  unfolding readRule ruleText RuleFits
-  rule-was zero s ρ r e = never e
-  rule-was (suc k) s ρ r e =
-      next-case (readClause n [] s) _ e λ c s₁ e₁ e₂.
-      let w : ClauseWas s c s₁ = clause-was s c s₁ e₁ in
-      either-case (ascii "^") _ _ s₁ e₂
-      (λ s₂ e₃ e₄. next-case (readRule n [] k s₂) _ e₄ λ ρ₂ s₃ e₅ e₆.
-      let v : RuleWas s₂ ρ₂ s₃ = rule-was k s₂ ρ₂ s₃ e₅ in
-      given (RuleWas s) e₆ (simp append-assoc (cc), (w .1, v .1)))
-      (λ e₄. given (RuleWas s) e₄ w)
+rule-was : (k : ℕ) (s : Bytes) (ρ : Rule) (r : Bytes) → readRule [] k s ≡ got ρ r → RuleWas s ρ r
+unfolding readRule ruleText RuleFits
+rule-was zero s ρ r e = never e
+rule-was (suc k) s ρ r e =
+    next-case (readClause [] s) _ e λ c s₁ e₁ e₂.
+    let w : ClauseWas s c s₁ = clause-was s c s₁ e₁ in
+    either-case (ascii "^") _ _ s₁ e₂
+    (λ s₂ e₃ e₄. next-case (readRule [] k s₂) _ e₄ λ ρ₂ s₃ e₅ e₆.
+    let v : RuleWas s₂ ρ₂ s₃ = rule-was k s₂ ρ₂ s₃ e₅ in
+    given (RuleWas s) e₆ (simp append-assoc (cc), (w .1, v .1)))
+    (λ e₄. given (RuleWas s) e₄ w)
 
 pub whole-gives : {A : Type 0} (o : Read A) {a : A} → whole o ≡ some a → o ≡ got a []
 unfolding whole
@@ -308,5 +293,5 @@ whole-gives (got b (c ∷ s)) e = cc
 pub rule-text : (s : Bytes) (ρ : Rule) → ruleOf s ≡ some ρ → (s ≡ ruleText [] ρ) × RuleFits ρ
 unfolding ruleOf
 rule-text s ρ e =
-    let w : RuleWas s ρ [] = rule-was (length s) (length s) s ρ [] (whole-gives (readRule (length s) [] (length s) s) e) in
+    let w : RuleWas s ρ [] = rule-was (length s) s ρ [] (whole-gives (readRule [] (length s) s) e) in
     (w .0 ∙ append-nil (ruleText [] ρ), w .1)

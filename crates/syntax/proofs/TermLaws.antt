@@ -13,7 +13,7 @@ use Rattle.syntax.specs.Term.{bU, bR, bOP, bOBJ, bP, bS, bCR, bCP, bCU, 
 use Rattle.syntax.specs.Term.{object, operations, meet, join, Term, base, call, oe, ao, two, Term≟, Choices, digitFrom, namedFrom}
 use Rattle.syntax.specs.Term.{digit, Head, isBase, isCall, isOE, isAO, isBracket, isChoice, spell, Middle}
 use Rattle.syntax.specs.Term.{isLess, spellMiddle, text, oeText, aoText, heads, collectionHeads, callHeads, bracketHeads, middles, known, closed, second, inner}
-use Rattle.syntax.specs.Term.{readTerm, calls, joins, isCall2, isOp, opening, parting}
+use Rattle.syntax.specs.Term.{termWithin, readTerm, calls, joins, isCall2, isOp, opening, parting}
 
 -- Each beginning is found again, whatever follows it.
 pub scan-head : (h : Head) (s : Bytes) → scan spell heads (spell h ++ s) ≡ got h s
@@ -56,6 +56,9 @@ digit-from d (x ∷ σ) a {c} e = go (λ h. digit-from (suc d) σ a h) (Term≟ 
     go ih (yes p) e = let q : d ≡ c = cc in (omega arith, rw (eq-eqb d c q, namedFrom) (ap some p))
     go ih (no n) e = let q : suc d ≤ c = ih e .0 in (omega arith, rw (ne-eqb d c (omega arith), namedFrom) (ih e .1))
 
+pub digit-high : (σ : Choices) (a : Term) {d : ℕ} → digit σ a ≡ some d → 49 ≤ d
+digit-high σ a e = digit-from 49 σ a e .0
+
 pub known-digit : (σ : Choices) (a : Term) (s : Bytes) {d : ℕ} → digit σ a ≡ some d → known σ (d ∷ s) ≡ got a s
 unfolding known
 known-digit σ a s {d} e = rw (digit-from 49 σ a e .1, known)
@@ -70,16 +73,16 @@ head-long h = go (spell h) (scan-head h [])
     go (x ∷ w) e = omega arith
 
 -- One step of reading back what is written, where the reader of the terms inside does so.
-module _ (σ : Choices) (n : ℕ) (law : (a : Term) (r : Bytes) → length (text σ a) ≤ n → readTerm n σ (text σ a ++ r) ≡ got a r) where
-  step-oe : (a : Term) (r : Bytes) (o : Option ℕ) → digit σ a ≡ o → length (oeText o (text σ a)) ≤ suc n → readTerm (suc n) σ (oeText o (text σ a) ++ r) ≡ got (oe a) r
-  unfolding readTerm oeText inner second closed next skip
+module _ (σ : Choices) (n : ℕ) (law : (a : Term) (r : Bytes) → length (text σ a) ≤ n → termWithin n σ (text σ a ++ r) ≡ got a r) where
+  step-oe : (a : Term) (r : Bytes) (o : Option ℕ) → digit σ a ≡ o → length (oeText o (text σ a)) ≤ suc n → termWithin (suc n) σ (oeText o (text σ a) ++ r) ≡ got (oe a) r
+  unfolding termWithin oeText inner second closed next skip
   step-oe a r none e h =
       let w : length (text σ a) ≤ n = omega (arith, head-long isOE, simp length-append at h) in
       rw (append-assoc, scan-head, append-assoc, law a (41 ∷ r) w)
   step-oe a r (some d) e h = rw (append-assoc, scan-head, known-digit σ a r e)
 
-  step-ao : (a : Term) (r : Bytes) (o : Option ℕ) → digit σ a ≡ o → length (aoText o (text σ a)) ≤ suc n → readTerm (suc n) σ (aoText o (text σ a) ++ r) ≡ got (ao a) r
-  unfolding readTerm aoText inner second closed next skip
+  step-ao : (a : Term) (r : Bytes) (o : Option ℕ) → digit σ a ≡ o → length (aoText o (text σ a)) ≤ suc n → termWithin (suc n) σ (aoText o (text σ a) ++ r) ≡ got (ao a) r
+  unfolding termWithin aoText inner second closed next skip
   step-ao a r none e h =
       let w : length (text σ a) ≤ n = omega (arith, head-long isAO, simp length-append at h) in
       rw (append-assoc, scan-head, append-assoc, law a (41 ∷ r) w)
@@ -87,8 +90,8 @@ module _ (σ : Choices) (n : ℕ) (law : (a : Term) (r : Bytes) → length (text
       let w : length (text σ a) ≤ n = omega (arith, head-long isBracket, simp length-append at h) in
       rw (append-assoc, scan-head, append-assoc, law a _ w, append-assoc, scan-middle, known-digit σ a (125 ∷ 41 ∷ r) e)
 
-  step : (t : Term) (r : Bytes) → length (text σ t) ≤ suc n → readTerm (suc n) σ (text σ t ++ r) ≡ got t r
-  unfolding readTerm text opening parting inner second closed next skip
+  step : (t : Term) (r : Bytes) → length (text σ t) ≤ suc n → termWithin (suc n) σ (text σ t ++ r) ≡ got t r
+  unfolding termWithin text opening parting inner second closed next skip
   step (base b) r h = rw scan-head
   step (call f a) r h =
       let w : length (text σ a) ≤ n = omega (arith, head-long (isCall f), simp length-append at h) in
@@ -120,18 +123,21 @@ text-long σ (ao a) = go (digit σ a)
 text-long σ (two o a b) = simp length-append (omega arith)
 
 -- What is written is read back, whatever follows it, with a bound of at least its length.
-pub read-text : (n : ℕ) (σ : Choices) (t : Term) (r : Bytes) → length (text σ t) ≤ n → readTerm n σ (text σ t ++ r) ≡ got t r
+read-within : (n : ℕ) (σ : Choices) (t : Term) (r : Bytes) → length (text σ t) ≤ n → termWithin n σ (text σ t ++ r) ≡ got t r
+unfolding termWithin
+read-within zero σ t r h = let z : _≡_ {A = ℕ} 0 1 = omega (arith, text-long σ t) in cc
+read-within (suc n) σ t r h = step σ n (λ a r h. read-within n σ a r h) t r h
+
+pub read-text : (σ : Choices) (t : Term) (r : Bytes) → readTerm σ (text σ t ++ r) ≡ got t r
 unfolding readTerm
-read-text zero σ t r h = let z : _≡_ {A = ℕ} 0 1 = omega (arith, text-long σ t) in cc
-read-text (suc n) σ t r h = step σ n (λ a r h. read-text n σ a r h) t r h
+read-text σ t r = read-within (length (text σ t ++ r)) σ t r (simp length-append (omega arith))
 
 -- So no term's text begins another's, and two terms that are written alike are one.
 
 pub term-split : (σ : Choices) (a b : Term) (r s : Bytes) → text σ a ++ r ≡ text σ b ++ s → (a ≡ b) × (r ≡ s)
 term-split σ a b r s e =
-    let n = length (text σ a) + length (text σ b) in
-    let p : readTerm n σ (text σ a ++ r) ≡ got a r = read-text n σ a r (omega arith) in
-    let q : readTerm n σ (text σ b ++ s) ≡ got b s = read-text n σ b s (omega arith) in
+    let p : readTerm σ (text σ a ++ r) ≡ got a r = read-text σ a r in
+    let q : readTerm σ (text σ b ++ s) ≡ got b s = read-text σ b s in
     (cc, cc)
 
 pub term-one : (σ : Choices) (a b : Term) → text σ a ≡ text σ b → a ≡ b
@@ -144,9 +150,9 @@ unfolding known namedFrom
 none-known [] e = never e
 none-known (c ∷ s) e = never e
 
-module _ (n : ℕ) (law : (s : Bytes) (a : Term) (r : Bytes) → readTerm n [] s ≡ got a r → s ≡ text [] a ++ r) where
+module _ (n : ℕ) (law : (s : Bytes) (a : Term) (r : Bytes) → termWithin n [] s ≡ got a r → s ≡ text [] a ++ r) where
   abbrev rd : Reader Term
-  rd s = readTerm n [] s
+  rd s = termWithin n [] s
 
   closed-case : {C : Type 0} (make : Term → Term) (s : Bytes) {t : Term} {r : Bytes} → closed rd make s ≡ got t r → ((a : Term) → s ≡ text [] a ++ (ascii ")" ++ r) → t ≡ make a → C) → C
   unfolding closed
@@ -175,26 +181,31 @@ module _ (n : ℕ) (law : (s : Bytes) (a : Term) (r : Bytes) → readTerm n [] s
   inner-gives isChoice s t r e = next-case (known [] s) _ e λ a s₁ e₁ e₂. absurd (none-known s e₁)
 
 -- What is read was so written.
-pub text-read : (n : ℕ) (s : Bytes) (t : Term) (r : Bytes) → readTerm n [] s ≡ got t r → s ≡ text [] t ++ r
+text-within : (n : ℕ) (s : Bytes) (t : Term) (r : Bytes) → termWithin n [] s ≡ got t r → s ≡ text [] t ++ r
+unfolding termWithin
+text-within zero s t r e = never e
+text-within (suc n) s t r e =
+    next-case (scan spell heads s) _ e λ h s₁ e₁ e₂. scan-gives spell heads s e₁ ∙ inner-gives n (λ s a r h. text-within n s a r h) h s₁ t r e₂
+
+pub text-read : (s : Bytes) (t : Term) (r : Bytes) → readTerm [] s ≡ got t r → s ≡ text [] t ++ r
 unfolding readTerm
-text-read zero s t r e = never e
-text-read (suc n) s t r e =
-    next-case (scan spell heads s) _ e λ h s₁ e₁ e₂. scan-gives spell heads s e₁ ∙ inner-gives n (λ s a r h. text-read n s a r h) h s₁ t r e₂
+text-read s t r e = text-within (length s) s t r e
 
 -- A text with which no term begins does not stand in front of a term.
 
-pub no-head : (n : ℕ) (σ : Choices) (s : Bytes) → scan spell heads s ≡ fail → readTerm n σ s ≡ fail
-unfolding readTerm next
+pub no-head : (n : ℕ) (σ : Choices) (s : Bytes) → scan spell heads s ≡ fail → termWithin n σ s ≡ fail
+unfolding termWithin next
 no-head zero σ s e = refl
 no-head (suc n) σ s e = rw e
 
 no-start : (p : Bytes) → ((w : Bytes) → scan spell heads (p ++ w) ≡ fail) → (σ : Choices) (t : Term) (r : Bytes) → skip p (text σ t ++ r) ≡ fail
+unfolding readTerm
 no-start p h σ t r = go (skip p (text σ t ++ r)) refl
   where
     go : (o : Read (Unit {0})) → skip p (text σ t ++ r) ≡ o → skip p (text σ t ++ r) ≡ fail
     go fail e = e
     go (got u w) e =
-        let z : fail ≡ got t r = cc (skip-gives p (text σ t ++ r) e, no-head (length (text σ t)) σ (p ++ w) (h w), read-text (length (text σ t)) σ t r (omega arith)) in
+        let z : fail ≡ got t r = cc (skip-gives p (text σ t ++ r) e, no-head (length (p ++ w)) σ (p ++ w) (h w), read-text σ t r) in
         never z
 
 pub bar-free : (σ : Choices) (t : Term) (r : Bytes) → skip (ascii "|") (text σ t ++ r) ≡ fail

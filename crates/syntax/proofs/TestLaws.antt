@@ -64,34 +64,34 @@ between-range (isSign isnt) = record { low = omega arith; high = omega arith; ha
 small : {s : Bytes} {at i : ℕ} {vars : List ℕ} {a : Arena} → Readable s at vars a → i < a .n → i < indexRoom
 small g l = omega (arith, g .tidy .size, g .tidy .fits)
 
-pub count-lost : (f : ℕ) (σ : Choices) (o : Cmp) (t : Term) (w : Bytes) → skip (ascii "|") w ≡ fail → readNumber w ≡ fail → counted f σ o t w ≡ fail
+pub count-lost : (σ : Choices) (o : Cmp) (t : Term) (w : Bytes) → skip (ascii "|") w ≡ fail → readNumber w ≡ fail → counted σ o t w ≡ fail
 unfolding counted readCount either next
-count-lost f σ o t w e q = rw (e, q)
+count-lost σ o t w e q = rw (e, q)
 
-module _ (f : ℕ) (σ : Choices) (o : Cmp) (t : Term) {s : Bytes} {at : ℕ} where
-  pub number-found : {i c m e : ℕ} {vars : List ℕ} {a : Arena} {ns : List ℕ} {p : Place} → Readable s at vars a → i < a .n → c < 6 → cmpNumber o ≡ c → Holds (a .nodes) i t → skip (ascii "|") (drop at s) ≡ fail → Signed itself s at m e (readNumber (drop at s)) → Put a (nodeOf (firstNumbered + c) i m) e ns p → Agree HoldsTest s at a ns p (counted f σ o t (drop at s))
+module _ (σ : Choices) (o : Cmp) (t : Term) {s : Bytes} {at : ℕ} where
+  pub number-found : {i c m e : ℕ} {vars : List ℕ} {a : Arena} {ns : List ℕ} {p : Place} → Readable s at vars a → i < a .n → c < 6 → cmpNumber o ≡ c → Holds (a .nodes) i t → skip (ascii "|") (drop at s) ≡ fail → Signed itself s at m e (readNumber (drop at s)) → Put a (nodeOf (firstNumbered + c) i m) e ns p → Agree HoldsTest s at a ns p (counted σ o t (drop at s))
   unfolding counted readCount either next HoldsTest
   number-found {i} {c} {m} {e} {vars} {a} {ns} g l lc q y z x u =
       let w : readNumber (drop at s) ≡ got m (drop e s) = x .is ∙ ap (λ (n : ℕ). got n (drop e s)) (x .numberIs) in
-      let r : counted f σ o t (drop at s) ≡ got (sized o t (number m)) (drop e s) = rw (z, w) in
+      let r : counted σ o t (drop at s) ≡ got (sized o t (number m)) (drop e s) = rw (z, w) in
       let lm : m ≤ 64 = number-small 64 m (drop at s) (drop e s) w in
       put-found (sized o t (number m)) u (stays-refl a) (omega (arith, x .more)) (x .fits) r
       (λ k n v. (i, rw q (number-node v (omega arith) (omega arith) (small g l) lm), holds-later a _ i t (v .stays) l y))
 
   module _ (h : Hit s at (ascii "|")) where
-    pub count-none : readTerm f σ (drop (at + 1) s) ≡ fail → counted f σ o t (drop at s) ≡ fail
+    pub count-none : readTerm σ (drop (at + 1) s) ≡ fail → counted σ o t (drop at s) ≡ fail
     unfolding counted readCount either next
     count-none e = rw (h .skips, e)
 
-    module _ {a b : Arena} {j e : ℕ} (x : Found Holds s (at + 1) a b j e (readTerm f σ (drop (at + 1) s))) where
-      pub count-open : skip (ascii "|") (drop e s) ≡ fail → counted f σ o t (drop at s) ≡ fail
+    module _ {a b : Arena} {j e : ℕ} (x : Found Holds s (at + 1) a b j e (readTerm σ (drop (at + 1) s))) where
+      pub count-open : skip (ascii "|") (drop e s) ≡ fail → counted σ o t (drop at s) ≡ fail
       unfolding counted readCount either next
       count-open q = rw (h .skips, x .reads, q)
 
-      pub count-found : {i c : ℕ} {vars : List ℕ} {ns : List ℕ} {p : Place} → Readable s at vars a → i < a .n → c < 6 → cmpNumber o ≡ c → Holds (a .nodes) i t → Hit s e (ascii "|") → Put b (nodeOf (firstCounted + c) i j) (e + 1) ns p → Agree HoldsTest s at a ns p (counted f σ o t (drop at s))
+      pub count-found : {i c : ℕ} {vars : List ℕ} {ns : List ℕ} {p : Place} → Readable s at vars a → i < a .n → c < 6 → cmpNumber o ≡ c → Holds (a .nodes) i t → Hit s e (ascii "|") → Put b (nodeOf (firstCounted + c) i j) (e + 1) ns p → Agree HoldsTest s at a ns p (counted σ o t (drop at s))
       unfolding counted readCount either next HoldsTest
       count-found {i} {c} {vars} {ns} g l lc q y h′ u =
-          let r : counted f σ o t (drop at s) ≡ got (sized o t (count (x .thing))) (drop (e + 1) s) = rw (h .skips, x .reads, h′ .skips) in
+          let r : counted σ o t (drop at s) ≡ got (sized o t (count (x .thing))) (drop (e + 1) s) = rw (h .skips, x .reads, h′ .skips) in
           let lj : j < indexRoom = omega (arith, x .within, x .tidy .size, x .tidy .fits) in
           put-found (sized o t (count (x .thing))) u (x .stays) (omega (arith, x .count)) (h′ .fits) r
           (λ k n v. (
@@ -109,25 +109,25 @@ number-fresh {s} {at} {m = m} {e = e} g l lc x =
 
 -- A test of a count.
 
-pub sized-none : (n : ℕ) (σ : Choices) (w : Bytes) → readTerm n σ w ≡ fail → sizedTest n σ w ≡ fail
+pub sized-none : (σ : Choices) (w : Bytes) → readTerm σ w ≡ fail → sizedTest σ w ≡ fail
 unfolding sizedTest next
-sized-none n σ w e = rw e
+sized-none σ w e = rw e
 
-module _ (n : ℕ) (σ : Choices) {s : Bytes} {at : ℕ} where
-  module _ {a b : Arena} {i e : ℕ} (f : Found Holds s at a b i e (readTerm n σ (drop at s))) where
-    pub sized-open : skip (ascii "|") (drop e s) ≡ fail → sizedTest n σ (drop at s) ≡ fail
+module _ (σ : Choices) {s : Bytes} {at : ℕ} where
+  module _ {a b : Arena} {i e : ℕ} (f : Found Holds s at a b i e (readTerm σ (drop at s))) where
+    pub sized-open : skip (ascii "|") (drop e s) ≡ fail → sizedTest σ (drop at s) ≡ fail
     unfolding sizedTest next
     sized-open q = rw (f .reads, q)
 
     module _ (h : Hit s e (ascii "|")) where
-      pub sized-lost : scan spellCmp cmps (drop (e + 1) s) ≡ fail → sizedTest n σ (drop at s) ≡ fail
+      pub sized-lost : scan spellCmp cmps (drop (e + 1) s) ≡ fail → sizedTest σ (drop at s) ≡ fail
       unfolding sizedTest next
       sized-lost q = rw (f .reads, h .skips, q)
 
-      pub sized-found : {c y : ℕ} {ns : List ℕ} {p : Place} (x : Signed cmpNumber s (e + 1) c y (scan spellCmp cmps (drop (e + 1) s))) → Agree HoldsTest s y b ns p (counted n σ (x .thing) (f .thing) (drop y s)) → Agree HoldsTest s at a ns p (sizedTest n σ (drop at s))
+      pub sized-found : {c y : ℕ} {ns : List ℕ} {p : Place} (x : Signed cmpNumber s (e + 1) c y (scan spellCmp cmps (drop (e + 1) s))) → Agree HoldsTest s y b ns p (counted σ (x .thing) (f .thing) (drop y s)) → Agree HoldsTest s at a ns p (sizedTest σ (drop at s))
       unfolding sizedTest next
       sized-found {c} {y} x u =
-          let r : sizedTest n σ (drop at s) ≡ counted n σ (x .thing) (f .thing) (drop y s) = rw (f .reads, h .skips, x .is) in
+          let r : sizedTest σ (drop at s) ≡ counted σ (x .thing) (f .thing) (drop y s) = rw (f .reads, h .skips, x .is) in
           rw r (agree-from (f .stays) (omega (arith, f .count, x .more)) u)
 
 -- A test of two terms.
@@ -146,31 +146,31 @@ tested-holds (isSign g) a b {ns} {k} {i} {j} x y z = (i, j, x, y, z)
 abbrev Emptied : Bytes → ℕ → ℕ → Bool → Type 0
 Emptied s at op r = (op < firstAlike → r ≡ false) × (firstAlike ≤ op → Stands s at (ascii "{}") r)
 
-second-term : (n : ℕ) (σ : Choices) (m : Between) (a : Term) {s : Bytes} {at : ℕ} {r : Bool} → Emptied s at (betweenOp m) r → r ≡ false → readSecond n σ a m (drop at s) ≡ next (readTerm n σ (drop at s)) (λ b w. got (tested m a b) w)
+second-term : (σ : Choices) (m : Between) (a : Term) {s : Bytes} {at : ℕ} {r : Bool} → Emptied s at (betweenOp m) r → r ≡ false → readSecond σ a m (drop at s) ≡ next (readTerm σ (drop at s)) (λ b w. got (tested m a b) w)
 unfolding readSecond either betweenOp alikeOp
-second-term n σ isIn a x e = refl
-second-term n σ (isSign is) a x e = rw (miss (x .1 (omega arith)) e)
-second-term n σ (isSign isnt) a x e = rw (miss (x .1 (omega arith)) e)
+second-term σ isIn a x e = refl
+second-term σ (isSign is) a x e = rw (miss (x .1 (omega arith)) e)
+second-term σ (isSign isnt) a x e = rw (miss (x .1 (omega arith)) e)
 
-record Empty (n : ℕ) (σ : Choices) (m : Between) (a : Term) (s : Bytes) (at : ℕ) : Type 0 where
+record Empty (σ : Choices) (m : Between) (a : Term) (s : Bytes) (at : ℕ) : Type 0 where
   sign : Sign
   op : emptyOp sign ≡ betweenOp m + 2
-  is : readSecond n σ a m (drop at s) ≡ got (empty sign a) (drop (at + 2) s)
+  is : readSecond σ a m (drop at s) ≡ got (empty sign a) (drop (at + 2) s)
   fits : at + 2 ≤ length s
 
-second-empty : (n : ℕ) (σ : Choices) (m : Between) (a : Term) {s : Bytes} {at : ℕ} {r : Bool} → Emptied s at (betweenOp m) r → r ≡ true → at ≤ length s → Empty n σ m a s at
+second-empty : (σ : Choices) (m : Between) (a : Term) {s : Bytes} {at : ℕ} {r : Bool} → Emptied s at (betweenOp m) r → r ≡ true → at ≤ length s → Empty σ m a s at
 unfolding readSecond either betweenOp alikeOp emptyOp
-second-empty n σ isIn a x e l = let q = x .0 (omega arith) in let z : _≡_ {A = ℕ} 0 1 = cc in absurd (omega arith)
-second-empty n σ (isSign is) a x e l = let h = hit (x .1 (omega arith)) e l in record { sign = is; op = refl; is = rw (h .skips); fits = h .fits }
-second-empty n σ (isSign isnt) a x e l = let h = hit (x .1 (omega arith)) e l in record { sign = isnt; op = refl; is = rw (h .skips); fits = h .fits }
+second-empty σ isIn a x e l = let q = x .0 (omega arith) in let z : _≡_ {A = ℕ} 0 1 = cc in absurd (omega arith)
+second-empty σ (isSign is) a x e l = let h = hit (x .1 (omega arith)) e l in record { sign = is; op = refl; is = rw (h .skips); fits = h .fits }
+second-empty σ (isSign isnt) a x e l = let h = hit (x .1 (omega arith)) e l in record { sign = isnt; op = refl; is = rw (h .skips); fits = h .fits }
 
-pub related-none : (n : ℕ) (σ : Choices) (w : Bytes) → readTerm n σ w ≡ fail → relatedTest n σ w ≡ fail
+pub related-none : (σ : Choices) (w : Bytes) → readTerm σ w ≡ fail → relatedTest σ w ≡ fail
 unfolding relatedTest next
-related-none n σ w e = rw e
+related-none σ w e = rw e
 
-module _ (n : ℕ) (σ : Choices) {s : Bytes} {at : ℕ} where
-  module _ {a b : Arena} {i e : ℕ} (f : Found Holds s at a b i e (readTerm n σ (drop at s))) where
-    pub related-lost : scan spellBetween betweens (drop e s) ≡ fail → relatedTest n σ (drop at s) ≡ fail
+module _ (σ : Choices) {s : Bytes} {at : ℕ} where
+  module _ {a b : Arena} {i e : ℕ} (f : Found Holds s at a b i e (readTerm σ (drop at s))) where
+    pub related-lost : scan spellBetween betweens (drop e s) ≡ fail → relatedTest σ (drop at s) ≡ fail
     unfolding relatedTest next
     related-lost q = rw (f .reads, q)
 
@@ -181,7 +181,7 @@ module _ (n : ℕ) (σ : Choices) {s : Bytes} {at : ℕ} where
       emptied : Emptied s y (betweenOp (x .thing)) r
       emptied = subst (λ (c : ℕ). Emptied s y c r) (sym (x .numberIs)) z
 
-      on : relatedTest n σ (drop at s) ≡ readSecond n σ (f .thing) (x .thing) (drop y s)
+      on : relatedTest σ (drop at s) ≡ readSecond σ (f .thing) (x .thing) (drop y s)
       unfolding relatedTest next
       on = rw (f .reads, x .is)
 
@@ -190,28 +190,28 @@ module _ (n : ℕ) (σ : Choices) {s : Bytes} {at : ℕ} where
           let w = range in
           fresh-two (omega (arith, g .room, g .count, f .count, f .stays .size, x .more, x .fits)) (f .tidy) (omega (arith, w .high)) (f .within) (omega (arith, f .within))
 
-      pub empty-found : {ns : List ℕ} {p : Place} → r ≡ true → Put b (nodeOf (o + 2) i 0) (y + 2) ns p → Agree HoldsTest s at a ns p (relatedTest n σ (drop at s))
+      pub empty-found : {ns : List ℕ} {p : Place} → r ≡ true → Put b (nodeOf (o + 2) i 0) (y + 2) ns p → Agree HoldsTest s at a ns p (relatedTest σ (drop at s))
       unfolding HoldsTest
       empty-found {ns} e′ u =
           let w = range in
-          let v = second-empty n σ (x .thing) (f .thing) emptied e′ (x .fits) in
+          let v = second-empty σ (x .thing) (f .thing) emptied e′ (x .fits) in
           let q : emptyOp (v .sign) ≡ o + 2 = v .op ∙ ap (λ (c : ℕ). c + 2) (x .numberIs) in
           put-found (empty (v .sign) (f .thing)) u (f .stays) (omega (arith, f .count, x .more)) (v .fits) (on ∙ v .is)
           (λ k m y′. (i, rw q (one-node y′ (omega (arith, w .low)) (omega (arith, w .high)) (omega (arith, f .within, f .tidy .size, f .tidy .fits))), holds-later b _ i (f .thing) (y′ .stays) (f .within) (f .holds)))
 
-      pub related-empty : r ≡ false → readTerm n σ (drop y s) ≡ fail → relatedTest n σ (drop at s) ≡ fail
+      pub related-empty : r ≡ false → readTerm σ (drop y s) ≡ fail → relatedTest σ (drop at s) ≡ fail
       unfolding next
-      related-empty e′ q = on ∙ second-term n σ (x .thing) (f .thing) emptied e′ ∙ rw q
+      related-empty e′ q = on ∙ second-term σ (x .thing) (f .thing) emptied e′ ∙ rw q
 
-      module _ {d : Arena} {j g : ℕ} (f′ : Found Holds s y b d j g (readTerm n σ (drop y s))) where
+      module _ {d : Arena} {j g : ℕ} (f′ : Found Holds s y b d j g (readTerm σ (drop y s))) where
         pub related-fresh : {vars : List ℕ} → Readable s at vars a → Fresh d o i j
         related-fresh q = let w = range in fresh-pair q f f′ (x .more) (omega (arith, w .high))
 
-        pub related-found : {ns : List ℕ} {p : Place} → r ≡ false → Put d (nodeOf o i j) g ns p → Agree HoldsTest s at a ns p (relatedTest n σ (drop at s))
+        pub related-found : {ns : List ℕ} {p : Place} → r ≡ false → Put d (nodeOf o i j) g ns p → Agree HoldsTest s at a ns p (relatedTest σ (drop at s))
         unfolding next
         related-found {ns} e′ u =
             let w = range in
-            let q : relatedTest n σ (drop at s) ≡ got (tested (x .thing) (f .thing) (f′ .thing)) (drop g s) = on ∙ second-term n σ (x .thing) (f .thing) emptied e′ ∙ rw (f′ .reads) in
+            let q : relatedTest σ (drop at s) ≡ got (tested (x .thing) (f .thing) (f′ .thing)) (drop g s) = on ∙ second-term σ (x .thing) (f .thing) emptied e′ ∙ rw (f′ .reads) in
             put-found (tested (x .thing) (f .thing) (f′ .thing)) u (stays-trans (f .stays) (f′ .stays)) (omega (arith, f .count, x .more, f′ .count)) (f′ .end) q
             (λ k m v.
             tested-holds (x .thing) (f .thing) (f′ .thing)
@@ -221,24 +221,24 @@ module _ (n : ℕ) (σ : Choices) {s : Bytes} {at : ℕ} where
 
 -- A test by its first byte.
 
-module _ (n : ℕ) (σ : Choices) (s : Bytes) (at : ℕ) where
-  pub test-sized : Hit s at (ascii "|") → readTest n σ (drop at s) ≡ sizedTest n σ (drop (at + 1) s)
+module _ (σ : Choices) (s : Bytes) (at : ℕ) where
+  pub test-sized : Hit s at (ascii "|") → readTest σ (drop at s) ≡ sizedTest σ (drop (at + 1) s)
   unfolding readTest sizedTest counted either
   test-sized h = rw (h .skips)
 
-  pub test-related : skip (ascii "|") (drop at s) ≡ fail → readTest n σ (drop at s) ≡ relatedTest n σ (drop at s)
+  pub test-related : skip (ascii "|") (drop at s) ≡ fail → readTest σ (drop at s) ≡ relatedTest σ (drop at s)
   unfolding readTest relatedTest either
   test-related e = rw e
 
 -- A clause: a test, or two tests with `=>` between them.
 
-module _ (n : ℕ) (σ : Choices) where
-  pub clause-none : (w : Bytes) → readTest n σ w ≡ fail → readClause n σ w ≡ fail
+module _ (σ : Choices) where
+  pub clause-none : (w : Bytes) → readTest σ w ≡ fail → readClause σ w ≡ fail
   unfolding readClause next
   clause-none w e = rw e
 
-  module _ {s : Bytes} {at i e : ℕ} {a b : Arena} (f : Found HoldsTest s at a b i e (readTest n σ (drop at s))) where
-    pub clause-plain : skip (ascii "=>") (drop e s) ≡ fail → Found HoldsClause s at a b i e (readClause n σ (drop at s))
+  module _ {s : Bytes} {at i e : ℕ} {a b : Arena} (f : Found HoldsTest s at a b i e (readTest σ (drop at s))) where
+    pub clause-plain : skip (ascii "=>") (drop e s) ≡ fail → Found HoldsClause s at a b i e (readClause σ (drop at s))
     unfolding readClause next either HoldsClause
     clause-plain q =
         record {
@@ -253,14 +253,14 @@ module _ (n : ℕ) (σ : Choices) where
         }
 
     module _ (h : Hit s e (ascii "=>")) where
-      pub clause-lost : readTest n σ (drop (e + 2) s) ≡ fail → readClause n σ (drop at s) ≡ fail
+      pub clause-lost : readTest σ (drop (e + 2) s) ≡ fail → readClause σ (drop at s) ≡ fail
       unfolding readClause next either
       clause-lost q = rw (f .reads, h .skips, q)
 
-      pub clause-found : {d : Arena} {j z : ℕ} {ns : List ℕ} {p : Place} → Found HoldsTest s (e + 2) b d j z (readTest n σ (drop (e + 2) s)) → Put d (nodeOf whenOp i j) z ns p → Agree HoldsClause s at a ns p (readClause n σ (drop at s))
+      pub clause-found : {d : Arena} {j z : ℕ} {ns : List ℕ} {p : Place} → Found HoldsTest s (e + 2) b d j z (readTest σ (drop (e + 2) s)) → Put d (nodeOf whenOp i j) z ns p → Agree HoldsClause s at a ns p (readClause σ (drop at s))
       unfolding readClause next either HoldsClause hasTwo
       clause-found {d} {j} {z} f′ u =
-          let q : readClause n σ (drop at s) ≡ got (when (f .thing) (f′ .thing)) (drop z s) = rw (f .reads, h .skips, f′ .reads) in
+          let q : readClause σ (drop at s) ≡ got (when (f .thing) (f′ .thing)) (drop z s) = rw (f .reads, h .skips, f′ .reads) in
           put-found (when (f .thing) (f′ .thing)) u (stays-trans (f .stays) (f′ .stays)) (omega (arith, f .count, f′ .count)) (f′ .end) q
           (λ k m v. (
             i,
@@ -272,23 +272,23 @@ module _ (n : ℕ) (σ : Choices) where
 
   -- A rule by its first clause.
 
-  pub rule-zero : (k : ℕ) (w : Bytes) → k ≡ 0 → readRule n σ k w ≡ fail
+  pub rule-zero : (k : ℕ) (w : Bytes) → k ≡ 0 → readRule σ k w ≡ fail
   unfolding readRule
   rule-zero k w e = rw e
 
   module _ (k : ℕ) (more : k ≡ 0 → ⊥) where
-    rule-is : (w : Bytes) → readRule n σ k w ≡ readRule n σ (suc (k - 1)) w
-    rule-is w = let e : k ≡ suc (k - 1) = omega arith in ap (λ (m : ℕ). readRule n σ m w) e
+    rule-is : (w : Bytes) → readRule σ k w ≡ readRule σ (suc (k - 1)) w
+    rule-is w = let e : k ≡ suc (k - 1) = omega arith in ap (λ (m : ℕ). readRule σ m w) e
 
-    pub rule-none : (w : Bytes) → readClause n σ w ≡ fail → readRule n σ k w ≡ fail
+    pub rule-none : (w : Bytes) → readClause σ w ≡ fail → readRule σ k w ≡ fail
     unfolding readRule next
     rule-none w e = rule-is w ∙ rw e
 
-    module _ {s : Bytes} {at i e : ℕ} {a b : Arena} (f : Found HoldsClause s at a b i e (readClause n σ (drop at s))) where
-      pub rule-last : skip (ascii "^") (drop e s) ≡ fail → readRule n σ k (drop at s) ≡ got (last (f .thing)) (drop e s)
+    module _ {s : Bytes} {at i e : ℕ} {a b : Arena} (f : Found HoldsClause s at a b i e (readClause σ (drop at s))) where
+      pub rule-last : skip (ascii "^") (drop e s) ≡ fail → readRule σ k (drop at s) ≡ got (last (f .thing)) (drop e s)
       unfolding readRule next either
       rule-last q = rule-is (drop at s) ∙ rw (f .reads, q)
 
-      pub rule-more : Hit s e (ascii "^") → readRule n σ k (drop at s) ≡ next (readRule n σ (k - 1) (drop (e + 1) s)) (λ ρ w. got (also (f .thing) ρ) w)
+      pub rule-more : Hit s e (ascii "^") → readRule σ k (drop at s) ≡ next (readRule σ (k - 1) (drop (e + 1) s)) (λ ρ w. got (also (f .thing) ρ) w)
       unfolding readRule next either
       rule-more h = rule-is (drop at s) ∙ rw (f .reads, h .skips)

@@ -145,8 +145,7 @@ formulaWith τ ρ = quantifiers τ 49 τ ++ (ascii ":" ++ ruleText τ ρ)
 unfoldable pub formula : Rule → Bytes
 formula ρ = formulaWith (ruleVars [] ρ) ρ
 
--- How a rule is read. The number n bounds how deep the brackets go, and k how many clauses or quantifiers there are;
--- the number of bytes is enough for both.
+-- How a rule is read. The numbers n and k bound how many clauses and quantifiers there are; the number of bytes is enough for both.
 
 unfoldable pub cmps : List Cmp
 cmps = le ∷ lt ∷ ge ∷ gt ∷ eq ∷ ne ∷ []
@@ -162,22 +161,22 @@ down (suc n) = suc n ∷ down n
 abbrev pub readNumber : Reader ℕ
 readNumber = scan digits (down 64)
 
-module _ (n : ℕ) (σ : Choices) where
+module _ (σ : Choices) where
   unfoldable pub readCount : Reader Count
   readCount =
       either (ascii "|")
-      (do b ← readTerm n σ; skip (ascii "|"); give (count b))
+      (do b ← readTerm σ; skip (ascii "|"); give (count b))
       (do k ← readNumber; give (number k))
 
   unfoldable pub readSecond : Term → Between → Reader Test
-  readSecond a isIn = do b ← readTerm n σ; give (member a b)
-  readSecond a (isSign g) = either (ascii "{}") (give (empty g a)) (do b ← readTerm n σ; give (alike g a b))
+  readSecond a isIn = do b ← readTerm σ; give (member a b)
+  readSecond a (isSign g) = either (ascii "{}") (give (empty g a)) (do b ← readTerm σ; give (alike g a b))
 
   unfoldable pub readTest : Reader Test
   readTest =
       either (ascii "|")
-      (do a ← readTerm n σ; skip (ascii "|"); c ← scan spellCmp cmps; k ← readCount; give (sized c a k))
-      (do a ← readTerm n σ; m ← scan spellBetween betweens; readSecond a m)
+      (do a ← readTerm σ; skip (ascii "|"); c ← scan spellCmp cmps; k ← readCount; give (sized c a k))
+      (do a ← readTerm σ; m ← scan spellBetween betweens; readSecond a m)
 
   unfoldable pub readClause : Reader Clause
   readClause = do p ← readTest; either (ascii "=>") (do q ← readTest; give (when p q)) (give (plain p))
@@ -191,8 +190,8 @@ unfoldable pub readFormula : ℕ → ℕ → Choices → Reader Rule
 readFormula n zero σ = λ _. fail
 readFormula n (suc k) σ =
     either (ascii "[v")
-    (do skip ((49 + length σ) ∷ []); skip (ascii "@"); x ← readTerm n σ; skip (ascii "]"); readFormula n k (σ ++ (x ∷ [])))
-    (do skip (ascii ":"); readRule n σ n)
+    (do skip ((49 + length σ) ∷ []); skip (ascii "@"); x ← readTerm σ; skip (ascii "]"); readFormula n k (σ ++ (x ∷ [])))
+    (do skip (ascii ":"); readRule σ n)
 
 -- A whole text: nothing is left.
 unfoldable pub whole : {A : Type 0} → Read A → Option A
@@ -201,7 +200,7 @@ whole (got a []) = some a
 whole (got a (c ∷ s)) = none
 
 unfoldable pub ruleOf : Bytes → Option Rule
-ruleOf s = whole (readRule (length s) [] (length s) s)
+ruleOf s = whole (readRule [] (length s) s)
 
 unfoldable pub ruleOfFormula : Bytes → Option Rule
 ruleOfFormula s = whole (readFormula (length s) (length s) [] s)

@@ -5,6 +5,7 @@ use mathlib.Core.Option.{Option, none, some}
 use mathlib.Core.Bool.{Bool, true, false}
 use Prim.Native.Nat.{ℕ, suc, zero}
 use lib.Dec.{eqb}
+use lib.ListN.{length}
 use Rattle.syntax.specs.Bytes.{Bytes, ascii, Read, fail, got, Reader, _>>=_, _>>_, give, skip, scan}
 
 -- "Term: U R OP OBJ P S CR CP CU, a call, OE(term), AO(term), (term&term) (intersection), (term+term) (union)."
@@ -176,7 +177,11 @@ inner rd σ (isCall2 f) = do a ← rd; skip (ascii ","); closed rd (two (calls f
 inner rd σ isBracket = do a ← rd; m ← scan spellMiddle middles; second rd σ a m
 inner rd σ isChoice = do a ← known σ; give (oe a)
 
--- Read a term. The number bounds how deep the brackets go; the number of bytes is enough.
-unfoldable pub readTerm : ℕ → Choices → Reader Term
-readTerm zero σ = λ _. fail
-readTerm (suc n) σ = do h ← scan spell heads; inner (readTerm n σ) σ h
+-- Read a term whose brackets go less than n deep.
+unfoldable pub termWithin : ℕ → Choices → Reader Term
+termWithin zero σ = λ _. fail
+termWithin (suc n) σ = do h ← scan spell heads; inner (termWithin n σ) σ h
+
+-- Read a term. No more brackets open than there are bytes left.
+unfoldable pub readTerm : Choices → Reader Term
+readTerm σ s = termWithin (length s) σ s

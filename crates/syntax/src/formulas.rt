@@ -6,10 +6,11 @@ ghost use lib.ListN.{length, drop, take};
 ghost use Rattle.syntax.specs.Term.{Choices};
 ghost use Rattle.syntax.specs.Rule.{readFormula, readRule};
 ghost use Rattle.syntax.specs.code.Arena.{Holds, HoldsRule};
-ghost use Rattle.syntax.specs.code.Reading.{mk, Readable, Knows, Agree, chosenSet};
+ghost use Rattle.syntax.specs.code.Reading.{mk, Readable, Knows, Agree, chosenSet, clauseRoom};
 use super::arena::Place;
 use super::names::stands;
 use super::terms::read_term;
+use super::tests::CLAUSE_ROOM;
 use super::tests::read_rule;
 
 fn wide(c: u8) -> usize
@@ -33,7 +34,7 @@ fn read_set(s: &[u8], at: usize, vars: &[u32], nodes: &mut [u32], n: usize) -> P
     if !stands(s, at + 1, b"@") {
         return Place::Nothing;
     }
-    let p = read_term(s, at + 2, vars, nodes, n, 512);
+    let p = read_term(s, at + 2, vars, nodes, n);
     let Place::Got { node, next, n: m } = p else {
         return Place::Nothing;
     };
@@ -47,13 +48,13 @@ fn read_set(s: &[u8], at: usize, vars: &[u32], nodes: &mut [u32], n: usize) -> P
     }
 }
 
-// The rule behind `:`, of at most 512 clauses.
+// The rule behind `:`.
 fn read_body(s: &[u8], at: usize, vars: &[u32], nodes: &mut [u32], n: usize) -> Place
     requires { ⌜ Readable (now s) at (now vars) (mk (now nodes) n) ⌝ }
-    ensures { λ r. ⌜ ((σ : Choices) → Knows (mk (now (nodes .entry)) n) (now (vars .entry)) σ → Agree HoldsRule (now (s .entry)) at (mk (now (nodes .entry)) n) (now (nodes .exit)) r (readRule 512 σ 512 (drop at (now (s .entry))))) ⌝ }
+    ensures { λ r. ⌜ ((σ : Choices) → Knows (mk (now (nodes .entry)) n) (now (vars .entry)) σ → Agree HoldsRule (now (s .entry)) at (mk (now (nodes .entry)) n) (now (nodes .exit)) r (readRule σ clauseRoom (drop at (now (s .entry))))) ⌝ }
 {
-    let mut list = [0u32; 512];
-    read_rule(s, at, vars, nodes, n, 512, &mut list)
+    let mut list = [0u32; CLAUSE_ROOM];
+    read_rule(s, at, vars, nodes, n, &mut list)
 }
 
 // The quantifiers behind the first k, and the rule.
@@ -67,7 +68,7 @@ pub fn read_formula(
 ) -> Place
     requires { ⌜ Readable (now s) at (take k (now vars)) (mk (now nodes) n) ⌝ }
     requires { ⌜ (length (now vars) ≡ 8) × (k ≤ 8) ⌝ }
-    ensures { λ r. ⌜ ((σ : Choices) → Knows (mk (now (nodes .entry)) n) (take k (now (vars .entry))) σ → Agree HoldsRule (now (s .entry)) at (mk (now (nodes .entry)) n) (now (nodes .exit)) r (readFormula 512 (9 - k) σ (drop at (now (s .entry))))) ⌝ }
+    ensures { λ r. ⌜ ((σ : Choices) → Knows (mk (now (nodes .entry)) n) (take k (now (vars .entry))) σ → Agree HoldsRule (now (s .entry)) at (mk (now (nodes .entry)) n) (now (nodes .exit)) r (readFormula clauseRoom (9 - k) σ (drop at (now (s .entry))))) ⌝ }
 {
     if !stands(s, at, b"[v") {
         if !stands(s, at, b":") {

@@ -6,7 +6,7 @@ ghost use lib.ListN.{length};
 ghost use Rattle.syntax.specs.Bytes.{Read};
 ghost use Rattle.syntax.specs.Rule.{Rule, whole, ruleOf, readFormula};
 ghost use Rattle.syntax.specs.code.Arena.{HoldsRule};
-ghost use Rattle.syntax.specs.code.Reading.{mk, Agree, Reads};
+ghost use Rattle.syntax.specs.code.Reading.{mk, Agree, Reads, clauseRoom};
 
 mod arena;
 mod formulas;
@@ -18,6 +18,7 @@ mod tests;
 
 use arena::Place;
 use formulas::read_formula;
+use tests::CLAUSE_ROOM;
 use tests::read_rule;
 
 // What a whole text is: nothing, or the tree at a node, in n nodes.
@@ -41,19 +42,19 @@ fn ended(s: &[u8], p: Place) -> Whole
 
 // The rule that s is the text of.
 pub fn rule(s: &[u8], nodes: &mut [u32]) -> Whole
-    requires { ⌜ (length (now s) ≤ length (now nodes)) × (length (now nodes) ≤ 4096) ⌝ }
+    requires { ⌜ (length (now s) ≤ length (now nodes)) × (length (now nodes) ≤ 4096) × (length (now s) ≤ clauseRoom) ⌝ }
     ensures { λ r. ⌜ Reads (now (s .entry)) (now (nodes .exit)) r (ruleOf (now (s .entry))) ⌝ }
 {
     let none = [0u32; 1];
-    let mut list = [0u32; 4096];
-    let p = read_rule(s, 0, &none[..0], nodes, 0, s.len(), &mut list[..s.len()]);
+    let mut list = [0u32; CLAUSE_ROOM];
+    let p = read_rule(s, 0, &none[..0], nodes, 0, &mut list[..s.len()]);
     ended(s, p)
 }
 
-// The rule that s is the formula of, with at most 8 quantifiers and brackets at most 512 deep.
+// The rule that s is the formula of, with at most 8 quantifiers and CLAUSE_ROOM clauses. The stack that it takes grows with how deep the brackets go.
 pub fn formula(s: &[u8], nodes: &mut [u32]) -> Whole
     requires { ⌜ (length (now s) ≤ length (now nodes)) × (length (now nodes) ≤ 4096) ⌝ }
-    ensures { λ r. ⌜ Reads (now (s .entry)) (now (nodes .exit)) r (whole (readFormula 512 9 [] (now (s .entry)))) ⌝ }
+    ensures { λ r. ⌜ Reads (now (s .entry)) (now (nodes .exit)) r (whole (readFormula clauseRoom 9 [] (now (s .entry)))) ⌝ }
 {
     let mut vars = [0u32; 8];
     let p = read_formula(s, 0, &mut vars, 0, nodes, 0);

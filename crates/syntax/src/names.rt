@@ -7,6 +7,7 @@ ghost use Rattle.syntax.specs.Bytes.{scan};
 ghost use Rattle.syntax.specs.Term.{spell, heads, collectionHeads, callHeads, bracketHeads};
 ghost use Rattle.syntax.specs.Rule.{spellCmp, cmps, spellBetween, betweens, readNumber};
 ghost use Rattle.syntax.specs.code.Arena.{cmpNumber};
+ghost use Rattle.syntax.specs.code.Nodes.{firstPair};
 ghost use Rattle.syntax.specs.code.Reading.{Stands, Named, headOp, spellJoint, joints, jointOp, betweenOp, itself, digitOf};
 use super::nodes::AO;
 use super::nodes::BRACKET_HEAD;
@@ -14,11 +15,18 @@ use super::nodes::CHOICE_HEAD;
 use super::nodes::CP;
 use super::nodes::CR;
 use super::nodes::CU;
+use super::nodes::EQ;
+use super::nodes::FIRST_JOIN;
+use super::nodes::GE;
+use super::nodes::GT;
 use super::nodes::IS;
 use super::nodes::ISNT;
 use super::nodes::JOIN;
+use super::nodes::LE;
+use super::nodes::LT;
 use super::nodes::MEET;
 use super::nodes::MEMBER;
+use super::nodes::NE;
 use super::nodes::OBJ;
 use super::nodes::OBJECT;
 use super::nodes::OE;
@@ -137,7 +145,7 @@ fn call_at(s: &[u8], at: usize) -> Spelled
     bracket_at(s, at)
 }
 
-// `operations`, the bracket and the name of a variable.
+// The calls of two terms, the bracket and the name of a variable.
 fn bracket_at(s: &[u8], at: usize) -> Spelled
     requires { ⌜ at ≤ length (now s) ⌝ }
     ensures { λ r. ⌜ Named headOp (now (s .entry)) at r (scan spell bracketHeads (drop at (now (s .entry)))) ⌝ }
@@ -154,14 +162,15 @@ fn bracket_at(s: &[u8], at: usize) -> Spelled
     Spelled::Unknown
 }
 
-// What stands after the first term in a bracket: `,` behind `operations(`, and otherwise a sign.
+// What stands after the first term in a bracket: `,` behind the name of a call of two terms, and otherwise a sign.
 pub fn middle_at(s: &[u8], at: usize, op: u32) -> Spelled
     requires { ⌜ at ≤ length (now s) ⌝ }
+    requires { ⌜ firstPair ≤ op ⌝ }
     ensures { λ r. ⌜ Named jointOp (now (s .entry)) at r (scan spellJoint (joints op) (drop at (now (s .entry)))) ⌝ }
 {
-    if op == OPERATIONS {
+    if op < FIRST_JOIN {
         if stands(s, at, b",") {
-            return Spelled::Name(OPERATIONS, at + 1);
+            return Spelled::Name(op, at + 1);
         }
         return Spelled::Unknown;
     }
@@ -183,22 +192,22 @@ pub fn cmp_at(s: &[u8], at: usize) -> Spelled
     ensures { λ r. ⌜ Named cmpNumber (now (s .entry)) at r (scan spellCmp cmps (drop at (now (s .entry)))) ⌝ }
 {
     if stands(s, at, b"<=") {
-        return Spelled::Name(1, at + 2);
+        return Spelled::Name(LE, at + 2);
     }
     if stands(s, at, b"<") {
-        return Spelled::Name(0, at + 1);
+        return Spelled::Name(LT, at + 1);
     }
     if stands(s, at, b">=") {
-        return Spelled::Name(3, at + 2);
+        return Spelled::Name(GE, at + 2);
     }
     if stands(s, at, b">") {
-        return Spelled::Name(2, at + 1);
+        return Spelled::Name(GT, at + 1);
     }
     if stands(s, at, b"=") {
-        return Spelled::Name(4, at + 1);
+        return Spelled::Name(EQ, at + 1);
     }
     if stands(s, at, b"!=") {
-        return Spelled::Name(5, at + 2);
+        return Spelled::Name(NE, at + 2);
     }
     Spelled::Unknown
 }

@@ -1,5 +1,5 @@
-// The reader of terms. `left` bounds how deep the brackets go; `vars` are the nodes of the choices known so far.
-// The term reader and the readers of what stands in brackets call each other with a falling `left`.
+// The reader of terms. `vars` are the nodes of the choices known so far.
+// The term reader and the readers of what stands in brackets call each other with a falling number of bytes left.
 ghost use mathlib.Core.Path.{_≡_};
 ghost use Prim.Native.Nat.{ℕ, _<_, _≤_};
 ghost use lib.ListN.{length, drop};
@@ -67,20 +67,10 @@ fn read_less(s: &[u8], at: usize, vars: &[u32], nodes: &mut [u32], n: usize, i: 
 }
 
 // A term at a place.
-pub fn read_term(
-    s: &[u8],
-    at: usize,
-    vars: &[u32],
-    nodes: &mut [u32],
-    n: usize,
-    left: usize,
-) -> Place
+pub fn read_term(s: &[u8], at: usize, vars: &[u32], nodes: &mut [u32], n: usize) -> Place
     requires { ⌜ Readable (now s) at (now vars) (mk (now nodes) n) ⌝ }
-    ensures { λ r. ⌜ ((σ : Choices) → Knows (mk (now (nodes .entry)) n) (now (vars .entry)) σ → Agree Holds (now (s .entry)) at (mk (now (nodes .entry)) n) (now (nodes .exit)) r (readTerm left σ (drop at (now (s .entry))))) ⌝ }
+    ensures { λ r. ⌜ ((σ : Choices) → Knows (mk (now (nodes .entry)) n) (now (vars .entry)) σ → Agree Holds (now (s .entry)) at (mk (now (nodes .entry)) n) (now (nodes .exit)) r (readTerm σ (drop at (now (s .entry))))) ⌝ }
 {
-    if left == 0 {
-        return Place::Nothing;
-    }
     let h = head_at(s, at);
     let Spelled::Name(op, next) = h else {
         return Place::Nothing;
@@ -89,29 +79,21 @@ pub fn read_term(
         return intern(nodes, n, op, 0, 0, next);
     }
     if op < FIRST_PAIR {
-        return read_call(s, next, vars, nodes, n, left - 1, op);
+        return read_call(s, next, vars, nodes, n, op);
     }
     if op < CHOICE_HEAD {
-        return read_two(s, next, vars, nodes, n, left - 1, op);
+        return read_two(s, next, vars, nodes, n, op);
     }
     read_choice(s, next, vars, nodes, n)
 }
 
 // What stands behind `name(`: a term and `)`.
-fn read_call(
-    s: &[u8],
-    at: usize,
-    vars: &[u32],
-    nodes: &mut [u32],
-    n: usize,
-    left: usize,
-    op: u32,
-) -> Place
+fn read_call(s: &[u8], at: usize, vars: &[u32], nodes: &mut [u32], n: usize, op: u32) -> Place
     requires { ⌜ Readable (now s) at (now vars) (mk (now nodes) n) ⌝ }
     requires { ⌜ (firstCall ≤ op) × (op < firstPair) ⌝ }
-    ensures { λ r. ⌜ ((σ : Choices) (make : Term → Term) → Knows (mk (now (nodes .entry)) n) (now (vars .entry)) σ → Makes op make → Agree Holds (now (s .entry)) at (mk (now (nodes .entry)) n) (now (nodes .exit)) r (closed (readTerm left σ) make (drop at (now (s .entry))))) ⌝ }
+    ensures { λ r. ⌜ ((σ : Choices) (make : Term → Term) → Knows (mk (now (nodes .entry)) n) (now (vars .entry)) σ → Makes op make → Agree Holds (now (s .entry)) at (mk (now (nodes .entry)) n) (now (nodes .exit)) r (closed (readTerm σ) make (drop at (now (s .entry))))) ⌝ }
 {
-    let p = read_term(s, at, vars, nodes, n, left);
+    let p = read_term(s, at, vars, nodes, n);
     let Place::Got {
         node: i,
         next: e,
@@ -126,20 +108,13 @@ fn read_call(
     intern(nodes, m, op, i, 0, e + 1)
 }
 
-// What stands behind `operations(` and `(`: a term, a sign, a term and `)`, or a term, `-{v` and what follows it.
-fn read_two(
-    s: &[u8],
-    at: usize,
-    vars: &[u32],
-    nodes: &mut [u32],
-    n: usize,
-    left: usize,
-    op: u32,
-) -> Place
+// What stands behind the name of a call of two terms and behind `(`: a term, a sign, a term and `)`, or a term, `-{v` and what follows it.
+fn read_two(s: &[u8], at: usize, vars: &[u32], nodes: &mut [u32], n: usize, op: u32) -> Place
     requires { ⌜ Readable (now s) at (now vars) (mk (now nodes) n) ⌝ }
-    ensures { λ r. ⌜ ((σ : Choices) → Knows (mk (now (nodes .entry)) n) (now (vars .entry)) σ → Agree Holds (now (s .entry)) at (mk (now (nodes .entry)) n) (now (nodes .exit)) r (paired (readTerm left σ) σ op (drop at (now (s .entry))))) ⌝ }
+    requires { ⌜ firstPair ≤ op ⌝ }
+    ensures { λ r. ⌜ ((σ : Choices) → Knows (mk (now (nodes .entry)) n) (now (vars .entry)) σ → Agree Holds (now (s .entry)) at (mk (now (nodes .entry)) n) (now (nodes .exit)) r (paired (readTerm σ) σ op (drop at (now (s .entry))))) ⌝ }
 {
-    let p = read_term(s, at, vars, nodes, n, left);
+    let p = read_term(s, at, vars, nodes, n);
     let Place::Got { node, next, n: m } = p else {
         return Place::Nothing;
     };
@@ -150,7 +125,7 @@ fn read_two(
     if o == AO {
         return read_less(s, f, vars, nodes, m, node);
     }
-    let q = read_term(s, f, vars, nodes, m, left);
+    let q = read_term(s, f, vars, nodes, m);
     let Place::Got {
         node: j,
         next: g,

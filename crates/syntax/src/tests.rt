@@ -1,4 +1,4 @@
-// The readers of tests, clauses and rules. `left` and `vars` are those of the terms.
+// The readers of tests, clauses and rules. `vars` are those of the terms.
 // A function that is handed the node of a term speaks of whatever term that node holds.
 ghost use mathlib.Core.Path.{_≡_};
 ghost use mathlib.Core.Bool.{false};
@@ -21,6 +21,7 @@ use super::nodes::ALSO;
 use super::nodes::FIRST_COUNTED;
 use super::nodes::FIRST_NUMBERED;
 use super::nodes::IS;
+use super::nodes::TO_EMPTY;
 use super::nodes::WHEN;
 use super::terms::read_term;
 
@@ -31,13 +32,12 @@ fn read_count(
     vars: &[u32],
     nodes: &mut [u32],
     n: usize,
-    left: usize,
     c: u32,
     i: usize,
 ) -> Place
     requires { ⌜ Readable (now s) at (now vars) (mk (now nodes) n) ⌝ }
     requires { ⌜ (c < 6) × (i < n) ⌝ }
-    ensures { λ r. ⌜ ((σ : Choices) (o : Cmp) (a : Term) → Knows (mk (now (nodes .entry)) n) (now (vars .entry)) σ → cmpNumber o ≡ c → Holds (now (nodes .entry)) i a → Agree HoldsTest (now (s .entry)) at (mk (now (nodes .entry)) n) (now (nodes .exit)) r (counted left σ o a (drop at (now (s .entry))))) ⌝ }
+    ensures { λ r. ⌜ ((σ : Choices) (o : Cmp) (a : Term) → Knows (mk (now (nodes .entry)) n) (now (vars .entry)) σ → cmpNumber o ≡ c → Holds (now (nodes .entry)) i a → Agree HoldsTest (now (s .entry)) at (mk (now (nodes .entry)) n) (now (nodes .exit)) r (counted σ o a (drop at (now (s .entry))))) ⌝ }
 {
     if !stands(s, at, b"|") {
         let h = number_at(s, at);
@@ -46,7 +46,7 @@ fn read_count(
         };
         return intern(nodes, n, FIRST_NUMBERED + c, i, m as usize, e);
     }
-    let p = read_term(s, at + 1, vars, nodes, n, left);
+    let p = read_term(s, at + 1, vars, nodes, n);
     let Place::Got {
         node: j,
         next: e,
@@ -62,11 +62,11 @@ fn read_count(
 }
 
 // What stands behind the first `|` of a test: a term, `|`, a comparison, and a number or a count.
-fn read_sized(s: &[u8], at: usize, vars: &[u32], nodes: &mut [u32], n: usize, left: usize) -> Place
+fn read_sized(s: &[u8], at: usize, vars: &[u32], nodes: &mut [u32], n: usize) -> Place
     requires { ⌜ Readable (now s) at (now vars) (mk (now nodes) n) ⌝ }
-    ensures { λ r. ⌜ ((σ : Choices) → Knows (mk (now (nodes .entry)) n) (now (vars .entry)) σ → Agree HoldsTest (now (s .entry)) at (mk (now (nodes .entry)) n) (now (nodes .exit)) r (sizedTest left σ (drop at (now (s .entry))))) ⌝ }
+    ensures { λ r. ⌜ ((σ : Choices) → Knows (mk (now (nodes .entry)) n) (now (vars .entry)) σ → Agree HoldsTest (now (s .entry)) at (mk (now (nodes .entry)) n) (now (nodes .exit)) r (sizedTest σ (drop at (now (s .entry))))) ⌝ }
 {
-    let p = read_term(s, at, vars, nodes, n, left);
+    let p = read_term(s, at, vars, nodes, n);
     let Place::Got {
         node: i,
         next: e,
@@ -82,7 +82,7 @@ fn read_sized(s: &[u8], at: usize, vars: &[u32], nodes: &mut [u32], n: usize, le
     let Spelled::Name(c, f) = h else {
         return Place::Nothing;
     };
-    read_count(s, f, vars, nodes, m, left, c, i)
+    read_count(s, f, vars, nodes, m, c, i)
 }
 
 // Whether `{}` stands behind a sign; `@` has none behind it.
@@ -97,18 +97,11 @@ fn empty_at(s: &[u8], at: usize, op: u32) -> bool
 }
 
 // A test that begins with a term: a sign, and then a term or `{}`.
-fn read_related(
-    s: &[u8],
-    at: usize,
-    vars: &[u32],
-    nodes: &mut [u32],
-    n: usize,
-    left: usize,
-) -> Place
+fn read_related(s: &[u8], at: usize, vars: &[u32], nodes: &mut [u32], n: usize) -> Place
     requires { ⌜ Readable (now s) at (now vars) (mk (now nodes) n) ⌝ }
-    ensures { λ r. ⌜ ((σ : Choices) → Knows (mk (now (nodes .entry)) n) (now (vars .entry)) σ → Agree HoldsTest (now (s .entry)) at (mk (now (nodes .entry)) n) (now (nodes .exit)) r (relatedTest left σ (drop at (now (s .entry))))) ⌝ }
+    ensures { λ r. ⌜ ((σ : Choices) → Knows (mk (now (nodes .entry)) n) (now (vars .entry)) σ → Agree HoldsTest (now (s .entry)) at (mk (now (nodes .entry)) n) (now (nodes .exit)) r (relatedTest σ (drop at (now (s .entry))))) ⌝ }
 {
-    let p = read_term(s, at, vars, nodes, n, left);
+    let p = read_term(s, at, vars, nodes, n);
     let Place::Got {
         node: i,
         next: e,
@@ -122,9 +115,9 @@ fn read_related(
         return Place::Nothing;
     };
     if empty_at(s, f, op) {
-        return intern(nodes, m, op + 2, i, 0, f + 2);
+        return intern(nodes, m, op + TO_EMPTY, i, 0, f + 2);
     }
-    let q = read_term(s, f, vars, nodes, m, left);
+    let q = read_term(s, f, vars, nodes, m);
     let Place::Got {
         node: j,
         next: g,
@@ -136,22 +129,22 @@ fn read_related(
     intern(nodes, l, op, i, j, g)
 }
 
-fn read_test(s: &[u8], at: usize, vars: &[u32], nodes: &mut [u32], n: usize, left: usize) -> Place
+fn read_test(s: &[u8], at: usize, vars: &[u32], nodes: &mut [u32], n: usize) -> Place
     requires { ⌜ Readable (now s) at (now vars) (mk (now nodes) n) ⌝ }
-    ensures { λ r. ⌜ ((σ : Choices) → Knows (mk (now (nodes .entry)) n) (now (vars .entry)) σ → Agree HoldsTest (now (s .entry)) at (mk (now (nodes .entry)) n) (now (nodes .exit)) r (readTest left σ (drop at (now (s .entry))))) ⌝ }
+    ensures { λ r. ⌜ ((σ : Choices) → Knows (mk (now (nodes .entry)) n) (now (vars .entry)) σ → Agree HoldsTest (now (s .entry)) at (mk (now (nodes .entry)) n) (now (nodes .exit)) r (readTest σ (drop at (now (s .entry))))) ⌝ }
 {
     if stands(s, at, b"|") {
-        return read_sized(s, at + 1, vars, nodes, n, left);
+        return read_sized(s, at + 1, vars, nodes, n);
     }
-    read_related(s, at, vars, nodes, n, left)
+    read_related(s, at, vars, nodes, n)
 }
 
 // A test, or a test, `=>` and a test.
-fn read_clause(s: &[u8], at: usize, vars: &[u32], nodes: &mut [u32], n: usize, left: usize) -> Place
+fn read_clause(s: &[u8], at: usize, vars: &[u32], nodes: &mut [u32], n: usize) -> Place
     requires { ⌜ Readable (now s) at (now vars) (mk (now nodes) n) ⌝ }
-    ensures { λ r. ⌜ ((σ : Choices) → Knows (mk (now (nodes .entry)) n) (now (vars .entry)) σ → Agree HoldsClause (now (s .entry)) at (mk (now (nodes .entry)) n) (now (nodes .exit)) r (readClause left σ (drop at (now (s .entry))))) ⌝ }
+    ensures { λ r. ⌜ ((σ : Choices) → Knows (mk (now (nodes .entry)) n) (now (vars .entry)) σ → Agree HoldsClause (now (s .entry)) at (mk (now (nodes .entry)) n) (now (nodes .exit)) r (readClause σ (drop at (now (s .entry))))) ⌝ }
 {
-    let p = read_test(s, at, vars, nodes, n, left);
+    let p = read_test(s, at, vars, nodes, n);
     let Place::Got {
         node: i,
         next: e,
@@ -167,7 +160,7 @@ fn read_clause(s: &[u8], at: usize, vars: &[u32], nodes: &mut [u32], n: usize, l
             n: m,
         };
     }
-    let q = read_test(s, e + 2, vars, nodes, m, left);
+    let q = read_test(s, e + 2, vars, nodes, m);
     let Place::Got {
         node: j,
         next: f,
@@ -186,6 +179,9 @@ fn caret_at(s: &[u8], at: usize) -> bool
     stands(s, at, b"^")
 }
 
+// How many clauses are read at most: a rule has at most 256 bytes, and a clause one at least.
+pub const CLAUSE_ROOM: usize = 256;
+
 // The clauses of a rule: how many there are, the place behind them, and the count of nodes after them.
 pub enum Clauses {
     Nothing,
@@ -199,17 +195,16 @@ fn read_clauses(
     vars: &[u32],
     nodes: &mut [u32],
     first: usize,
-    left: usize,
     list: &mut [u32],
 ) -> Clauses
     requires { ⌜ Readable (now s) start (now vars) (mk (now nodes) first) ⌝ }
-    ensures { λ r. ⌜ ((σ : Choices) → Knows (mk (now (nodes .entry)) first) (now (vars .entry)) σ → Collects (now (s .entry)) start (mk (now (nodes .entry)) first) (now (nodes .exit)) (now (list .exit)) r (readRule left σ (length (now (list .entry))) (drop start (now (s .entry))))) ⌝ }
+    ensures { λ r. ⌜ ((σ : Choices) → Knows (mk (now (nodes .entry)) first) (now (vars .entry)) σ → Collects (now (s .entry)) start (mk (now (nodes .entry)) first) (now (nodes .exit)) (now (list .exit)) r (readRule σ (length (now (list .entry))) (drop start (now (s .entry))))) ⌝ }
 {
     let mut at = start;
     let mut n = first;
     let mut c = 0;
     while c < list.len() {
-        let p = read_clause(s, at, vars, nodes, n, left);
+        let p = read_clause(s, at, vars, nodes, n);
         let Place::Got { node, next, n: m } = p else {
             return Clauses::Nothing;
         };
@@ -264,13 +259,12 @@ pub fn read_rule(
     vars: &[u32],
     nodes: &mut [u32],
     n: usize,
-    left: usize,
     list: &mut [u32],
 ) -> Place
     requires { ⌜ Readable (now s) at (now vars) (mk (now nodes) n) ⌝ }
-    ensures { λ r. ⌜ ((σ : Choices) → Knows (mk (now (nodes .entry)) n) (now (vars .entry)) σ → Agree HoldsRule (now (s .entry)) at (mk (now (nodes .entry)) n) (now (nodes .exit)) r (readRule left σ (length (now (list .entry))) (drop at (now (s .entry))))) ⌝ }
+    ensures { λ r. ⌜ ((σ : Choices) → Knows (mk (now (nodes .entry)) n) (now (vars .entry)) σ → Agree HoldsRule (now (s .entry)) at (mk (now (nodes .entry)) n) (now (nodes .exit)) r (readRule σ (length (now (list .entry))) (drop at (now (s .entry))))) ⌝ }
 {
-    let p = read_clauses(s, at, vars, nodes, n, left, list);
+    let p = read_clauses(s, at, vars, nodes, n, list);
     let Clauses::Several {
         count: c,
         next: e,

@@ -7,12 +7,18 @@ use borrow.Author.Tests.{not-true, not-false}
 use borrow.Author.Needs.{needs}
 use Rattle.rules.proofs.ParseLaws.{as-nothing, as-root}
 use Rattle.formulas.proofs.WrittenLaws.{answers-wrote}
-use Rattle.formulas.proofs.ReduceLaws.{rebuild-gives, rebuild-long, rebuild-unread, rebuild-refused, rebuild-apart, rebuild-same, rebuild-ready, rebuild-text}
+use Rattle.formulas.proofs.ReduceLaws.{rebuild-gives, rebuild-long, rebuild-deep, rebuild-unread, rebuild-refused, rebuild-apart, rebuild-same, rebuild-ready, rebuild-text}
 use Rattle.formulas.proofs.rebuild.Statement.{statement}
 use Rattle.formulas.proofs.rebuild.Tie as tie
 
 returns : tie.Need-returns
 returns c = rebuild-long _ _ (c .if1 .taken)
+
+too-deep-requires : tie.Need-too-deep-requires
+too-deep-requires c κs = search needs
+
+returns-2 : tie.Need-returns-2
+returns-2 c = rebuild-deep _ _ (sym (c .before .too-deep .ensures) ∙ c .if2 .taken)
 
 slice-aggregate-formula : tie.Need-slice-aggregate-formula
 slice-aggregate-formula c = search needs
@@ -26,8 +32,8 @@ enum-known-node c = search needs
 enum-told : tie.Need-enum-told
 enum-told c = search needs
 
-returns-2 : tie.Need-returns-2
-returns-2 c = rebuild-unread _ _ (as-nothing (c .before .before .before .formula .ensures) (c .enum-told .given .1))
+returns-3 : tie.Need-returns-3
+returns-3 c = rebuild-unread _ _ (as-nothing (c .before .before .before .formula .ensures) (c .enum-told .given .1))
 
 slice-aggregate-write-rule : tie.Need-slice-aggregate-write-rule
 slice-aggregate-write-rule c = search needs
@@ -62,10 +68,10 @@ enum-known-m c = search needs
 enum-told-2 : tie.Need-enum-told-2
 enum-told-2 c = search needs
 
-returns-3 : tie.Need-returns-3
-returns-3 c =
+returns-4 : tie.Need-returns-4
+returns-4 c =
     let t = as-root (c .before .before .before .before .before .before .before .before .before .before .before .before .before .before .before .formula .ensures) (c .before .before .before .before .before .before .before .before .before .before .before .before .node .given .1) in
-    rebuild-refused _ _ (t .is) (rebuild-text t (c .before .before .before .before .before .before .before .write-rule .ensures)) (c .before .before .before .reduce .ensures) (c .enum-told2 .given .1) (omega (arith, c .before .before .before .before .before .before .before .before .before .before .before .before .before .before .before .before .before .if1 .left))
+    rebuild-refused _ _ (t .is) (rebuild-text t (c .before .before .before .before .before .before .before .write-rule .ensures)) (c .before .before .before .reduce .ensures) (c .enum-told2 .given .1) (omega (arith, c .before .before .before .before .before .before .before .before .before .before .before .before .before .before .before .before .before .before .before .if1 .left))
 
 array-share-prefix-sheet : tie.Need-array-share-prefix-sheet
 array-share-prefix-sheet c = answers-wrote _ _ (c .before .before .before .before .reduce .ensures) (c .before .m .given .1) .fits
@@ -76,10 +82,10 @@ slice-aggregate-alike c = sym (length-take-le _ _ (answers-wrote _ _ (c .before 
 alike-requires : tie.Need-alike-requires
 alike-requires c κs = search needs
 
-returns-4 : tie.Need-returns-4
-returns-4 c =
+returns-5 : tie.Need-returns-5
+returns-5 c =
     let t = as-root (c .before .before .before .before .before .before .before .before .before .before .before .before .before .before .before .before .before .before .before .formula .ensures) (c .before .before .before .before .before .before .before .before .before .before .before .before .before .before .before .before .node .given .1) in
-    rebuild-apart _ _ (t .is) (rebuild-text t (c .before .before .before .before .before .before .before .before .before .before .before .write-rule .ensures)) (c .before .before .before .before .before .before .before .reduce .ensures) (c .before .before .before .before .m .given .1) (sym (c .before .alike .ensures) ∙ not-true _ (c .if2 .taken))
+    rebuild-apart _ _ (t .is) (rebuild-text t (c .before .before .before .before .before .before .before .before .before .before .before .write-rule .ensures)) (c .before .before .before .before .before .before .before .reduce .ensures) (c .before .before .before .before .m .given .1) (sym (c .before .alike .ensures) ∙ not-true _ (c .if3 .taken))
 
 array-share-prefix-text-2 : tie.Need-array-share-prefix-text-2
 array-share-prefix-text-2 c = search needs
@@ -93,19 +99,21 @@ lend-requires c κs = search needs
 same-length : tie.Need-same-length
 same-length c = search needs
 
-returns-5 : tie.Need-returns-5
-returns-5 c = rebuild-gives (rebuild-same _ (c .before .before .before .before .before .before .before .before .before .before .before .before .reduce .ensures) (c .before .before .before .before .before .before .before .before .before .m .given .1) (sym (c .before .before .before .before .before .before .alike .ensures) ∙ not-false _ (c .before .before .before .before .before .if2 .left))) (c .before .before .lend .ensures)
+returns-6 : tie.Need-returns-6
+returns-6 c = rebuild-gives (rebuild-same _ (c .before .before .before .before .before .before .before .before .before .before .before .before .reduce .ensures) (c .before .before .before .before .before .before .before .before .before .m .given .1) (sym (c .before .before .before .before .before .before .alike .ensures) ∙ not-false _ (c .before .before .before .before .before .if3 .left))) (c .before .before .lend .ensures)
 
 pub rebuild-spec : {M : Type 1} → statement M
 rebuild-spec =
     tie.close
     (tie.spec
     returns
+    too-deep-requires
+    returns-2
     slice-aggregate-formula
     formula-requires
     enum-known-node
     enum-told
-    returns-2
+    returns-3
     slice-aggregate-write-rule
     array-share-prefix-none
     slice-aggregate-write-rule-2
@@ -117,13 +125,13 @@ rebuild-spec =
     reduce-requires
     enum-known-m
     enum-told-2
-    returns-3
+    returns-4
     array-share-prefix-sheet
     slice-aggregate-alike
     alike-requires
-    returns-4
+    returns-5
     array-share-prefix-text-2
     slice-aggregate-lend
     lend-requires
     same-length
-    returns-5)
+    returns-6)

@@ -9,6 +9,10 @@ use lib.IntN.{ℤ, pos, subℕ, _+ℤ_, _-ℤ_}
 use lib.ListN.{drop}
 use Rattle.rules.specs.Accept.{deep}
 
+-- No text that is checked has more bytes: "No formula passes 4,096 bytes."
+abbrev pub textRoom : ℕ
+textRoom = 4096
+
 -- The surplus after one byte more.
 unfoldable pub stepped : ℕ → ℤ → ℤ
 stepped b z = cond (eqb b 40) (z +ℤ pos 1) (cond (eqb b 41) (z -ℤ pos 1) z)

@@ -1,9 +1,10 @@
--- `formula` reads at most 8 quantifiers, and brackets at most 512 deep.
+-- `formula` reads at most 8 quantifiers, and as many clauses as there is room for.
 -- Assumes nothing.
 use mathlib.Core.List.{[]}
 use native.Mathlib.Omega.{arith}
 use denote.Ref.{now}
 use Rattle.syntax.specs.Rule.{readFormula}
+use Rattle.syntax.specs.code.Reading.{clauseRoom}
 use Rattle.syntax.proofs.ArenaLaws.{tidy-none}
 use Rattle.syntax.proofs.FormulaLaws.{knows-none}
 use borrow.Author.Needs.{needs}
@@ -23,7 +24,7 @@ same-length : tie.Need-same-length
 same-length c = search needs
 
 returns : tie.Need-returns
-returns c = c .ended .ensures _ _ (readFormula 512 9 [] (now (c .before .before .before .before .before .before .before .before .before .args .s))) (c .before .before .before .before .read-formula .ensures [] knows-none)
+returns c = c .ended .ensures _ _ (readFormula clauseRoom 9 [] (now (c .before .before .before .before .before .before .before .before .before .args .s))) (c .before .before .before .before .read-formula .ensures [] knows-none)
 
 pub formula-spec : {M : Type 1} → statement M
 formula-spec =

@@ -4,7 +4,7 @@ use mathlib.Core.List.{List}
 use Prim.Native.Nat.{ℕ, _+_, _*_, _/_, _%_}
 use lib.ListN.{getD}
 
--- The operations in groups, each of which begins where the one before it ends. The bases begin at 0.
+-- The operations in groups, each of which begins where the one before it ends; so a row more moves the groups behind it. The bases come first.
 
 -- Calls of one term.
 abbrev pub firstCall : ℕ
@@ -12,52 +12,52 @@ firstCall = 9
 
 -- `OE` and `AO`.
 abbrev pub oeOp : ℕ
-oeOp = 16
+oeOp = firstCall + 7
 
 abbrev pub aoOp : ℕ
-aoOp = 17
+aoOp = oeOp + 1
 
 -- What makes one term of two: calls of two terms, and then `&` and `+`.
 abbrev pub firstPair : ℕ
-firstPair = 18
+firstPair = aoOp + 1
 
 abbrev pub firstJoin : ℕ
-firstJoin = 19
+firstJoin = firstPair + 1
 
 -- Tests: `@`; `=` and `!=`; `={}` and `!={}`.
 abbrev pub memberOp : ℕ
-memberOp = 21
+memberOp = firstJoin + 2
 
 abbrev pub firstAlike : ℕ
-firstAlike = 22
+firstAlike = memberOp + 1
 
 abbrev pub firstEmpty : ℕ
-firstEmpty = 24
+firstEmpty = firstAlike + 2
 
 -- A count compared with a number, and with a count: the six comparisons of each.
 abbrev pub firstNumbered : ℕ
-firstNumbered = 26
+firstNumbered = firstEmpty + 2
 
 abbrev pub firstCounted : ℕ
-firstCounted = 32
+firstCounted = firstNumbered + 6
 
 -- `=>` and `^`.
 abbrev pub whenOp : ℕ
-whenOp = 38
+whenOp = firstCounted + 6
 
 abbrev pub alsoOp : ℕ
-alsoOp = 39
+alsoOp = whenOp + 1
 
 abbrev pub opsEnd : ℕ
-opsEnd = 40
+opsEnd = alsoOp + 1
 
 -- The beginnings of a term that are no operation: a bracket, and the name of a choice.
 
 abbrev pub bracketHead : ℕ
-bracketHead = 40
+bracketHead = opsEnd
 
 abbrev pub choiceHead : ℕ
-choiceHead = 41
+choiceHead = bracketHead + 1
 
 -- A node is one number: its operation, below opRoom, and its left and right index, below indexRoom.
 

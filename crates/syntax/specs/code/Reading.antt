@@ -5,10 +5,10 @@ use mathlib.Core.Bool.{Bool, true, false, cond}
 use mathlib.Core.List.{List, [], _∷_}
 use mathlib.Core.Option.{Option, none, some}
 use Prim.Native.Nat.{ℕ, _+_, _-_, _<_, _≤_}
-use lib.Dec.{eqb, ltb}
+use lib.Dec.{ltb}
 use lib.ListN.{length, getD, drop}
 use Rattle.syntax.specs.Bytes.{Bytes, ascii, Read, fail, got, Reader, _>>=_, _>>_, give, skip, begins, scan, either}
-use Rattle.syntax.specs.Term.{Base, Fn, operations, meet, join, Pair, calls, joins, Term, oe, ao, two, Choices, Head, isBase, isCall, isOE, isAO}
+use Rattle.syntax.specs.Term.{Base, Fn, Fn2, operations, meet, join, Pair, calls, joins, Term, oe, ao, two, Choices, Head, isBase, isCall, isOE, isAO}
 use Rattle.syntax.specs.Term.{isCall2, isBracket, isChoice, Middle, isLess, spellMiddle, parting, middles, known, closed, readTerm}
 use Rattle.syntax.specs.Rule.{Between, isIn, isSign, Cmp, Test, Clause, Rule, last, also, sized, spellCmp, cmps, spellBetween, betweens, readCount, readSecond}
 use Rattle.syntax.specs.code.Arena.{baseOp, fnOp, twoOp, alikeOp, cmpNumber, One, Holds, HoldsAll, HoldsClause, HoldsRule, Low, Tidy}
@@ -20,7 +20,7 @@ use Rattle.syntax.specs.declared.tests.Clauses.{Clauses}
 use Rattle.syntax.specs.declared.tests.Clauses.the-variants.{Nothing as NoClause, Several}
 use Rattle.syntax.specs.declared.Whole.{Whole}
 use Rattle.syntax.specs.declared.Whole.the-variants.{Nothing as NoRoot, Root}
-use Rattle.syntax.specs.code.Nodes.{oeOp, aoOp, firstPair, memberOp, opsEnd, bracketHead, choiceHead, nodeOf, indexRoom}
+use Rattle.syntax.specs.code.Nodes.{oeOp, aoOp, firstPair, firstJoin, memberOp, opsEnd, bracketHead, choiceHead, nodeOf, indexRoom}
 
 -- Names.
 
@@ -170,9 +170,13 @@ unfoldable pub spellJoint : Joint → Bytes
 spellJoint (pair o) = parting o
 spellJoint away = spellMiddle isLess
 
+-- The call of two terms with a number, from firstPair on.
+unfoldable pub fn2At : ℕ → Fn2
+fn2At op = operations
+
 -- Behind a call of two terms the comma, and behind the bracket a sign.
 unfoldable pub joints : ℕ → List Joint
-joints op = cond (eqb op firstPair) (pair (calls operations) ∷ []) (pair (joins meet) ∷ pair (joins join) ∷ away ∷ [])
+joints op = cond (ltb op firstJoin) (pair (calls (fn2At op)) ∷ []) (pair (joins meet) ∷ pair (joins join) ∷ away ∷ [])
 
 unfoldable pub choice : Choices → Reader Term
 choice σ = do a ← known σ; give (oe a)
@@ -189,17 +193,21 @@ paired rd σ op = do a ← rd; j ← scan spellJoint (joints op); ending rd σ a
 
 -- The parts of the readers of tests and of formulas.
 
-unfoldable pub counted : ℕ → Choices → Cmp → Term → Reader Test
-counted n σ o a = do k ← readCount n σ; give (sized o a k)
+unfoldable pub counted : Choices → Cmp → Term → Reader Test
+counted σ o a = do k ← readCount σ; give (sized o a k)
 
-unfoldable pub sizedTest : ℕ → Choices → Reader Test
-sizedTest n σ = do a ← readTerm n σ; skip (ascii "|"); o ← scan spellCmp cmps; counted n σ o a
+unfoldable pub sizedTest : Choices → Reader Test
+sizedTest σ = do a ← readTerm σ; skip (ascii "|"); o ← scan spellCmp cmps; counted σ o a
 
-unfoldable pub relatedTest : ℕ → Choices → Reader Test
-relatedTest n σ = do a ← readTerm n σ; m ← scan spellBetween betweens; readSecond n σ a m
+unfoldable pub relatedTest : Choices → Reader Test
+relatedTest σ = do a ← readTerm σ; m ← scan spellBetween betweens; readSecond σ a m
 
 unfoldable pub chosenSet : Choices → Reader Term
-chosenSet σ = do skip ((49 + length σ) ∷ []); skip (ascii "@"); x ← readTerm 512 σ; skip (ascii "]"); give x
+chosenSet σ = do skip ((49 + length σ) ∷ []); skip (ascii "@"); x ← readTerm σ; skip (ascii "]"); give x
+
+-- How many clauses are read at most: a rule has at most 256 bytes, and a clause one at least.
+abbrev pub clauseRoom : ℕ
+clauseRoom = 256
 
 -- A rule behind the clauses cs.
 unfoldable pub graft : List Clause → Rule → Rule

@@ -1,12 +1,18 @@
--- `middle_at` tries `,` behind `operations(`, and otherwise the signs of a bracket.
+-- `middle_at` tries `,` behind the name of a call of two terms, and otherwise the signs of a bracket.
 -- Assumes nothing.
+use mathlib.Core.Path.{subst}
 use mathlib.Core.List.{[], _∷_}
+use Prim.Native.Nat.{ℕ, _+_}
+use denote.Ref.{now}
+use lib.ListN.{drop}
+use Rattle.syntax.specs.Bytes.{scan}
 use native.Mathlib.Omega.{arith}
-use Rattle.syntax.specs.Term.{operations, meet, join, spellMiddle, calls, joins, parting}
+use Rattle.syntax.specs.Term.{meet, join, spellMiddle, calls, joins, parting}
 use Rattle.syntax.specs.code.Arena.{twoOp}
-use Rattle.syntax.specs.code.Reading.{pair, away, jointOp, spellJoint}
+use Rattle.syntax.specs.code.Reading.{Named, pair, away, jointOp, spellJoint, fn2At, joints}
+use Rattle.syntax.specs.declared.names.Spelled.the-variants.{Name}
 use Rattle.syntax.proofs.NameLaws.{from-these, past, here, nowhere}
-use Rattle.syntax.proofs.ReadingLaws.{joints-comma, joints-sign}
+use Rattle.syntax.proofs.ReadingLaws.{joints-comma, joints-sign, fn2-number}
 use borrow.Author.Needs.{needs}
 use Rattle.syntax.proofs.names.middle_at.Statement.{statement}
 use Rattle.syntax.proofs.names.middle_at.Tie as tie
@@ -21,12 +27,17 @@ add-t12 : tie.Need-add-t12
 add-t12 c = search needs
 
 returns : tie.Need-returns
-unfolding spellJoint parting jointOp twoOp
-returns c = here (pair (calls operations)) [] (from-these (joints-comma _ (c .before .before .before .if1 .taken)) (c .before .before .before .before .before .pre)) (c .before .stands .ensures) (c .if2 .taken) (omega arith)
+unfolding spellJoint parting
+returns c =
+    let s = now (c .before .before .before .before .before .args .s) in
+    let op = c .before .before .before .before .before .args .op in
+    subst (λ (o : ℕ). Named jointOp s (c .before .before .before .before .before .args .at) (Name o (c .before .before .before .before .before .args .at + 1)) (scan spellJoint (joints op) (drop (c .before .before .before .before .before .args .at) s)))
+    (fn2-number op (c .before .before .before .before .before .pre .1) (c .before .before .before .if1 .taken))
+    (here (pair (calls (fn2At op))) [] (from-these (joints-comma op (c .before .before .before .if1 .taken)) (c .before .before .before .before .before .pre .0)) (c .before .stands .ensures) (c .if2 .taken) (omega arith))
 
 returns-2 : tie.Need-returns-2
 unfolding spellJoint parting
-returns-2 c = nowhere (past (pair (calls operations)) [] (from-these (joints-comma _ (c .before .before .before .if1 .taken)) (c .before .before .before .before .before .pre)) (c .before .stands .ensures) (c .if2 .left))
+returns-2 c = nowhere (past (pair (calls (fn2At _))) [] (from-these (joints-comma _ (c .before .before .before .if1 .taken)) (c .before .before .before .before .before .pre .0)) (c .before .stands .ensures) (c .if2 .left))
 
 slice-aggregate-stands-2 : tie.Need-slice-aggregate-stands-2
 slice-aggregate-stands-2 c = search needs
@@ -39,7 +50,7 @@ add-t16 c = search needs
 
 returns-3 : tie.Need-returns-3
 unfolding spellJoint parting spellMiddle jointOp twoOp
-returns-3 c = here (pair (joins meet)) (pair (joins join) ∷ away ∷ []) (from-these (joints-sign _ (c .before .before .before .if1 .left)) (c .before .before .before .before .before .pre)) (c .before .stands2 .ensures) (c .if3 .taken) (omega arith)
+returns-3 c = here (pair (joins meet)) (pair (joins join) ∷ away ∷ []) (from-these (joints-sign _ (c .before .before .before .if1 .left)) (c .before .before .before .before .before .pre .0)) (c .before .stands2 .ensures) (c .if3 .taken) (omega arith)
 
 slice-aggregate-stands-3 : tie.Need-slice-aggregate-stands-3
 slice-aggregate-stands-3 c = search needs
@@ -53,7 +64,7 @@ add-t20 c = search needs
 returns-4 : tie.Need-returns-4
 unfolding spellJoint parting spellMiddle jointOp twoOp
 returns-4 c =
-    let f = past (pair (joins meet)) (pair (joins join) ∷ away ∷ []) (from-these (joints-sign _ (c .before .before .before .before .before .before .if1 .left)) (c .before .before .before .before .before .before .before .before .pre)) (c .before .before .before .before .stands2 .ensures) (c .before .before .before .if3 .left) in
+    let f = past (pair (joins meet)) (pair (joins join) ∷ away ∷ []) (from-these (joints-sign _ (c .before .before .before .before .before .before .if1 .left)) (c .before .before .before .before .before .before .before .before .pre .0)) (c .before .before .before .before .stands2 .ensures) (c .before .before .before .if3 .left) in
     here (pair (joins join)) (away ∷ []) f (c .before .stands3 .ensures) (c .if4 .taken) (omega arith)
 
 slice-aggregate-stands-4 : tie.Need-slice-aggregate-stands-4
@@ -68,14 +79,14 @@ add-t24 c = search needs
 returns-5 : tie.Need-returns-5
 unfolding spellJoint parting spellMiddle jointOp
 returns-5 c =
-    let f = past (pair (joins meet)) (pair (joins join) ∷ away ∷ []) (from-these (joints-sign _ (c .before .before .before .before .before .before .before .before .before .if1 .left)) (c .before .before .before .before .before .before .before .before .before .before .before .pre)) (c .before .before .before .before .before .before .before .stands2 .ensures) (c .before .before .before .before .before .before .if3 .left) in
+    let f = past (pair (joins meet)) (pair (joins join) ∷ away ∷ []) (from-these (joints-sign _ (c .before .before .before .before .before .before .before .before .before .if1 .left)) (c .before .before .before .before .before .before .before .before .before .before .before .pre .0)) (c .before .before .before .before .before .before .before .stands2 .ensures) (c .before .before .before .before .before .before .if3 .left) in
     let f′ = past (pair (joins join)) (away ∷ []) f (c .before .before .before .before .stands3 .ensures) (c .before .before .before .if4 .left) in
     here away [] f′ (c .before .stands4 .ensures) (c .if5 .taken) (omega arith)
 
 returns-6 : tie.Need-returns-6
 unfolding spellJoint parting spellMiddle
 returns-6 c =
-    let f = past (pair (joins meet)) (pair (joins join) ∷ away ∷ []) (from-these (joints-sign _ (c .before .before .before .before .before .before .before .before .before .if1 .left)) (c .before .before .before .before .before .before .before .before .before .before .before .pre)) (c .before .before .before .before .before .before .before .stands2 .ensures) (c .before .before .before .before .before .before .if3 .left) in
+    let f = past (pair (joins meet)) (pair (joins join) ∷ away ∷ []) (from-these (joints-sign _ (c .before .before .before .before .before .before .before .before .before .if1 .left)) (c .before .before .before .before .before .before .before .before .before .before .before .pre .0)) (c .before .before .before .before .before .before .before .stands2 .ensures) (c .before .before .before .before .before .before .if3 .left) in
     let f′ = past (pair (joins join)) (away ∷ []) f (c .before .before .before .before .stands3 .ensures) (c .before .before .before .if4 .left) in
     nowhere (past away [] f′ (c .before .stands4 .ensures) (c .if5 .left))
 

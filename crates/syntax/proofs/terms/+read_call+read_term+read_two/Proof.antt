@@ -1,4 +1,4 @@
--- The reader of terms meets its contract: each way out is one law of ReadingLaws. The measure is twice what is left, and one more in brackets.
+-- The reader of terms meets its contract: each way out is one law of ReadingLaws. The measure is twice the number of bytes left, and one more in brackets.
 -- Assumes nothing.
 use borrow.Author.Needs.{needs}
 use borrow.Author.Tests.{not-true, not-false}
@@ -9,9 +9,10 @@ use Rattle.syntax.specs.code.Reading.{noThing}
 use Rattle.syntax.proofs.ArenaLaws.{stays-refl, knows-later}
 use Rattle.syntax.proofs.NameLaws.{hit, miss, as-unknown, as-name}
 use Rattle.syntax.proofs.ReadingLaws.{as-none, as-some, agree-from, ready-at, ready-on, fresh-leaf, fresh-on, fresh-pair, leaf-found}
-use Rattle.syntax.proofs.ReadingLaws.{read-zero, read-unknown, read-one, read-pair, read-known, closed-none, closed-lost, call-found}
+use Rattle.syntax.proofs.ReadingLaws.{read-unknown, read-one, read-pair, read-known, closed-none, closed-lost, call-found}
 use Rattle.syntax.proofs.ReadingLaws.{paired-none, two-lost, away-found, two-none, two-open, two-small, two-found}
-use Prim.Native.Nat.{ℕ, _+_, _*_, _<_}
+use Prim.Native.Nat.{ℕ, _+_, _-_, _*_, _<_}
+use lib.ListN.{length}
 use borrow.Fn.Kinds.{In}
 use borrow.Fn.PlainCycle.{Measures, is, falls, and}
 use Rattle.syntax.proofs.terms.read_call.Reads as read-call
@@ -33,13 +34,13 @@ use Rattle.syntax.proofs.terms.+read_call+read_term+read_two.{statement
 use Rattle.syntax.proofs.terms.+read_call+read_term+read_two.Tie.{close}
 
 abbrev μ-read-call : Measures 3 read-call-kinds.ps ℕ
-μ-read-call κs a = 2 * a .1 .1 .1 .1 .1 .0 + 1
+μ-read-call κs a = 2 * (length (a .0 .now) - a .1 .0) + 1
 
 abbrev μ-read-term : Measures 3 read-term-kinds.ps ℕ
-μ-read-term κs a = 2 * a .1 .1 .1 .1 .1 .0
+μ-read-term κs a = 2 * (length (a .0 .now) - a .1 .0)
 
 abbrev μ-read-two : Measures 3 read-two-kinds.ps ℕ
-μ-read-two κs a = 2 * a .1 .1 .1 .1 .1 .0 + 1
+μ-read-two κs a = 2 * (length (a .0 .now) - a .1 .0) + 1
 
 abbrev read-call-at : ℕ → In 3 read-call-kinds.ps
 read-call-at t = and 3 read-call-kinds.ps (is 3 read-call-kinds.ps μ-read-call t) read-call.Pre
@@ -109,13 +110,10 @@ read-call-returns-3 : (t : ℕ) → read-call-lts.Need-returns-3 (read-term-belo
 read-call-returns-3 t c = λ σ make w k.
     let f = as-some (c .before .before .before .before .before .before .before .before .before .before .before .before .read-term .ensures σ w) (c .before .before .before .before .before .before .before .before .p .given .1) in
     let h = hit (c .before .before .before .before .before .stands .ensures) (not-false _ (c .before .before .before .before .if1 .left)) (f .end) in
-    call-found (readTerm (c .before .before .before .before .before .before .before .before .before .before .before .before .before .before .before .before .before .args .left) σ) make k (c .before .before .before .before .before .before .before .before .before .before .before .before .before .before .before .before .before .pre .1 .1 .0) (omega (arith, c .before .before .before .before .before .before .before .before .before .before .before .before .before .before .before .before .before .pre .1 .1 .1)) f h (c .before .before .intern .ensures)
-
-read-term-returns : (t : ℕ) → read-term-lts.Need-returns (head-at-reads.Asked, head-at-reads.Learnt, intern-reads.Asked, intern-reads.Learnt, read-call-below t, read-call.Post, read-two-below t, read-two.Post, read-choice-reads.Asked, read-choice-reads.Learnt) (read-term-at t) read-term.Post
-read-term-returns t c = λ σ w. noThing (read-zero (c .before .before .before .before .args .left) σ _ (c .if1 .taken))
+    call-found (readTerm σ) make k (c .before .before .before .before .before .before .before .before .before .before .before .before .before .before .before .before .before .pre .1 .1 .0) (omega (arith, c .before .before .before .before .before .before .before .before .before .before .before .before .before .before .before .before .before .pre .1 .1 .1)) f h (c .before .before .intern .ensures)
 
 read-term-head-at-requires : (t : ℕ) → read-term-lts.Need-head-at-requires (head-at-reads.Asked, head-at-reads.Learnt, intern-reads.Asked, intern-reads.Learnt, read-call-below t, read-call.Post, read-two-below t, read-two.Post, read-choice-reads.Asked, read-choice-reads.Learnt) (read-term-at t) read-term.Post
-read-term-head-at-requires t c κs = c .before .before .before .before .pre .1 .within
+read-term-head-at-requires t c κs = c .before .before .before .pre .1 .within
 
 read-term-enum-known-h : (t : ℕ) → read-term-lts.Need-enum-known-h (head-at-reads.Asked, head-at-reads.Learnt, intern-reads.Asked, intern-reads.Learnt, read-call-below t, read-call.Post, read-two-below t, read-two.Post, read-choice-reads.Asked, read-choice-reads.Learnt) (read-term-at t) read-term.Post
 read-term-enum-known-h t c = search needs
@@ -123,68 +121,62 @@ read-term-enum-known-h t c = search needs
 read-term-enum-told : (t : ℕ) → read-term-lts.Need-enum-told (head-at-reads.Asked, head-at-reads.Learnt, intern-reads.Asked, intern-reads.Learnt, read-call-below t, read-call.Post, read-two-below t, read-two.Post, read-choice-reads.Asked, read-choice-reads.Learnt) (read-term-at t) read-term.Post
 read-term-enum-told t c = search needs
 
-read-term-returns-2 : (t : ℕ) → read-term-lts.Need-returns-2 (head-at-reads.Asked, head-at-reads.Learnt, intern-reads.Asked, intern-reads.Learnt, read-call-below t, read-call.Post, read-two-below t, read-two.Post, read-choice-reads.Asked, read-choice-reads.Learnt) (read-term-at t) read-term.Post
-read-term-returns-2 t c = λ σ w. noThing (read-unknown (c .before .before .before .before .before .before .before .args .left) σ (now (c .before .before .before .before .before .before .before .args .s)) (c .before .before .before .before .before .before .before .args .at) (c .before .before .before .if1 .left) (as-unknown (c .before .before .head-at .ensures) (c .enum-told .given .1)))
+read-term-returns : (t : ℕ) → read-term-lts.Need-returns (head-at-reads.Asked, head-at-reads.Learnt, intern-reads.Asked, intern-reads.Learnt, read-call-below t, read-call.Post, read-two-below t, read-two.Post, read-choice-reads.Asked, read-choice-reads.Learnt) (read-term-at t) read-term.Post
+read-term-returns t c = λ σ w. noThing (read-unknown σ (now (c .before .before .before .before .before .before .args .s)) (c .before .before .before .before .before .before .args .at) (as-unknown (c .before .before .head-at .ensures) (c .enum-told .given .1)))
 
 read-term-intern-requires : (t : ℕ) → read-term-lts.Need-intern-requires (head-at-reads.Asked, head-at-reads.Learnt, intern-reads.Asked, intern-reads.Learnt, read-call-below t, read-call.Post, read-two-below t, read-two.Post, read-choice-reads.Asked, read-choice-reads.Learnt) (read-term-at t) read-term.Post
 read-term-intern-requires t c κs =
     let x = as-name (c .before .before .before .before .before .head-at .ensures) (c .before .before .before .h .given .1) in
-    fresh-leaf (omega (arith, c .before .before .before .before .before .before .before .before .before .before .pre .1 .room, c .before .before .before .before .before .before .before .before .before .before .pre .1 .count, x .more, x .fits)) (c .before .before .before .before .before .before .before .before .before .before .pre .1 .tidy) (c .before .if2 .taken)
+    fresh-leaf (omega (arith, c .before .before .before .before .before .before .before .before .before .pre .1 .room, c .before .before .before .before .before .before .before .before .before .pre .1 .count, x .more, x .fits)) (c .before .before .before .before .before .before .before .before .before .pre .1 .tidy) (c .before .if1 .taken)
 
 read-term-same-length : (t : ℕ) → read-term-lts.Need-same-length (head-at-reads.Asked, head-at-reads.Learnt, intern-reads.Asked, intern-reads.Learnt, read-call-below t, read-call.Post, read-two-below t, read-two.Post, read-choice-reads.Asked, read-choice-reads.Learnt) (read-term-at t) read-term.Post
 read-term-same-length t c = search needs
 
-read-term-returns-3 : (t : ℕ) → read-term-lts.Need-returns-3 (head-at-reads.Asked, head-at-reads.Learnt, intern-reads.Asked, intern-reads.Learnt, read-call-below t, read-call.Post, read-two-below t, read-two.Post, read-choice-reads.Asked, read-choice-reads.Learnt) (read-term-at t) read-term.Post
-read-term-returns-3 t c = λ σ w. leaf-found (c .before .before .before .before .before .before .before .before .before .before .before .before .before .args .left) σ (c .before .before .before .before .before .before .before .before .before .if1 .left) (as-name (c .before .before .before .before .before .before .before .before .head-at .ensures) (c .before .before .before .before .before .before .h .given .1)) (c .before .before .before .before .if2 .taken) (c .before .before .intern .ensures)
-
-read-term-sub-read-call : (t : ℕ) → read-term-lts.Need-sub-read-call (head-at-reads.Asked, head-at-reads.Learnt, intern-reads.Asked, intern-reads.Learnt, read-call-below t, read-call.Post, read-two-below t, read-two.Post, read-choice-reads.Asked, read-choice-reads.Learnt) (read-term-at t) read-term.Post
-read-term-sub-read-call t c = search needs
+read-term-returns-2 : (t : ℕ) → read-term-lts.Need-returns-2 (head-at-reads.Asked, head-at-reads.Learnt, intern-reads.Asked, intern-reads.Learnt, read-call-below t, read-call.Post, read-two-below t, read-two.Post, read-choice-reads.Asked, read-choice-reads.Learnt) (read-term-at t) read-term.Post
+read-term-returns-2 t c = λ σ w. leaf-found σ (as-name (c .before .before .before .before .before .before .before .before .head-at .ensures) (c .before .before .before .before .before .before .h .given .1)) (c .before .before .before .before .if1 .taken) (c .before .before .intern .ensures)
 
 read-term-read-call-requires : (t : ℕ) → read-term-lts.Need-read-call-requires (head-at-reads.Asked, head-at-reads.Learnt, intern-reads.Asked, intern-reads.Learnt, read-call-below t, read-call.Post, read-two-below t, read-two.Post, read-choice-reads.Asked, read-choice-reads.Learnt) (read-term-at t) read-term.Post
 read-term-read-call-requires t c κs =
     let x = as-name (c .before .before .before .before .before .before .head-at .ensures) (c .before .before .before .before .h .given .1) in
-    (omega (arith, c .before .before .before .before .before .before .before .before .before .before .before .pre), (ready-at (c .before .before .before .before .before .before .before .before .before .before .before .pre .1) (omega (arith, x .more)) (x .fits), (c .before .before .if2 .left, c .before .if3 .taken)))
+    (omega (arith, c .before .before .before .before .before .before .before .before .before .before .pre, x .more, x .fits), (ready-at (c .before .before .before .before .before .before .before .before .before .before .pre .1) (omega (arith, x .more)) (x .fits), (c .before .before .if1 .left, c .before .if2 .taken)))
 
 read-term-same-length-2 : (t : ℕ) → read-term-lts.Need-same-length-2 (head-at-reads.Asked, head-at-reads.Learnt, intern-reads.Asked, intern-reads.Learnt, read-call-below t, read-call.Post, read-two-below t, read-two.Post, read-choice-reads.Asked, read-choice-reads.Learnt) (read-term-at t) read-term.Post
 read-term-same-length-2 t c = search needs
 
-read-term-returns-4 : (t : ℕ) → read-term-lts.Need-returns-4 (head-at-reads.Asked, head-at-reads.Learnt, intern-reads.Asked, intern-reads.Learnt, read-call-below t, read-call.Post, read-two-below t, read-two.Post, read-choice-reads.Asked, read-choice-reads.Learnt) (read-term-at t) read-term.Post
-read-term-returns-4 t c = λ σ w.
+read-term-returns-3 : (t : ℕ) → read-term-lts.Need-returns-3 (head-at-reads.Asked, head-at-reads.Learnt, intern-reads.Asked, intern-reads.Learnt, read-call-below t, read-call.Post, read-two-below t, read-two.Post, read-choice-reads.Asked, read-choice-reads.Learnt) (read-term-at t) read-term.Post
+read-term-returns-3 t c = λ σ w.
     let x = as-name (c .before .before .before .before .before .before .before .before .before .head-at .ensures) (c .before .before .before .before .before .before .before .h .given .1) in
-    let y = read-one (c .before .before .before .before .before .before .before .before .before .before .before .before .before .before .args .left) σ _ _ (c .before .before .before .before .before .before .before .before .before .before .if1 .left) x (c .before .before .before .before .before .if2 .left) (c .before .before .before .before .if3 .taken) in
+    let y = read-one σ _ _ x (c .before .before .before .before .before .if1 .left) (c .before .before .before .before .if2 .taken) in
     rw (y .is) (agree-from (stays-refl _) (omega (arith, x .more)) (c .before .before .read-call .ensures σ (y .make) w (y .makes)))
-
-read-term-sub-read-two : (t : ℕ) → read-term-lts.Need-sub-read-two (head-at-reads.Asked, head-at-reads.Learnt, intern-reads.Asked, intern-reads.Learnt, read-call-below t, read-call.Post, read-two-below t, read-two.Post, read-choice-reads.Asked, read-choice-reads.Learnt) (read-term-at t) read-term.Post
-read-term-sub-read-two t c = search needs
 
 read-term-read-two-requires : (t : ℕ) → read-term-lts.Need-read-two-requires (head-at-reads.Asked, head-at-reads.Learnt, intern-reads.Asked, intern-reads.Learnt, read-call-below t, read-call.Post, read-two-below t, read-two.Post, read-choice-reads.Asked, read-choice-reads.Learnt) (read-term-at t) read-term.Post
 read-term-read-two-requires t c κs =
     let x = as-name (c .before .before .before .before .before .before .before .head-at .ensures) (c .before .before .before .before .before .h .given .1) in
-    (omega (arith, c .before .before .before .before .before .before .before .before .before .before .before .before .pre), ready-at (c .before .before .before .before .before .before .before .before .before .before .before .before .pre .1) (omega (arith, x .more)) (x .fits))
+    (omega (arith, c .before .before .before .before .before .before .before .before .before .before .before .pre, x .more, x .fits), (ready-at (c .before .before .before .before .before .before .before .before .before .before .before .pre .1) (omega (arith, x .more)) (x .fits), c .before .before .if2 .left))
 
 read-term-same-length-3 : (t : ℕ) → read-term-lts.Need-same-length-3 (head-at-reads.Asked, head-at-reads.Learnt, intern-reads.Asked, intern-reads.Learnt, read-call-below t, read-call.Post, read-two-below t, read-two.Post, read-choice-reads.Asked, read-choice-reads.Learnt) (read-term-at t) read-term.Post
 read-term-same-length-3 t c = search needs
 
-read-term-returns-5 : (t : ℕ) → read-term-lts.Need-returns-5 (head-at-reads.Asked, head-at-reads.Learnt, intern-reads.Asked, intern-reads.Learnt, read-call-below t, read-call.Post, read-two-below t, read-two.Post, read-choice-reads.Asked, read-choice-reads.Learnt) (read-term-at t) read-term.Post
-read-term-returns-5 t c = λ σ w.
+read-term-returns-4 : (t : ℕ) → read-term-lts.Need-returns-4 (head-at-reads.Asked, head-at-reads.Learnt, intern-reads.Asked, intern-reads.Learnt, read-call-below t, read-call.Post, read-two-below t, read-two.Post, read-choice-reads.Asked, read-choice-reads.Learnt) (read-term-at t) read-term.Post
+read-term-returns-4 t c = λ σ w.
     let x = as-name (c .before .before .before .before .before .before .before .before .before .before .head-at .ensures) (c .before .before .before .before .before .before .before .before .h .given .1) in
-    rw (read-pair (c .before .before .before .before .before .before .before .before .before .before .before .before .before .before .before .args .left) σ _ _ (c .before .before .before .before .before .before .before .before .before .before .before .if1 .left) x (c .before .before .before .before .before .if3 .left) (c .before .before .before .before .if4 .taken)) (agree-from (stays-refl _) (omega (arith, x .more)) (c .before .before .read-two .ensures σ w))
+    rw (read-pair σ _ _ x (c .before .before .before .before .before .if2 .left) (c .before .before .before .before .if3 .taken)) (agree-from (stays-refl _) (omega (arith, x .more)) (c .before .before .read-two .ensures σ w))
 
 read-term-read-choice-requires : (t : ℕ) → read-term-lts.Need-read-choice-requires (head-at-reads.Asked, head-at-reads.Learnt, intern-reads.Asked, intern-reads.Learnt, read-call-below t, read-call.Post, read-two-below t, read-two.Post, read-choice-reads.Asked, read-choice-reads.Learnt) (read-term-at t) read-term.Post
 read-term-read-choice-requires t c κs =
     let x = as-name (c .before .before .before .before .before .before .before .head-at .ensures) (c .before .before .before .before .before .h .given .1) in
-    ready-at (c .before .before .before .before .before .before .before .before .before .before .before .before .pre .1) (omega (arith, x .more)) (x .fits)
+    ready-at (c .before .before .before .before .before .before .before .before .before .before .before .pre .1) (omega (arith, x .more)) (x .fits)
 
 read-term-same-length-4 : (t : ℕ) → read-term-lts.Need-same-length-4 (head-at-reads.Asked, head-at-reads.Learnt, intern-reads.Asked, intern-reads.Learnt, read-call-below t, read-call.Post, read-two-below t, read-two.Post, read-choice-reads.Asked, read-choice-reads.Learnt) (read-term-at t) read-term.Post
 read-term-same-length-4 t c = search needs
 
-read-term-returns-6 : (t : ℕ) → read-term-lts.Need-returns-6 (head-at-reads.Asked, head-at-reads.Learnt, intern-reads.Asked, intern-reads.Learnt, read-call-below t, read-call.Post, read-two-below t, read-two.Post, read-choice-reads.Asked, read-choice-reads.Learnt) (read-term-at t) read-term.Post
-read-term-returns-6 t c = λ σ w.
+read-term-returns-5 : (t : ℕ) → read-term-lts.Need-returns-5 (head-at-reads.Asked, head-at-reads.Learnt, intern-reads.Asked, intern-reads.Learnt, read-call-below t, read-call.Post, read-two-below t, read-two.Post, read-choice-reads.Asked, read-choice-reads.Learnt) (read-term-at t) read-term.Post
+read-term-returns-5 t c = λ σ w.
     let x = as-name (c .before .before .before .before .before .before .before .before .before .before .head-at .ensures) (c .before .before .before .before .before .before .before .before .h .given .1) in
-    rw (read-known (c .before .before .before .before .before .before .before .before .before .before .before .before .before .before .before .args .left) σ _ _ (c .before .before .before .before .before .before .before .before .before .before .before .if1 .left) x (c .before .before .before .before .if4 .left)) (agree-from (stays-refl _) (omega (arith, x .more)) (c .before .before .read-choice .ensures σ w))
+    rw (read-known σ _ _ x (c .before .before .before .before .if3 .left)) (agree-from (stays-refl _) (omega (arith, x .more)) (c .before .before .read-choice .ensures σ w))
 
 read-two-read-term-requires : (t : ℕ) → read-two-lts.Need-read-term-requires (read-term-below t, read-term.Post, middle-at-reads.Asked, middle-at-reads.Learnt, read-less-reads.Asked, read-less-reads.Learnt, stands-reads.Asked, stands-reads.Learnt, intern-reads.Asked, intern-reads.Learnt) (read-two-at t) read-two.Post
-read-two-read-term-requires t c κs = (omega (arith, c .before .before .before .before .pre), c .before .before .before .before .pre .1)
+read-two-read-term-requires t c κs = (omega (arith, c .before .before .before .before .pre), c .before .before .before .before .pre .1 .0)
 
 read-two-enum-known-p : (t : ℕ) → read-two-lts.Need-enum-known-p (read-term-below t, read-term.Post, middle-at-reads.Asked, middle-at-reads.Learnt, read-less-reads.Asked, read-less-reads.Learnt, stands-reads.Asked, stands-reads.Learnt, intern-reads.Asked, intern-reads.Learnt) (read-two-at t) read-two.Post
 read-two-enum-known-p t c = search needs
@@ -199,7 +191,7 @@ read-two-returns : (t : ℕ) → read-two-lts.Need-returns (read-term-below t, r
 read-two-returns t c = λ σ w. noThing (paired-none _ σ _ _ (as-none (c .before .before .before .before .read-term .ensures σ w) (c .enum-told .given .1)))
 
 read-two-middle-at-requires : (t : ℕ) → read-two-lts.Need-middle-at-requires (read-term-below t, read-term.Post, middle-at-reads.Asked, middle-at-reads.Learnt, read-less-reads.Asked, read-less-reads.Learnt, stands-reads.Asked, stands-reads.Learnt, intern-reads.Asked, intern-reads.Learnt) (read-two-at t) read-two.Post
-read-two-middle-at-requires t c κs = as-some (c .before .before .before .before .before .read-term .ensures (c .before .before .before .before .before .before .before .before .before .before .pre .1 .choices) (c .before .before .before .before .before .before .before .before .before .before .pre .1 .knows)) (c .before .p .given .1) .end
+read-two-middle-at-requires t c κs = (as-some (c .before .before .before .before .before .read-term .ensures (c .before .before .before .before .before .before .before .before .before .before .pre .1 .0 .choices) (c .before .before .before .before .before .before .before .before .before .before .pre .1 .0 .knows)) (c .before .p .given .1) .end, c .before .before .before .before .before .before .before .before .before .before .pre .1 .1)
 
 read-two-enum-known-h : (t : ℕ) → read-two-lts.Need-enum-known-h (read-term-below t, read-term.Post, middle-at-reads.Asked, middle-at-reads.Learnt, read-less-reads.Asked, read-less-reads.Learnt, stands-reads.Asked, stands-reads.Learnt, intern-reads.Asked, intern-reads.Learnt) (read-two-at t) read-two.Post
 read-two-enum-known-h t c = search needs
@@ -213,13 +205,13 @@ read-two-same-length-2 t c = search needs
 read-two-returns-2 : (t : ℕ) → read-two-lts.Need-returns-2 (read-term-below t, read-term.Post, middle-at-reads.Asked, middle-at-reads.Learnt, read-less-reads.Asked, read-less-reads.Learnt, stands-reads.Asked, stands-reads.Learnt, intern-reads.Asked, intern-reads.Learnt) (read-two-at t) read-two.Post
 read-two-returns-2 t c = λ σ w.
     let f = as-some (c .before .before .before .before .before .before .before .before .read-term .ensures σ w) (c .before .before .before .before .p .given .1) in
-    noThing (two-lost (readTerm (c .before .before .before .before .before .before .before .before .before .before .before .before .before .args .left) σ) σ (c .before .before .before .before .before .before .before .before .before .before .before .before .before .args .op) f (as-unknown (c .before .before .middle-at .ensures) (c .enum-told2 .given .1)))
+    noThing (two-lost (readTerm σ) σ (c .before .before .before .before .before .before .before .before .before .before .before .before .before .args .op) f (as-unknown (c .before .before .middle-at .ensures) (c .enum-told2 .given .1)))
 
 read-two-read-less-requires : (t : ℕ) → read-two-lts.Need-read-less-requires (read-term-below t, read-term.Post, middle-at-reads.Asked, middle-at-reads.Learnt, read-less-reads.Asked, read-less-reads.Learnt, stands-reads.Asked, stands-reads.Learnt, intern-reads.Asked, intern-reads.Learnt) (read-two-at t) read-two.Post
 read-two-read-less-requires t c κs =
-    let f = as-some (c .before .before .before .before .before .before .before .before .before .before .before .read-term .ensures (c .before .before .before .before .before .before .before .before .before .before .before .before .before .before .before .before .pre .1 .choices) (c .before .before .before .before .before .before .before .before .before .before .before .before .before .before .before .before .pre .1 .knows)) (c .before .before .before .before .before .before .before .p .given .1) in
+    let f = as-some (c .before .before .before .before .before .before .before .before .before .before .before .read-term .ensures (c .before .before .before .before .before .before .before .before .before .before .before .before .before .before .before .before .pre .1 .0 .choices) (c .before .before .before .before .before .before .before .before .before .before .before .before .before .before .before .before .pre .1 .0 .knows)) (c .before .before .before .before .before .before .before .p .given .1) in
     let x = as-name (c .before .before .before .before .before .middle-at .ensures) (c .before .before .before .h .given .1) in
-    (ready-on (c .before .before .before .before .before .before .before .before .before .before .before .before .before .before .before .before .pre .1) f (omega (arith, x .more)) (x .fits), f .within)
+    (ready-on (c .before .before .before .before .before .before .before .before .before .before .before .before .before .before .before .before .pre .1 .0) f (omega (arith, x .more)) (x .fits), f .within)
 
 read-two-same-length-3 : (t : ℕ) → read-two-lts.Need-same-length-3 (read-term-below t, read-term.Post, middle-at-reads.Asked, middle-at-reads.Learnt, read-less-reads.Asked, read-less-reads.Learnt, stands-reads.Asked, stands-reads.Learnt, intern-reads.Asked, intern-reads.Learnt) (read-two-at t) read-two.Post
 read-two-same-length-3 t c = search needs
@@ -228,13 +220,13 @@ read-two-returns-3 : (t : ℕ) → read-two-lts.Need-returns-3 (read-term-below 
 read-two-returns-3 t c = λ σ w.
     let f = as-some (c .before .before .before .before .before .before .before .before .before .before .before .before .before .before .read-term .ensures σ w) (c .before .before .before .before .before .before .before .before .before .before .p .given .1) in
     let x = as-name (c .before .before .before .before .before .before .before .before .middle-at .ensures) (c .before .before .before .before .before .before .h .given .1) in
-    away-found (readTerm (c .before .before .before .before .before .before .before .before .before .before .before .before .before .before .before .before .before .before .before .args .left) σ) σ (c .before .before .before .before .before .before .before .before .before .before .before .before .before .before .before .before .before .before .before .args .op) f x (c .before .before .before .before .if1 .taken) (c .before .before .read-less .ensures σ (f .thing) (knows-later (f .stays) w) (f .holds))
+    away-found (readTerm σ) σ (c .before .before .before .before .before .before .before .before .before .before .before .before .before .before .before .before .before .before .before .args .op) f x (c .before .before .before .before .if1 .taken) (c .before .before .read-less .ensures σ (f .thing) (knows-later (f .stays) w) (f .holds))
 
 read-two-read-term-requires-2 : (t : ℕ) → read-two-lts.Need-read-term-requires-2 (read-term-below t, read-term.Post, middle-at-reads.Asked, middle-at-reads.Learnt, read-less-reads.Asked, read-less-reads.Learnt, stands-reads.Asked, stands-reads.Learnt, intern-reads.Asked, intern-reads.Learnt) (read-two-at t) read-two.Post
 read-two-read-term-requires-2 t c κs =
-    let f = as-some (c .before .before .before .before .before .before .before .before .before .before .before .read-term .ensures (c .before .before .before .before .before .before .before .before .before .before .before .before .before .before .before .before .pre .1 .choices) (c .before .before .before .before .before .before .before .before .before .before .before .before .before .before .before .before .pre .1 .knows)) (c .before .before .before .before .before .before .before .p .given .1) in
+    let f = as-some (c .before .before .before .before .before .before .before .before .before .before .before .read-term .ensures (c .before .before .before .before .before .before .before .before .before .before .before .before .before .before .before .before .pre .1 .0 .choices) (c .before .before .before .before .before .before .before .before .before .before .before .before .before .before .before .before .pre .1 .0 .knows)) (c .before .before .before .before .before .before .before .p .given .1) in
     let x = as-name (c .before .before .before .before .before .middle-at .ensures) (c .before .before .before .h .given .1) in
-    (omega (arith, c .before .before .before .before .before .before .before .before .before .before .before .before .before .before .before .before .pre), ready-on (c .before .before .before .before .before .before .before .before .before .before .before .before .before .before .before .before .pre .1) f (omega (arith, x .more)) (x .fits))
+    (omega (arith, c .before .before .before .before .before .before .before .before .before .before .before .before .before .before .before .before .pre, f .count, f .stays .more, x .more, x .fits), ready-on (c .before .before .before .before .before .before .before .before .before .before .before .before .before .before .before .before .pre .1 .0) f (omega (arith, x .more)) (x .fits))
 
 read-two-enum-known-q : (t : ℕ) → read-two-lts.Need-enum-known-q (read-term-below t, read-term.Post, middle-at-reads.Asked, middle-at-reads.Learnt, read-less-reads.Asked, read-less-reads.Learnt, stands-reads.Asked, stands-reads.Learnt, intern-reads.Asked, intern-reads.Learnt) (read-two-at t) read-two.Post
 read-two-enum-known-q t c = search needs
@@ -249,15 +241,15 @@ read-two-returns-4 : (t : ℕ) → read-two-lts.Need-returns-4 (read-term-below 
 read-two-returns-4 t c = λ σ w.
     let f = as-some (c .before .before .before .before .before .before .before .before .before .before .before .before .before .before .before .before .read-term .ensures σ w) (c .before .before .before .before .before .before .before .before .before .before .before .before .p .given .1) in
     let x = as-name (c .before .before .before .before .before .before .before .before .before .before .middle-at .ensures) (c .before .before .before .before .before .before .before .before .h .given .1) in
-    noThing (two-none (readTerm (c .before .before .before .before .before .before .before .before .before .before .before .before .before .before .before .before .before .before .before .before .before .args .left) σ) σ (c .before .before .before .before .before .before .before .before .before .before .before .before .before .before .before .before .before .before .before .before .before .args .op) f x (c .before .before .before .before .before .before .if1 .left) (as-none (c .before .before .before .before .read-term2 .ensures σ (knows-later (f .stays) w)) (c .enum-told3 .given .1)))
+    noThing (two-none (readTerm σ) σ (c .before .before .before .before .before .before .before .before .before .before .before .before .before .before .before .before .before .before .before .before .before .args .op) f x (c .before .before .before .before .before .before .if1 .left) (as-none (c .before .before .before .before .read-term2 .ensures σ (knows-later (f .stays) w)) (c .enum-told3 .given .1)))
 
 read-two-slice-aggregate-stands : (t : ℕ) → read-two-lts.Need-slice-aggregate-stands (read-term-below t, read-term.Post, middle-at-reads.Asked, middle-at-reads.Learnt, read-less-reads.Asked, read-less-reads.Learnt, stands-reads.Asked, stands-reads.Learnt, intern-reads.Asked, intern-reads.Learnt) (read-two-at t) read-two.Post
 read-two-slice-aggregate-stands t c = search needs
 
 read-two-stands-requires : (t : ℕ) → read-two-lts.Need-stands-requires (read-term-below t, read-term.Post, middle-at-reads.Asked, middle-at-reads.Learnt, read-less-reads.Asked, read-less-reads.Learnt, stands-reads.Asked, stands-reads.Learnt, intern-reads.Asked, intern-reads.Learnt) (read-two-at t) read-two.Post
 read-two-stands-requires t c κs =
-    let f = as-some (c .before .before .before .before .before .before .before .before .before .before .before .before .before .before .before .before .before .before .read-term .ensures (c .before .before .before .before .before .before .before .before .before .before .before .before .before .before .before .before .before .before .before .before .before .before .before .pre .1 .choices) (c .before .before .before .before .before .before .before .before .before .before .before .before .before .before .before .before .before .before .before .before .before .before .before .pre .1 .knows)) (c .before .before .before .before .before .before .before .before .before .before .before .before .before .before .p .given .1) in
-    as-some (c .before .before .before .before .before .before .read-term2 .ensures (c .before .before .before .before .before .before .before .before .before .before .before .before .before .before .before .before .before .before .before .before .before .before .before .pre .1 .choices) (knows-later (f .stays) (c .before .before .before .before .before .before .before .before .before .before .before .before .before .before .before .before .before .before .before .before .before .before .before .pre .1 .knows))) (c .before .before .q .given .1) .end
+    let f = as-some (c .before .before .before .before .before .before .before .before .before .before .before .before .before .before .before .before .before .before .read-term .ensures (c .before .before .before .before .before .before .before .before .before .before .before .before .before .before .before .before .before .before .before .before .before .before .before .pre .1 .0 .choices) (c .before .before .before .before .before .before .before .before .before .before .before .before .before .before .before .before .before .before .before .before .before .before .before .pre .1 .0 .knows)) (c .before .before .before .before .before .before .before .before .before .before .before .before .before .before .p .given .1) in
+    as-some (c .before .before .before .before .before .before .read-term2 .ensures (c .before .before .before .before .before .before .before .before .before .before .before .before .before .before .before .before .before .before .before .before .before .before .before .pre .1 .0 .choices) (knows-later (f .stays) (c .before .before .before .before .before .before .before .before .before .before .before .before .before .before .before .before .before .before .before .before .before .before .before .pre .1 .0 .knows))) (c .before .before .q .given .1) .end
 
 read-two-same-length-5 : (t : ℕ) → read-two-lts.Need-same-length-5 (read-term-below t, read-term.Post, middle-at-reads.Asked, middle-at-reads.Learnt, read-less-reads.Asked, read-less-reads.Learnt, stands-reads.Asked, stands-reads.Learnt, intern-reads.Asked, intern-reads.Learnt) (read-two-at t) read-two.Post
 read-two-same-length-5 t c = search needs
@@ -267,20 +259,20 @@ read-two-returns-5 t c = λ σ w.
     let f = as-some (c .before .before .before .before .before .before .before .before .before .before .before .before .before .before .before .before .before .before .before .before .read-term .ensures σ w) (c .before .before .before .before .before .before .before .before .before .before .before .before .before .before .before .before .p .given .1) in
     let x = as-name (c .before .before .before .before .before .before .before .before .before .before .before .before .before .before .middle-at .ensures) (c .before .before .before .before .before .before .before .before .before .before .before .before .h .given .1) in
     let f′ = as-some (c .before .before .before .before .before .before .before .before .read-term2 .ensures σ (knows-later (f .stays) w)) (c .before .before .before .before .q .given .1) in
-    noThing (two-open (readTerm (c .before .before .before .before .before .before .before .before .before .before .before .before .before .before .before .before .before .before .before .before .before .before .before .before .before .args .left) σ) σ (c .before .before .before .before .before .before .before .before .before .before .before .before .before .before .before .before .before .before .before .before .before .before .before .before .before .args .op) f x (c .before .before .before .before .before .before .before .before .before .before .if1 .left) f′ (miss (c .before .stands .ensures) (not-true _ (c .if2 .taken))))
+    noThing (two-open (readTerm σ) σ (c .before .before .before .before .before .before .before .before .before .before .before .before .before .before .before .before .before .before .before .before .before .before .before .before .before .args .op) f x (c .before .before .before .before .before .before .before .before .before .before .if1 .left) f′ (miss (c .before .stands .ensures) (not-true _ (c .if2 .taken))))
 
 read-two-add-intern : (t : ℕ) → read-two-lts.Need-add-intern (read-term-below t, read-term.Post, middle-at-reads.Asked, middle-at-reads.Learnt, read-less-reads.Asked, read-less-reads.Learnt, stands-reads.Asked, stands-reads.Learnt, intern-reads.Asked, intern-reads.Learnt) (read-two-at t) read-two.Post
 read-two-add-intern t c =
-    let f = as-some (c .before .before .before .before .before .before .before .before .before .before .before .before .before .before .before .before .before .before .before .before .before .read-term .ensures (c .before .before .before .before .before .before .before .before .before .before .before .before .before .before .before .before .before .before .before .before .before .before .before .before .before .before .pre .1 .choices) (c .before .before .before .before .before .before .before .before .before .before .before .before .before .before .before .before .before .before .before .before .before .before .before .before .before .before .pre .1 .knows)) (c .before .before .before .before .before .before .before .before .before .before .before .before .before .before .before .before .before .p .given .1) in
-    let f′ = as-some (c .before .before .before .before .before .before .before .before .before .read-term2 .ensures (c .before .before .before .before .before .before .before .before .before .before .before .before .before .before .before .before .before .before .before .before .before .before .before .before .before .before .pre .1 .choices) (knows-later (f .stays) (c .before .before .before .before .before .before .before .before .before .before .before .before .before .before .before .before .before .before .before .before .before .before .before .before .before .before .pre .1 .knows))) (c .before .before .before .before .before .q .given .1) in
-    omega (arith, c .before .before .before .before .before .before .before .before .before .before .before .before .before .before .before .before .before .before .before .before .before .before .before .before .before .before .pre .1 .room, c .before .before .before .before .before .before .before .before .before .before .before .before .before .before .before .before .before .before .before .before .before .before .before .before .before .before .pre .1 .tidy .size, hit (c .before .before .stands .ensures) (not-false _ (c .before .if2 .left)) (f′ .end) .fits)
+    let f = as-some (c .before .before .before .before .before .before .before .before .before .before .before .before .before .before .before .before .before .before .before .before .before .read-term .ensures (c .before .before .before .before .before .before .before .before .before .before .before .before .before .before .before .before .before .before .before .before .before .before .before .before .before .before .pre .1 .0 .choices) (c .before .before .before .before .before .before .before .before .before .before .before .before .before .before .before .before .before .before .before .before .before .before .before .before .before .before .pre .1 .0 .knows)) (c .before .before .before .before .before .before .before .before .before .before .before .before .before .before .before .before .before .p .given .1) in
+    let f′ = as-some (c .before .before .before .before .before .before .before .before .before .read-term2 .ensures (c .before .before .before .before .before .before .before .before .before .before .before .before .before .before .before .before .before .before .before .before .before .before .before .before .before .before .pre .1 .0 .choices) (knows-later (f .stays) (c .before .before .before .before .before .before .before .before .before .before .before .before .before .before .before .before .before .before .before .before .before .before .before .before .before .before .pre .1 .0 .knows))) (c .before .before .before .before .before .q .given .1) in
+    omega (arith, c .before .before .before .before .before .before .before .before .before .before .before .before .before .before .before .before .before .before .before .before .before .before .before .before .before .before .pre .1 .0 .room, c .before .before .before .before .before .before .before .before .before .before .before .before .before .before .before .before .before .before .before .before .before .before .before .before .before .before .pre .1 .0 .tidy .size, hit (c .before .before .stands .ensures) (not-false _ (c .before .if2 .left)) (f′ .end) .fits)
 
 read-two-intern-requires : (t : ℕ) → read-two-lts.Need-intern-requires (read-term-below t, read-term.Post, middle-at-reads.Asked, middle-at-reads.Learnt, read-less-reads.Asked, read-less-reads.Learnt, stands-reads.Asked, stands-reads.Learnt, intern-reads.Asked, intern-reads.Learnt) (read-two-at t) read-two.Post
 read-two-intern-requires t c κs =
-    let f = as-some (c .before .before .before .before .before .before .before .before .before .before .before .before .before .before .before .before .before .before .before .before .before .read-term .ensures (c .before .before .before .before .before .before .before .before .before .before .before .before .before .before .before .before .before .before .before .before .before .before .before .before .before .before .pre .1 .choices) (c .before .before .before .before .before .before .before .before .before .before .before .before .before .before .before .before .before .before .before .before .before .before .before .before .before .before .pre .1 .knows)) (c .before .before .before .before .before .before .before .before .before .before .before .before .before .before .before .before .before .p .given .1) in
+    let f = as-some (c .before .before .before .before .before .before .before .before .before .before .before .before .before .before .before .before .before .before .before .before .before .read-term .ensures (c .before .before .before .before .before .before .before .before .before .before .before .before .before .before .before .before .before .before .before .before .before .before .before .before .before .before .pre .1 .0 .choices) (c .before .before .before .before .before .before .before .before .before .before .before .before .before .before .before .before .before .before .before .before .before .before .before .before .before .before .pre .1 .0 .knows)) (c .before .before .before .before .before .before .before .before .before .before .before .before .before .before .before .before .before .p .given .1) in
     let x = as-name (c .before .before .before .before .before .before .before .before .before .before .before .before .before .before .before .middle-at .ensures) (c .before .before .before .before .before .before .before .before .before .before .before .before .before .h .given .1) in
-    let f′ = as-some (c .before .before .before .before .before .before .before .before .before .read-term2 .ensures (c .before .before .before .before .before .before .before .before .before .before .before .before .before .before .before .before .before .before .before .before .before .before .before .before .before .before .pre .1 .choices) (knows-later (f .stays) (c .before .before .before .before .before .before .before .before .before .before .before .before .before .before .before .before .before .before .before .before .before .before .before .before .before .before .pre .1 .knows))) (c .before .before .before .before .before .q .given .1) in
-    fresh-pair (c .before .before .before .before .before .before .before .before .before .before .before .before .before .before .before .before .before .before .before .before .before .before .before .before .before .before .pre .1) f f′ (x .more) (two-small (readTerm (c .before .before .before .before .before .before .before .before .before .before .before .before .before .before .before .before .before .before .before .before .before .before .before .before .before .before .args .left) (c .before .before .before .before .before .before .before .before .before .before .before .before .before .before .before .before .before .before .before .before .before .before .before .before .before .before .pre .1 .choices)) (c .before .before .before .before .before .before .before .before .before .before .before .before .before .before .before .before .before .before .before .before .before .before .before .before .before .before .pre .1 .choices) (c .before .before .before .before .before .before .before .before .before .before .before .before .before .before .before .before .before .before .before .before .before .before .before .before .before .before .args .op) f x (c .before .before .before .before .before .before .before .before .before .before .before .if1 .left) f′)
+    let f′ = as-some (c .before .before .before .before .before .before .before .before .before .read-term2 .ensures (c .before .before .before .before .before .before .before .before .before .before .before .before .before .before .before .before .before .before .before .before .before .before .before .before .before .before .pre .1 .0 .choices) (knows-later (f .stays) (c .before .before .before .before .before .before .before .before .before .before .before .before .before .before .before .before .before .before .before .before .before .before .before .before .before .before .pre .1 .0 .knows))) (c .before .before .before .before .before .q .given .1) in
+    fresh-pair (c .before .before .before .before .before .before .before .before .before .before .before .before .before .before .before .before .before .before .before .before .before .before .before .before .before .before .pre .1 .0) f f′ (x .more) (two-small (readTerm (c .before .before .before .before .before .before .before .before .before .before .before .before .before .before .before .before .before .before .before .before .before .before .before .before .before .before .pre .1 .0 .choices)) (c .before .before .before .before .before .before .before .before .before .before .before .before .before .before .before .before .before .before .before .before .before .before .before .before .before .before .pre .1 .0 .choices) (c .before .before .before .before .before .before .before .before .before .before .before .before .before .before .before .before .before .before .before .before .before .before .before .before .before .before .args .op) f x (c .before .before .before .before .before .before .before .before .before .before .before .if1 .left) f′)
 
 read-two-same-length-6 : (t : ℕ) → read-two-lts.Need-same-length-6 (read-term-below t, read-term.Post, middle-at-reads.Asked, middle-at-reads.Learnt, read-less-reads.Asked, read-less-reads.Learnt, stands-reads.Asked, stands-reads.Learnt, intern-reads.Asked, intern-reads.Learnt) (read-two-at t) read-two.Post
 read-two-same-length-6 t c = search needs
@@ -291,7 +283,7 @@ read-two-returns-6 t c = λ σ w.
     let x = as-name (c .before .before .before .before .before .before .before .before .before .before .before .before .before .before .before .before .before .before .middle-at .ensures) (c .before .before .before .before .before .before .before .before .before .before .before .before .before .before .before .before .h .given .1) in
     let f′ = as-some (c .before .before .before .before .before .before .before .before .before .before .before .before .read-term2 .ensures σ (knows-later (f .stays) w)) (c .before .before .before .before .before .before .before .before .q .given .1) in
     let h = hit (c .before .before .before .before .before .stands .ensures) (not-false _ (c .before .before .before .before .if2 .left)) (f′ .end) in
-    two-found (readTerm (c .before .before .before .before .before .before .before .before .before .before .before .before .before .before .before .before .before .before .before .before .before .before .before .before .before .before .before .before .before .args .left) σ) σ (c .before .before .before .before .before .before .before .before .before .before .before .before .before .before .before .before .before .before .before .before .before .before .before .before .before .before .before .before .before .args .op) f x (c .before .before .before .before .before .before .before .before .before .before .before .before .before .before .if1 .left) f′ h (c .before .before .intern .ensures)
+    two-found (readTerm σ) σ (c .before .before .before .before .before .before .before .before .before .before .before .before .before .before .before .before .before .before .before .before .before .before .before .before .before .before .before .before .before .args .op) f x (c .before .before .before .before .before .before .before .before .before .before .before .before .before .before .if1 .left) f′ h (c .before .before .intern .ensures)
 
 pub +read-call+read-term+read-two-spec : {M : Type 1} → statement M
 +read-call+read-term+read-two-spec =
@@ -314,25 +306,22 @@ pub +read-call+read-term+read-two-spec : {M : Type 1} → statement M
     (λ t. read-term-lts.spec (head-at-reads.Asked, head-at-reads.Learnt, intern-reads.Asked, intern-reads.Learnt, read-call-below t, read-call.Post, read-two-below t, read-two.Post, read-choice-reads.Asked, read-choice-reads.Learnt)
     (read-term-at t)
     read-term.Post
-    (read-term-returns t)
     (read-term-head-at-requires t)
     (read-term-enum-known-h t)
     (read-term-enum-told t)
-    (read-term-returns-2 t)
+    (read-term-returns t)
     (read-term-intern-requires t)
     (read-term-same-length t)
-    (read-term-returns-3 t)
-    (read-term-sub-read-call t)
+    (read-term-returns-2 t)
     (read-term-read-call-requires t)
     (read-term-same-length-2 t)
-    (read-term-returns-4 t)
-    (read-term-sub-read-two t)
+    (read-term-returns-3 t)
     (read-term-read-two-requires t)
     (read-term-same-length-3 t)
-    (read-term-returns-5 t)
+    (read-term-returns-4 t)
     (read-term-read-choice-requires t)
     (read-term-same-length-4 t)
-    (read-term-returns-6 t))
+    (read-term-returns-5 t))
     λ t. read-two-lts.spec (read-term-below t, read-term.Post, middle-at-reads.Asked, middle-at-reads.Learnt, read-less-reads.Asked, read-less-reads.Learnt, stands-reads.Asked, stands-reads.Learnt, intern-reads.Asked, intern-reads.Learnt)
     (read-two-at t)
     read-two.Post

@@ -24,7 +24,7 @@ same-length : tie.Need-same-length
 same-length c = search needs
 
 returns : tie.Need-returns
-returns c = λ σ w. noThing (clause-none _ σ _ (as-none (c .before .before .before .before .read-test .ensures σ w) (c .enum-told .given .1)))
+returns c = λ σ w. noThing (clause-none σ _ (as-none (c .before .before .before .before .read-test .ensures σ w) (c .enum-told .given .1)))
 
 slice-aggregate-stands : tie.Need-slice-aggregate-stands
 slice-aggregate-stands c = search needs
@@ -38,7 +38,7 @@ same-length-2 c = search needs
 returns-2 : tie.Need-returns-2
 returns-2 c = λ σ w.
     let f = as-some (c .before .before .before .before .before .before .before .before .read-test .ensures σ w) (c .before .before .before .before .p .given .1) in
-    someThing (clause-plain (c .before .before .before .before .before .before .before .before .before .before .before .before .before .args .left) σ f (miss (c .before .stands .ensures) (not-true _ (c .if1 .taken))))
+    someThing (clause-plain σ f (miss (c .before .stands .ensures) (not-true _ (c .if1 .taken))))
 
 add-read-test : tie.Need-add-read-test
 add-read-test c =
@@ -64,7 +64,7 @@ returns-3 : tie.Need-returns-3
 returns-3 c = λ σ w.
     let f = as-some (c .before .before .before .before .before .before .before .before .before .before .before .before .before .before .read-test .ensures σ w) (c .before .before .before .before .before .before .before .before .before .before .p .given .1) in
     let h = hit (c .before .before .before .before .before .before .before .stands .ensures) (not-false _ (c .before .before .before .before .before .before .if1 .left)) (f .end) in
-    noThing (clause-lost (c .before .before .before .before .before .before .before .before .before .before .before .before .before .before .before .before .before .before .before .args .left) σ f h (as-none (c .before .before .before .before .read-test2 .ensures σ (knows-later (f .stays) w)) (c .enum-told2 .given .1)))
+    noThing (clause-lost σ f h (as-none (c .before .before .before .before .read-test2 .ensures σ (knows-later (f .stays) w)) (c .enum-told2 .given .1)))
 
 intern-requires : tie.Need-intern-requires
 intern-requires c κs =
@@ -80,7 +80,7 @@ returns-4 c = λ σ w.
     let f = as-some (c .before .before .before .before .before .before .before .before .before .before .before .before .before .before .before .before .before .before .before .read-test .ensures σ w) (c .before .before .before .before .before .before .before .before .before .before .before .before .before .before .before .p .given .1) in
     let h = hit (c .before .before .before .before .before .before .before .before .before .before .before .before .stands .ensures) (not-false _ (c .before .before .before .before .before .before .before .before .before .before .before .if1 .left)) (f .end) in
     let f′ = as-some (c .before .before .before .before .before .before .before .before .before .read-test2 .ensures σ (knows-later (f .stays) w)) (c .before .before .before .before .before .q .given .1) in
-    clause-found (c .before .before .before .before .before .before .before .before .before .before .before .before .before .before .before .before .before .before .before .before .before .before .before .before .args .left) σ f h f′ (c .before .before .intern .ensures)
+    clause-found σ f h f′ (c .before .before .intern .ensures)
 
 pub read-clause-spec : {M : Type 1} → statement M
 read-clause-spec =

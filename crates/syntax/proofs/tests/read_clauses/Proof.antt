@@ -16,10 +16,10 @@ use Rattle.syntax.proofs.tests.read_clauses.Statement.{statement}
 use Rattle.syntax.proofs.tests.read_clauses.Tie as tie
 
 abbrev Inv-loop : tie.InvT-loop
-Inv-loop s start vars nodes₀ first left list₀ at₀ n₀ c₀ nodes list at n c = Passing s start vars (mk nodes₀ first) left (length list₀) list (mk nodes n) at c
+Inv-loop s start vars nodes₀ first list₀ at₀ n₀ c₀ nodes list at n c = Passing s start vars (mk nodes₀ first) (length list₀) list (mk nodes n) at c
 
 abbrev μ-loop : tie.MeasureT-loop
-μ-loop s start vars nodes₀ first left list₀ at₀ n₀ c₀ nodes list at n c = length list₀ - c
+μ-loop s start vars nodes₀ first list₀ at₀ n₀ c₀ nodes list at n c = length list₀ - c
 
 loop-holds : tie.Need-loop-holds Inv-loop μ-loop
 loop-holds c = pass-start (c .before .before .before .before .pre)

@@ -26,7 +26,7 @@ enum-told : tie.Need-enum-told
 enum-told c = search needs
 
 returns : tie.Need-returns
-returns c = λ σ o a w q y. noThing (count-lost _ σ o a _ (miss (c .before .before .before .before .stands .ensures) (not-true _ (c .before .before .before .if1 .taken))) (as-unknown (c .before .before .number-at .ensures) (c .enum-told .given .1)))
+returns c = λ σ o a w q y. noThing (count-lost σ o a _ (miss (c .before .before .before .before .stands .ensures) (not-true _ (c .before .before .before .if1 .taken))) (as-unknown (c .before .before .number-at .ensures) (c .enum-told .given .1)))
 
 add-intern : tie.Need-add-intern
 add-intern c = search needs
@@ -42,7 +42,7 @@ same-length c = search needs
 
 returns-2 : tie.Need-returns-2
 returns-2 c = λ σ o a w q y.
-    number-found (c .before .before .before .before .before .before .before .before .before .before .before .before .before .before .args .left) σ o a (c .before .before .before .before .before .before .before .before .before .before .before .before .before .before .pre .0) (c .before .before .before .before .before .before .before .before .before .before .before .before .before .before .pre .1 .1) (c .before .before .before .before .before .before .before .before .before .before .before .before .before .before .pre .1 .0) q y (miss (c .before .before .before .before .before .before .before .before .before .stands .ensures) (not-true _ (c .before .before .before .before .before .before .before .before .if1 .taken))) (as-name (c .before .before .before .before .before .before .before .number-at .ensures) (c .before .before .before .before .before .h .given .1)) (c .before .before .intern .ensures)
+    number-found σ o a (c .before .before .before .before .before .before .before .before .before .before .before .before .before .before .pre .0) (c .before .before .before .before .before .before .before .before .before .before .before .before .before .before .pre .1 .1) (c .before .before .before .before .before .before .before .before .before .before .before .before .before .before .pre .1 .0) q y (miss (c .before .before .before .before .before .before .before .before .before .stands .ensures) (not-true _ (c .before .before .before .before .before .before .before .before .if1 .taken))) (as-name (c .before .before .before .before .before .before .before .number-at .ensures) (c .before .before .before .before .before .h .given .1)) (c .before .before .intern .ensures)
 
 add-read-term : tie.Need-add-read-term
 add-read-term c = search needs
@@ -64,7 +64,7 @@ same-length-2 c = search needs
 returns-3 : tie.Need-returns-3
 returns-3 c = λ σ o a w q y.
     let h = hit (c .before .before .before .before .before .before .before .stands .ensures) (not-false _ (c .before .before .before .before .before .before .if1 .left)) (c .before .before .before .before .before .before .before .before .before .before .before .before .pre .0 .within) in
-    noThing (count-none (c .before .before .before .before .before .before .before .before .before .before .before .before .args .left) σ o a h (as-none (c .before .before .before .before .read-term .ensures σ w) (c .enum-told2 .given .1)))
+    noThing (count-none σ o a h (as-none (c .before .before .before .before .read-term .ensures σ w) (c .enum-told2 .given .1)))
 
 slice-aggregate-stands-2 : tie.Need-slice-aggregate-stands-2
 slice-aggregate-stands-2 c = search needs
@@ -79,7 +79,7 @@ returns-4 : tie.Need-returns-4
 returns-4 c = λ σ o a w q y.
     let h = hit (c .before .before .before .before .before .before .before .before .before .before .before .stands .ensures) (not-false _ (c .before .before .before .before .before .before .before .before .before .before .if1 .left)) (c .before .before .before .before .before .before .before .before .before .before .before .before .before .before .before .before .pre .0 .within) in
     let f = as-some (c .before .before .before .before .before .before .before .before .read-term .ensures σ w) (c .before .before .before .before .p .given .1) in
-    noThing (count-open (c .before .before .before .before .before .before .before .before .before .before .before .before .before .before .before .before .args .left) σ o a h f (miss (c .before .stands2 .ensures) (not-true _ (c .if2 .taken))))
+    noThing (count-open σ o a h f (miss (c .before .stands2 .ensures) (not-true _ (c .if2 .taken))))
 
 add-intern-2 : tie.Need-add-intern-2
 add-intern-2 c = search needs
@@ -103,7 +103,7 @@ returns-5 c = λ σ o a w q y.
     let h = hit (c .before .before .before .before .before .before .before .before .before .before .before .before .before .before .before .stands .ensures) (not-false _ (c .before .before .before .before .before .before .before .before .before .before .before .before .before .before .if1 .left)) (c .before .before .before .before .before .before .before .before .before .before .before .before .before .before .before .before .before .before .before .before .pre .0 .within) in
     let f = as-some (c .before .before .before .before .before .before .before .before .before .before .before .before .read-term .ensures σ w) (c .before .before .before .before .before .before .before .before .p .given .1) in
     let h′ = hit (c .before .before .before .before .before .stands2 .ensures) (not-false _ (c .before .before .before .before .if2 .left)) (f .end) in
-    count-found (c .before .before .before .before .before .before .before .before .before .before .before .before .before .before .before .before .before .before .before .before .args .left) σ o a h f (c .before .before .before .before .before .before .before .before .before .before .before .before .before .before .before .before .before .before .before .before .pre .0) (c .before .before .before .before .before .before .before .before .before .before .before .before .before .before .before .before .before .before .before .before .pre .1 .1) (c .before .before .before .before .before .before .before .before .before .before .before .before .before .before .before .before .before .before .before .before .pre .1 .0) q y h′ (c .before .before .intern2 .ensures)
+    count-found σ o a h f (c .before .before .before .before .before .before .before .before .before .before .before .before .before .before .before .before .before .before .before .before .pre .0) (c .before .before .before .before .before .before .before .before .before .before .before .before .before .before .before .before .before .before .before .before .pre .1 .1) (c .before .before .before .before .before .before .before .before .before .before .before .before .before .before .before .before .before .before .before .before .pre .1 .0) q y h′ (c .before .before .intern2 .ensures)
 
 pub read-count-spec : {M : Type 1} → statement M
 read-count-spec =

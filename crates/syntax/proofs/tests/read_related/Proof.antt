@@ -23,7 +23,7 @@ same-length : tie.Need-same-length
 same-length c = search needs
 
 returns : tie.Need-returns
-returns c = λ σ w. noThing (related-none _ σ _ (as-none (c .before .before .before .before .read-term .ensures σ w) (c .enum-told .given .1)))
+returns c = λ σ w. noThing (related-none σ _ (as-none (c .before .before .before .before .read-term .ensures σ w) (c .enum-told .given .1)))
 
 between-at-requires : tie.Need-between-at-requires
 between-at-requires c κs = as-some (c .before .before .before .before .before .read-term .ensures (c .before .before .before .before .before .before .before .before .before .before .pre .choices) (c .before .before .before .before .before .before .before .before .before .before .pre .knows)) (c .before .p .given .1) .end
@@ -40,7 +40,7 @@ same-length-2 c = search needs
 returns-2 : tie.Need-returns-2
 returns-2 c = λ σ w.
     let f = as-some (c .before .before .before .before .before .before .before .before .read-term .ensures σ w) (c .before .before .before .before .p .given .1) in
-    noThing (related-lost (c .before .before .before .before .before .before .before .before .before .before .before .before .before .args .left) σ f (as-unknown (c .before .before .between-at .ensures) (c .enum-told2 .given .1)))
+    noThing (related-lost σ f (as-unknown (c .before .before .between-at .ensures) (c .enum-told2 .given .1)))
 
 empty-at-requires : tie.Need-empty-at-requires
 empty-at-requires c κs = as-name (c .before .before .before .between-at .ensures) (c .before .h .given .1) .fits
@@ -59,7 +59,7 @@ intern-requires : tie.Need-intern-requires
 intern-requires c κs =
     let f = as-some (c .before .before .before .before .before .before .before .before .before .before .before .before .read-term .ensures (c .before .before .before .before .before .before .before .before .before .before .before .before .before .before .before .before .before .pre .choices) (c .before .before .before .before .before .before .before .before .before .before .before .before .before .before .before .before .before .pre .knows)) (c .before .before .before .before .before .before .before .before .p .given .1) in
     let x = as-name (c .before .before .before .before .before .before .between-at .ensures) (c .before .before .before .before .h .given .1) in
-    empty-fresh (c .before .before .before .before .before .before .before .before .before .before .before .before .before .before .before .before .before .args .left) (c .before .before .before .before .before .before .before .before .before .before .before .before .before .before .before .before .before .pre .choices) f x (c .before .before .empty-at .ensures) (c .before .before .before .before .before .before .before .before .before .before .before .before .before .before .before .before .before .pre)
+    empty-fresh (c .before .before .before .before .before .before .before .before .before .before .before .before .before .before .before .before .before .pre .choices) f x (c .before .before .empty-at .ensures) (c .before .before .before .before .before .before .before .before .before .before .before .before .before .before .before .before .before .pre)
 
 same-length-3 : tie.Need-same-length-3
 same-length-3 c = search needs
@@ -68,7 +68,7 @@ returns-3 : tie.Need-returns-3
 returns-3 c = λ σ w.
     let f = as-some (c .before .before .before .before .before .before .before .before .before .before .before .before .before .before .before .read-term .ensures σ w) (c .before .before .before .before .before .before .before .before .before .before .before .p .given .1) in
     let x = as-name (c .before .before .before .before .before .before .before .before .before .between-at .ensures) (c .before .before .before .before .before .before .before .h .given .1) in
-    empty-found (c .before .before .before .before .before .before .before .before .before .before .before .before .before .before .before .before .before .before .before .before .args .left) σ f x (c .before .before .before .before .before .empty-at .ensures) (c .before .before .before .before .if1 .taken) (c .before .before .intern .ensures)
+    empty-found σ f x (c .before .before .before .before .before .empty-at .ensures) (c .before .before .before .before .if1 .taken) (c .before .before .intern .ensures)
 
 read-term-requires-2 : tie.Need-read-term-requires-2
 read-term-requires-2 c κs =
@@ -89,14 +89,14 @@ returns-4 : tie.Need-returns-4
 returns-4 c = λ σ w.
     let f = as-some (c .before .before .before .before .before .before .before .before .before .before .before .before .before .before .before .before .before .read-term .ensures σ w) (c .before .before .before .before .before .before .before .before .before .before .before .before .before .p .given .1) in
     let x = as-name (c .before .before .before .before .before .before .before .before .before .before .before .between-at .ensures) (c .before .before .before .before .before .before .before .before .before .h .given .1) in
-    noThing (related-empty (c .before .before .before .before .before .before .before .before .before .before .before .before .before .before .before .before .before .before .before .before .before .before .args .left) σ f x (c .before .before .before .before .before .before .before .empty-at .ensures) (c .before .before .before .before .before .before .if1 .left) (as-none (c .before .before .before .before .read-term2 .ensures σ (knows-later (f .stays) w)) (c .enum-told3 .given .1)))
+    noThing (related-empty σ f x (c .before .before .before .before .before .before .before .empty-at .ensures) (c .before .before .before .before .before .before .if1 .left) (as-none (c .before .before .before .before .read-term2 .ensures σ (knows-later (f .stays) w)) (c .enum-told3 .given .1)))
 
 intern-requires-2 : tie.Need-intern-requires-2
 intern-requires-2 c κs =
     let f = as-some (c .before .before .before .before .before .before .before .before .before .before .before .before .before .before .before .before .before .before .before .read-term .ensures (c .before .before .before .before .before .before .before .before .before .before .before .before .before .before .before .before .before .before .before .before .before .before .before .before .pre .choices) (c .before .before .before .before .before .before .before .before .before .before .before .before .before .before .before .before .before .before .before .before .before .before .before .before .pre .knows)) (c .before .before .before .before .before .before .before .before .before .before .before .before .before .before .before .p .given .1) in
     let x = as-name (c .before .before .before .before .before .before .before .before .before .before .before .before .before .between-at .ensures) (c .before .before .before .before .before .before .before .before .before .before .before .h .given .1) in
     let f′ = as-some (c .before .before .before .before .before .before .read-term2 .ensures (c .before .before .before .before .before .before .before .before .before .before .before .before .before .before .before .before .before .before .before .before .before .before .before .before .pre .choices) (knows-later (f .stays) (c .before .before .before .before .before .before .before .before .before .before .before .before .before .before .before .before .before .before .before .before .before .before .before .before .pre .knows))) (c .before .before .q .given .1) in
-    related-fresh (c .before .before .before .before .before .before .before .before .before .before .before .before .before .before .before .before .before .before .before .before .before .before .before .before .args .left) (c .before .before .before .before .before .before .before .before .before .before .before .before .before .before .before .before .before .before .before .before .before .before .before .before .pre .choices) f x (c .before .before .before .before .before .before .before .before .before .empty-at .ensures) f′ (c .before .before .before .before .before .before .before .before .before .before .before .before .before .before .before .before .before .before .before .before .before .before .before .before .pre)
+    related-fresh (c .before .before .before .before .before .before .before .before .before .before .before .before .before .before .before .before .before .before .before .before .before .before .before .before .pre .choices) f x (c .before .before .before .before .before .before .before .before .before .empty-at .ensures) f′ (c .before .before .before .before .before .before .before .before .before .before .before .before .before .before .before .before .before .before .before .before .before .before .before .before .pre)
 
 same-length-5 : tie.Need-same-length-5
 same-length-5 c = search needs
@@ -106,7 +106,7 @@ returns-5 c = λ σ w.
     let f = as-some (c .before .before .before .before .before .before .before .before .before .before .before .before .before .before .before .before .before .before .before .before .before .before .read-term .ensures σ w) (c .before .before .before .before .before .before .before .before .before .before .before .before .before .before .before .before .before .before .p .given .1) in
     let x = as-name (c .before .before .before .before .before .before .before .before .before .before .before .before .before .before .before .before .between-at .ensures) (c .before .before .before .before .before .before .before .before .before .before .before .before .before .before .h .given .1) in
     let f′ = as-some (c .before .before .before .before .before .before .before .before .before .read-term2 .ensures σ (knows-later (f .stays) w)) (c .before .before .before .before .before .q .given .1) in
-    related-found (c .before .before .before .before .before .before .before .before .before .before .before .before .before .before .before .before .before .before .before .before .before .before .before .before .before .before .before .args .left) σ f x (c .before .before .before .before .before .before .before .before .before .before .before .before .empty-at .ensures) f′ (c .before .before .before .before .before .before .before .before .before .before .before .if1 .left) (c .before .before .intern2 .ensures)
+    related-found σ f x (c .before .before .before .before .before .before .before .before .before .before .before .before .empty-at .ensures) f′ (c .before .before .before .before .before .before .before .before .before .before .before .if1 .left) (c .before .before .intern2 .ensures)
 
 pub read-related-spec : {M : Type 1} → statement M
 read-related-spec =

@@ -24,7 +24,7 @@ same-length : tie.Need-same-length
 same-length c = search needs
 
 returns : tie.Need-returns
-returns c = λ σ w. noThing (sized-none _ σ _ (as-none (c .before .before .before .before .read-term .ensures σ w) (c .enum-told .given .1)))
+returns c = λ σ w. noThing (sized-none σ _ (as-none (c .before .before .before .before .read-term .ensures σ w) (c .enum-told .given .1)))
 
 slice-aggregate-stands : tie.Need-slice-aggregate-stands
 slice-aggregate-stands c = search needs
@@ -38,7 +38,7 @@ same-length-2 c = search needs
 returns-2 : tie.Need-returns-2
 returns-2 c = λ σ w.
     let f = as-some (c .before .before .before .before .before .before .before .before .read-term .ensures σ w) (c .before .before .before .before .p .given .1) in
-    noThing (sized-open (c .before .before .before .before .before .before .before .before .before .before .before .before .before .args .left) σ f (miss (c .before .stands .ensures) (not-true _ (c .if1 .taken))))
+    noThing (sized-open σ f (miss (c .before .stands .ensures) (not-true _ (c .if1 .taken))))
 
 add-cmp-at : tie.Need-add-cmp-at
 add-cmp-at c =
@@ -63,7 +63,7 @@ returns-3 : tie.Need-returns-3
 returns-3 c = λ σ w.
     let f = as-some (c .before .before .before .before .before .before .before .before .before .before .before .read-term .ensures σ w) (c .before .before .before .before .before .before .before .p .given .1) in
     let h = hit (c .before .before .before .before .stands .ensures) (not-false _ (c .before .before .before .if1 .left)) (f .end) in
-    noThing (sized-lost (c .before .before .before .before .before .before .before .before .before .before .before .before .before .before .before .before .args .left) σ f h (as-unknown (c .before .before .cmp-at .ensures) (c .enum-told2 .given .1)))
+    noThing (sized-lost σ f h (as-unknown (c .before .before .cmp-at .ensures) (c .enum-told2 .given .1)))
 
 read-count-requires : tie.Need-read-count-requires
 read-count-requires c κs =
@@ -79,7 +79,7 @@ returns-4 c = λ σ w.
     let f = as-some (c .before .before .before .before .before .before .before .before .before .before .before .before .before .before .before .before .read-term .ensures σ w) (c .before .before .before .before .before .before .before .before .before .before .before .before .p .given .1) in
     let h = hit (c .before .before .before .before .before .before .before .before .before .stands .ensures) (not-false _ (c .before .before .before .before .before .before .before .before .if1 .left)) (f .end) in
     let x = as-name (c .before .before .before .before .before .before .before .cmp-at .ensures) (c .before .before .before .before .before .h .given .1) in
-    sized-found (c .before .before .before .before .before .before .before .before .before .before .before .before .before .before .before .before .before .before .before .before .before .args .left) σ f h x (c .before .before .read-count .ensures σ (x .thing) (f .thing) (knows-later (f .stays) w) (x .numberIs) (f .holds))
+    sized-found σ f h x (c .before .before .read-count .ensures σ (x .thing) (f .thing) (knows-later (f .stays) w) (x .numberIs) (f .holds))
 
 pub read-sized-spec : {M : Type 1} → statement M
 read-sized-spec =

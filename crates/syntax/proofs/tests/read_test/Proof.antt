@@ -30,7 +30,7 @@ same-length c = search needs
 returns : tie.Need-returns
 returns c = λ σ w.
     let h = hit (c .before .before .before .before .before .stands .ensures) (c .before .before .before .before .if1 .taken) (c .before .before .before .before .before .before .before .before .before .before .pre .within) in
-    rw (test-sized (c .before .before .before .before .before .before .before .before .before .before .args .left) σ (now (c .before .before .before .before .before .before .before .before .before .before .args .s)) (c .before .before .before .before .before .before .before .before .before .before .args .at) h) (agree-from (stays-refl _) (omega arith) (c .before .before .read-sized .ensures σ w))
+    rw (test-sized σ (now (c .before .before .before .before .before .before .before .before .before .before .args .s)) (c .before .before .before .before .before .before .before .before .before .before .args .at) h) (agree-from (stays-refl _) (omega arith) (c .before .before .read-sized .ensures σ w))
 
 read-related-requires : tie.Need-read-related-requires
 read-related-requires c κs = search needs
@@ -39,7 +39,7 @@ same-length-2 : tie.Need-same-length-2
 same-length-2 c = search needs
 
 returns-2 : tie.Need-returns-2
-returns-2 c = λ σ w. rw (test-related (c .before .before .before .before .before .before .before .before .before .before .args .left) σ (now (c .before .before .before .before .before .before .before .before .before .before .args .s)) (c .before .before .before .before .before .before .before .before .before .before .args .at) (miss (c .before .before .before .before .before .stands .ensures) (c .before .before .before .before .if1 .left))) (c .before .before .read-related .ensures σ w)
+returns-2 c = λ σ w. rw (test-related σ (now (c .before .before .before .before .before .before .before .before .before .before .args .s)) (c .before .before .before .before .before .before .before .before .before .before .args .at) (miss (c .before .before .before .before .before .stands .ensures) (c .before .before .before .before .if1 .left))) (c .before .before .read-related .ensures σ w)
 
 pub read-test-spec : {M : Type 1} → statement M
 read-test-spec =
