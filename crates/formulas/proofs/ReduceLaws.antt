@@ -2,18 +2,18 @@
 -- Assumes nothing.
 use mathlib.Core.Path.{_≡_, refl, ap, sym, _∙_}
 use mathlib.Core.Bool.{true, false}
-use mathlib.Core.List.{List, []}
+use mathlib.Core.List.{List, [], _++_}
 use mathlib.Core.Option.{Option, none, some}
 use Prim.Native.Nat.{ℕ, _≤_, _<_}
 use native.Mathlib.Omega.{arith}
-use lib.ListN.{length, take, length-take}
+use lib.ListN.{length, take, drop, length-take}
 use lib.Seq.{take-all}
 use Rattle.answers.specs.Answer.{Answer, refused, wrote, lent}
 use Rattle.answers.specs.declared.Refusal.{Refusal}
-use Rattle.answers.specs.declared.Refusal.the-variants.{NoRulesFormula}
+use Rattle.answers.specs.declared.Refusal.the-variants.{NoRulesFormula, ShortSheet}
 use Rattle.syntax.specs.Bytes.{Bytes, same}
 use Rattle.syntax.specs.Rule.{Rule, ruleText, ruleVars, formula, readFormula, whole}
-use Rattle.syntax.specs.code.Arena.{HoldsRule}
+use Rattle.syntax.specs.code.Arena.{HoldsRule, Tidy}
 use Rattle.syntax.specs.code.Printing.{printed}
 use Rattle.syntax.proofs.Closed.{formula-in}
 use Rattle.syntax.specs.code.Reading.{clauseRoom, Rooted}
@@ -23,14 +23,16 @@ use Rattle.rules.specs.declared.Checked.the-variants.{Refused as RuleRefused, A
 use Rattle.rules.specs.Accept.{deep, refusal}
 use Rattle.rules.specs.code.Parsed.{checkedOf}
 use Rattle.rules.specs.code.Parsed.{Parses}
-use Rattle.printer.specs.code.Printed.{Prints, Printable, formulaIn}
-use Rattle.printer.proofs.PrintedLaws.{puts-front}
+use Rattle.rules.specs.code.Lengths.{LengthsOf, FormulaLength}
+use Rattle.rules.proofs.ParseLaws.{formula-exact}
+use Rattle.printer.specs.code.Printed.{Puts, Prints, Printable, formulaIn}
+use Rattle.printer.proofs.PrintedLaws.{puts-as, puts-front}
 use Rattle.printer.proofs.RuleTextLaws.{all-length}
 use Rattle.answers.specs.declared.Written.{Written}
 use Rattle.answers.specs.declared.Written.the-variants.{Refused, Wrote}
 use Rattle.formulas.specs.Formulas.{reduced, RuleOf, gives, givesNone, RebuildAnswers}
 use Rattle.answers.specs.Written.{Answers}
-use Rattle.answers.proofs.AnswerLaws.{kept-refused}
+use Rattle.answers.proofs.AnswerLaws.{kept-refused, kept-short, lent-written}
 use Rattle.rules.proofs.AcceptLaws.{accepted-gives, formula-within}
 use Rattle.formulas.proofs.RebuildLaws.{wrote-reduced, accepted-formula, rule-of}
 use Rattle.formulas.proofs.RebuildLaws.{rule-accepted, rule-formula, rule-reduced, rule-read, rule-only}
@@ -73,16 +75,36 @@ module _ {s ns ks vs : List ℕ} {o : Checked} {n root count : ℕ} (p : Parses 
       let t = p .accepted (accepted-of e) in
       record { n = n; tidy = t .tidy; node = t .within; below = t .knows .below; few = simp length-take (omega (arith, t .few)) }
 
-  -- The formula stands in front of a sheet of 4,096 bytes.
-  pub reduce-made : {old sheet : Bytes} {l : ℕ} → o ≡ Taken → length old ≡ 4096 → Prints ns (take count vs) (HoldsRule ns root) formulaIn old sheet l → reduced s ≡ wrote (take l sheet)
-  unfolding printed
-  reduce-made {old} {sheet} {l} e h q =
-      let t = p .accepted (accepted-of e) in
-      let a = accepted-gives s (accepted-of e) in
-      let i : a .rule ≡ t .tree = cc (a .reads, t .reads) in
-      let g : formula (a .rule) ≡ printed (t .tree) = ap formula i ∙ formula-in (t .tree) in
-      let f : take l sheet ≡ printed (t .tree) = puts-front (q .shows (ruleVars [] (t .tree)) (t .tree) (t .knows .holds) (t .holds)) ∙ take-all (length old) (printed (t .tree)) (omega (arith, formula-within a, ap length g)) in
-      wrote-reduced s (take l sheet) (accepted-of e) (accepted-formula a ∙ ap some (g ∙ sym f))
+  module _ (e : o ≡ Taken) where
+    abbrev tree : Rule
+    tree = p .accepted (accepted-of e) .tree
+
+    formula-is : reduced s ≡ wrote (formula tree)
+    formula-is =
+        let a = accepted-gives s (accepted-of e) in
+        let i : a .rule ≡ tree = cc (a .reads, p .accepted (accepted-of e) .reads) in
+        wrote-reduced s (formula tree) (accepted-of e) (accepted-formula a ∙ ap (λ (ρ : Rule). some (formula ρ)) i)
+
+    -- Its length is known before it is written.
+    pub reduce-measured : Tidy ns n
+    reduce-measured = p .accepted (accepted-of e) .tidy
+
+    module _ {ls : List ℕ} {l : ℕ} (x : LengthsOf ns n (take count vs) ls) (y : FormulaLength ls (take count vs) root l) where
+      long : l ≡ length (formula tree)
+      long = formula-exact (accepted-of e) (p .accepted (accepted-of e)) x y
+
+      pub reduce-short : {old : Bytes} → length old < l → Answers (lent (length old) (reduced s)) old old (Refused ShortSheet)
+      reduce-short {old} h = rw formula-is (kept-short (formula tree) old (omega (arith, long)))
+
+      pub reduce-made : {old new : Bytes} {m : ℕ} → l ≤ length old → Prints ns (take count vs) (HoldsRule ns root) formulaIn old new m → Answers (lent (length old) (reduced s)) old new (Wrote m)
+      unfolding printed
+      reduce-made {old} {new} {m} h q =
+          let t = p .accepted (accepted-of e) in
+          let w : Bytes = formula tree in
+          let g : length w ≤ length old = omega (arith, long) in
+          let z : Puts w old new m = puts-as (sym (formula-in tree)) (q .shows (ruleVars [] tree) tree (t .knows .holds) (t .holds)) in
+          let c : m ≡ length w = omega (arith, z .count) in
+          rw (formula-is, c) (lent-written w old g (z .bytes ∙ ap (λ (v : Bytes). v ++ drop (length w) old) (take-all (length old) w g)))
 
 -- Formula to rule.
 

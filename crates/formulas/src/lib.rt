@@ -1,5 +1,5 @@
 // Rule text to formula text, and formula text back to rule text.
-// Nothing is written to the output before all of the answer is known.
+// Nothing is written to the output before it is known that the answer has room there.
 ghost use mathlib.Core.Path.{_≡_};
 ghost use lib.ListN.{length};
 ghost use Rattle.answers.specs.Answer.{lent};
@@ -11,6 +11,8 @@ use answers::Written;
 use printer::rules::write_formula;
 use printer::rules::write_rule;
 use rules::Checked;
+use rules::lengths::formula_length;
+use rules::lengths::lengths;
 use syntax::Whole;
 
 // Whether two texts are equal byte for byte.
@@ -30,7 +32,7 @@ fn alike(a: &[u8], b: &[u8]) -> bool
     true
 }
 
-// Rule to formula: 11 to 15, then 17. The formula is made on a sheet of its own, so that its length is known first.
+// Rule to formula: 11 to 15, then 17. The formula's length is known before it is written, and it is written straight into the output.
 pub fn reduce(rule: &[u8], out: &mut [u8]) -> Written
     ensures { λ r. ⌜ Answers (lent (length (now (out .entry))) (reduced (now (rule .entry)))) (now (out .entry)) (now (out .exit)) r ⌝ }
 {
@@ -42,10 +44,13 @@ pub fn reduce(rule: &[u8], out: &mut [u8]) -> Written
     let nodes = parsed.nodes;
     let vars = parsed.vars;
     let count = parsed.count;
-    let mut sheet = [0u8; 4096];
-    let l = write_formula(&nodes, parsed.root, &vars[..count], &mut sheet);
-    let text = &sheet[..l];
-    answers::lend(text, out)
+    let mut lens = [0u32; 256];
+    lengths(&nodes, parsed.n, &vars[..count], &mut lens);
+    let l = formula_length(&lens, &vars[..count], parsed.root) as usize;
+    if out.len() < l {
+        return Written::Refused(Refusal::ShortSheet);
+    }
+    Written::Wrote(write_formula(&nodes, parsed.root, &vars[..count], out))
 }
 
 // Formula to rule: 16, then 17. No accepted rule's formula is deeper than check 12 lets a rule be, so deeper ones are turned away before anything is read
