@@ -6,7 +6,7 @@ use mathlib.Core.List.{List, [], _++_}
 use mathlib.Core.Option.{Option, none, some}
 use Prim.Native.Nat.{ℕ, _≤_, _<_}
 use native.Mathlib.Omega.{arith}
-use lib.ListN.{length, take, drop, length-take}
+use lib.ListN.{length, take, drop, getD, length-take}
 use lib.Seq.{take-all}
 use Rattle.answers.specs.Answer.{Answer, refused, wrote, lent}
 use Rattle.answers.specs.declared.Refusal.{Refusal}
@@ -23,7 +23,9 @@ use Rattle.rules.specs.declared.Checked.the-variants.{Refused as RuleRefused, A
 use Rattle.rules.specs.Accept.{deep, refusal}
 use Rattle.rules.specs.code.Parsed.{checkedOf}
 use Rattle.rules.specs.code.Parsed.{Parses}
-use Rattle.rules.specs.code.Lengths.{LengthsOf, FormulaLength}
+use Rattle.rules.specs.code.Lengths.{capped, LengthsOf, FormulaLength}
+use Rattle.rules.specs.code.Thing.{rule}
+use Rattle.syntax.proofs.FormulaLaws.{knows-none}
 use Rattle.rules.proofs.ParseLaws.{formula-exact}
 use Rattle.printer.specs.code.Printed.{Puts, Prints, Printable, formulaIn}
 use Rattle.printer.proofs.PrintedLaws.{puts-as, puts-front}
@@ -130,14 +132,18 @@ module _ (f old : Bytes) where
   pub rebuild-unread : whole (readFormula clauseRoom 9 [] f) ≡ none → Sixteen
   rebuild-unread e = sixteen (λ s p. let z : _≡_ {A = ℕ} 0 1 = cc (rule-read p) in omega arith)
 
-  -- The candidate c is the tree's own text as far as 257 bytes, which are too many for a rule.
-  module _ {ρ : Rule} {c : Bytes} (e : whole (readFormula clauseRoom 9 [] f) ≡ some ρ) (h : c ≡ take 257 (ruleText [] ρ)) where
+  -- A rule has at most 256 bytes.
+  pub rebuild-wide : {s ns : List ℕ} {k n r : ℕ} (t : Rooted s ns k n (whole (readFormula clauseRoom 9 [] f))) → ((ρ : Rule) → HoldsRule ns k ρ → r ≡ capped (length (ruleText [] ρ))) → 256 < r → Sixteen
+  rebuild-wide t g h = sixteen (λ s p. omega (arith, g (t .rule) (t .holds), rule-accepted p .short, ap length (rule-only p (t .rule) (t .is))))
+
+  -- The candidate c is the tree's own text as far as 256 bytes.
+  module _ {ρ : Rule} {c : Bytes} (e : whole (readFormula clauseRoom 9 [] f) ≡ some ρ) (h : c ≡ take 256 (ruleText [] ρ)) where
     other : (reduced c ≡ wrote f → ⊥) → Sixteen
     other x = sixteen go
       where
         go : (s : Bytes) → RuleOf f s → ⊥
         go s p =
-            let z : c ≡ s = h ∙ ap (take 257) (sym (rule-only p ρ e)) ∙ take-all 257 s (omega (arith, rule-accepted p .short)) in
+            let z : c ≡ s = h ∙ ap (take 256) (sym (rule-only p ρ e)) ∙ take-all 256 s (omega (arith, rule-accepted p .short)) in
             x (rw z (rule-reduced p))
 
     pub rebuild-refused : {zeros sheet : Bytes} {w : Written} {r : Refusal} → Answers (lent (length zeros) (reduced c)) zeros sheet w → w ≡ Refused r → length f ≤ length zeros → Sixteen
@@ -158,6 +164,10 @@ rebuild-same {c} f {zeros} {sheet} {w} {k} p q d =
 
 pub rebuild-gives : {f c old new : Bytes} {w : Written} → RuleOf f c → Answers (lent (length old) (wrote c)) old new w → RebuildAnswers f old new w
 rebuild-gives {c = c} p q = record { answer = wrote c; rebuilds = gives p; answers = q }
+
+-- The measured length of a tree's text, with no choices known.
+pub rule-measured : {ns ls : List ℕ} {n root : ℕ} → LengthsOf ns n [] ls → root < n → (ρ : Rule) → HoldsRule ns root ρ → getD ls root 0 ≡ capped (length (ruleText [] ρ))
+rule-measured x h ρ y = x .measured [] knows-none .at _ (rule ρ) h y
 
 pub rebuild-ready : {s ns : List ℕ} {k n : ℕ} {o : Option Rule} → Rooted s ns k n o → Printable ns k []
 rebuild-ready {n = n} t = record { n = n; tidy = t .tidy; node = t .within; below = λ i h. absurd (omega arith); few = omega arith }

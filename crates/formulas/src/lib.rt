@@ -1,9 +1,14 @@
 // Rule text to formula text, and formula text back to rule text.
 // Nothing is written to the output before it is known that the answer has room there.
 ghost use mathlib.Core.Path.{_≡_};
+ghost use mathlib.Core.List.{[]};
+ghost use Prim.Native.Nat.{_<_};
 ghost use lib.ListN.{length};
 ghost use Rattle.answers.specs.Answer.{lent};
 ghost use Rattle.syntax.specs.Bytes.{same};
+ghost use Rattle.syntax.specs.Rule.{Rule, ruleText};
+ghost use Rattle.syntax.specs.code.Arena.{HoldsRule, Tidy};
+ghost use Rattle.rules.specs.code.Lengths.{capped};
 ghost use Rattle.formulas.specs.Formulas.{reduced, RebuildAnswers};
 ghost use Rattle.answers.specs.Written.{Answers};
 use answers::Refusal;
@@ -53,8 +58,21 @@ pub fn reduce(rule: &[u8], out: &mut [u8]) -> Written
     Written::Wrote(write_formula(&nodes, parsed.root, &vars[..count], out))
 }
 
-// Formula to rule: 16, then 17. No accepted rule's formula is deeper than check 12 lets a rule be, so deeper ones are turned away before anything is read
-// and the stack stays small. The candidate is the tree's own text, kept where its formula is the input byte for byte.
+// How long the rule at a node is where it is written. It is measured and not written, however deep the tree is.
+fn rule_length(nodes: &[u32], n: usize, root: usize) -> u32
+    requires { ⌜ Tidy (now nodes) n ⌝ }
+    requires { ⌜ root < n ⌝ }
+    ensures { λ r. ⌜ ((ρ : Rule) → HoldsRule (now (nodes .entry)) root ρ → r ≡ capped (length (ruleText [] ρ))) ⌝ }
+{
+    let none = [0u32; 1];
+    let mut lens = [0u32; 4096];
+    lengths(nodes, n, &none[..0], &mut lens);
+    lens[root]
+}
+
+// Formula to rule: 16, then 17. The candidate is the tree's own text, kept where its formula is the input byte for byte.
+// The stack stays small: no accepted rule's formula is deeper than check 12 lets a rule be, so deeper ones are turned away before anything is read;
+// and no rule has more than 256 bytes, so that a tree whose text would be longer, which may be deep, is not written.
 pub fn rebuild(formula: &[u8], out: &mut [u8]) -> Written
     ensures { λ r. ⌜ RebuildAnswers (now (formula .entry)) (now (out .entry)) (now (out .exit)) r ⌝ }
 {
@@ -65,11 +83,14 @@ pub fn rebuild(formula: &[u8], out: &mut [u8]) -> Written
         return Written::Refused(Refusal::NoRulesFormula);
     }
     let mut nodes = [0u32; 4096];
-    let Whole::Root { node, n: _ } = syntax::formula(formula, &mut nodes) else {
+    let Whole::Root { node, n } = syntax::formula(formula, &mut nodes) else {
         return Written::Refused(Refusal::NoRulesFormula);
     };
+    if rule_length(&nodes, n, node) > 256 {
+        return Written::Refused(Refusal::NoRulesFormula);
+    }
     let none = [0u32; 1];
-    let mut text = [0u8; 257];
+    let mut text = [0u8; 256];
     let l = write_rule(&nodes, node, &none[..0], &mut text);
     let mut sheet = [0u8; 4096];
     let Written::Wrote(m) = reduce(&text[..l], &mut sheet) else {
