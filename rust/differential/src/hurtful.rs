@@ -13,6 +13,7 @@ pub fn questions() -> Vec<Question> {
     [
         repeated(),
         brackets(),
+        nested(),
         exponential(),
         generated(),
         largest(),
@@ -67,6 +68,38 @@ fn brackets() -> Vec<Question> {
                 questions.push(Question::Rebuild(closed.clone().into_bytes().into()));
                 questions.push(Question::Reduce(closed.into_bytes().into()));
             }
+        }
+    }
+    questions
+}
+
+/// Brackets 31, 32 and 33 deep, around a term of a rule, of a formula's rule, and of a chain of sets each of
+/// which names the one before it, so that its tree is eight times as deep as its brackets.
+fn nested() -> Vec<Question> {
+    let mut questions = Vec::new();
+    for depth in [31, 32, 33] {
+        for (open, close) in [
+            ("(", "&U)"),
+            ("(U+", ")"),
+            ("OE(", ")"),
+            ("AO(", ")"),
+            ("roles(", ")"),
+            ("operations(", ",U)"),
+            ("operations(U,", ")"),
+            ("(", "-{v1})"),
+        ] {
+            let around = |term: &str| open.repeat(depth) + term + &close.repeat(depth);
+            let rule = around("U") + "=" + &around("R");
+            questions.extend(everywhere(rule.clone().into_bytes()));
+            questions.push(Question::Rebuild(
+                (":".to_string() + &rule).into_bytes().into(),
+            ));
+            let mut chain = String::from("[v1@U]");
+            for digit in 2..9 {
+                chain += &format!("[v{digit}@{}]", around(&format!("v{}", digit - 1)));
+            }
+            chain += &format!(":{}=U", around("v8"));
+            questions.push(Question::Rebuild(chain.into_bytes().into()));
         }
     }
     questions

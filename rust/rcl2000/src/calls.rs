@@ -15,10 +15,10 @@ pub const MAX_TABLES: usize = 3_785;
 pub const MAX_VARIABLES: usize = 8;
 
 /// The stack that [`reduce`] takes at the most, in bytes.
-pub const STACK_REDUCE: usize = 40 * 1024;
+pub const STACK_REDUCE: usize = 16 * 1024;
 
 /// The stack that [`rebuild`] takes at the most, in bytes.
-pub const STACK_REBUILD: usize = 160 * 1024;
+pub const STACK_REBUILD: usize = 48 * 1024;
 
 /// The stack that [`judge`] takes at the most, in bytes.
 pub const STACK_JUDGE: usize = 64 * 1024;
@@ -45,7 +45,7 @@ const NO_CHOICE: &[u8] = b"U=U";
 ///
 /// # Cost
 ///
-/// Microseconds; at most 40 KiB of stack ([`STACK_REDUCE`]).
+/// Microseconds; at most 16 KiB of stack ([`STACK_REDUCE`]).
 pub fn reduce(rule: &[u8]) -> Result<Vec<u8>, Refusal> {
     allocated(MAX_FORMULA, |out| reduce_into(rule, out))
 }
@@ -91,7 +91,7 @@ pub fn reduce_into(rule: &[u8], out: &mut [u8]) -> Result<usize, Refusal> {
 ///
 /// # Cost
 ///
-/// Microseconds, also for text that is meant to hurt; at most 160 KiB of stack
+/// Microseconds, also for text that is meant to hurt; at most 48 KiB of stack
 /// ([`STACK_REBUILD`]).
 pub fn rebuild(formula: &[u8]) -> Result<Vec<u8>, Refusal> {
     allocated(MAX_RULE, |out| rebuild_into(formula, out))
