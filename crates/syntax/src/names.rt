@@ -8,7 +8,7 @@ ghost use Rattle.syntax.specs.Term.{spell, heads, collectionHeads, callH
 ghost use Rattle.syntax.specs.Rule.{spellCmp, cmps, spellBetween, betweens, readNumber};
 ghost use Rattle.syntax.specs.code.Arena.{cmpNumber};
 ghost use Rattle.syntax.specs.code.Nodes.{firstPair};
-ghost use Rattle.syntax.specs.code.Reading.{Stands, Named, headOp, spellJoint, joints, jointOp, betweenOp, itself, digitOf};
+ghost use Rattle.syntax.specs.code.Reading.{Stands, Named, headOp, spellJoint, joints, jointOp, betweenOp, itself, readDigit};
 use super::nodes::AO;
 use super::nodes::BRACKET_HEAD;
 use super::nodes::CHOICE_HEAD;
@@ -229,24 +229,21 @@ pub fn between_at(s: &[u8], at: usize) -> Spelled
     Spelled::Unknown
 }
 
-// No digit: with it no number is written.
-const NO_DIGIT: u32 = 100;
-
 // The digit at a place.
-fn digit_at(s: &[u8], at: usize) -> u32
-    ensures { λ r. ⌜ r ≡ digitOf (drop at (now (s .entry))) ⌝ }
+fn digit_at(s: &[u8], at: usize) -> Spelled
+    ensures { λ r. ⌜ Named itself (now (s .entry)) at r (readDigit (drop at (now (s .entry)))) ⌝ }
 {
     if s.len() <= at {
-        return NO_DIGIT;
+        return Spelled::Unknown;
     }
     let c = s[at];
     if c < 48 {
-        return NO_DIGIT;
+        return Spelled::Unknown;
     }
     if 57 < c {
-        return NO_DIGIT;
+        return Spelled::Unknown;
     }
-    wide(c) - 48
+    Spelled::Name(wide(c) - 48, at + 1)
 }
 
 fn wide(c: u8) -> u32
@@ -260,16 +257,20 @@ pub fn number_at(s: &[u8], at: usize) -> Spelled
     requires { ⌜ at ≤ length (now s) ⌝ }
     ensures { λ r. ⌜ Named itself (now (s .entry)) at r (readNumber (drop at (now (s .entry)))) ⌝ }
 {
-    let a = digit_at(s, at);
-    if 9 < a {
+    let h = digit_at(s, at);
+    let Spelled::Name(a, e) = h else {
         return Spelled::Unknown;
-    }
+    };
     if a == 0 {
-        return Spelled::Name(0, at + 1);
+        return Spelled::Name(a, e);
     }
-    let m = 10 * a + digit_at(s, at + 1);
+    let k = digit_at(s, e);
+    let Spelled::Name(b, f) = k else {
+        return Spelled::Name(a, e);
+    };
+    let m = 10 * a + b;
     if m < 65 {
-        return Spelled::Name(m, at + 2);
+        return Spelled::Name(m, f);
     }
-    Spelled::Name(a, at + 1)
+    Spelled::Name(a, e)
 }

@@ -57,13 +57,10 @@ betweenOp (isSign g) = alikeOp g
 abbrev pub itself : ℕ → ℕ
 itself m = m
 
--- The digit in front, or noDigit, with which no number is written.
-abbrev pub noDigit : ℕ
-noDigit = 100
-
-unfoldable pub digitOf : Bytes → ℕ
-digitOf [] = noDigit
-digitOf (c ∷ s) = cond (ltb c 48) noDigit (cond (ltb 57 c) noDigit (c - 48))
+-- A digit in front.
+unfoldable pub readDigit : Reader ℕ
+readDigit [] = fail
+readDigit (c ∷ s) = cond (ltb c 48) fail (cond (ltb 57 c) fail (got (c - 48) s))
 
 -- The choice at `at` is that of index i, whose node is v.
 pub record Choice (s : Bytes) (at : ℕ) (vars : List ℕ) (v e : ℕ) : Type 0 where

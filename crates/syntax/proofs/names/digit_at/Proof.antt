@@ -1,4 +1,4 @@
--- `digit_at` gives the digit in front, or 100.
+-- `digit_at` gives the digit in front, where one stands there.
 -- Assumes nothing.
 use denote.Ref.{now}
 use native.Mathlib.Omega.{arith}
@@ -22,13 +22,16 @@ returns-3 c = digit-high (now (c .before .before .before .before .before .args .
 wide-requires : tie.Need-wide-requires
 wide-requires c κs = search needs
 
-sub-result : tie.Need-sub-result
-sub-result c = search needs
+sub-t9 : tie.Need-sub-t9
+sub-t9 c = search needs
+
+add-t4 : tie.Need-add-t4
+add-t4 c = search needs
 
 returns-4 : tie.Need-returns-4
-returns-4 c = rw (c .wide .ensures) (digit-is (now (c .before .before .before .before .before .before .args .s)) (c .before .before .before .before .before .before .args .at) (omega arith) (c .before .before .if2 .left) (c .before .if3 .left))
+returns-4 c = digit-is (now (c .before .before .before .before .before .before .args .s)) (c .before .before .before .before .before .before .args .at) (omega arith) (c .before .before .if2 .left) (c .before .if3 .left) (omega (arith, c .wide .ensures))
 
 pub digit-at-spec : {M : Type 1} → statement M
 digit-at-spec =
     tie.close
-    (tie.spec returns shared-slice-read-c returns-2 returns-3 wide-requires sub-result returns-4)
+    (tie.spec returns shared-slice-read-c returns-2 returns-3 wide-requires sub-t9 add-t4 returns-4)
