@@ -17,8 +17,9 @@ use Rattle.syntax.specs.Bytes.{Bytes}
 use Rattle.syntax.specs.Rule.{Rule, RuleFits, ruleText, ruleVars, formula, ruleOf}
 use Rattle.syntax.proofs.RuleLaws.{rule-text}
 use Rattle.syntax.proofs.Length.{formula-short}
-use Rattle.rules.specs.Accept.{deep, treeRefusal, refusal}
+use Rattle.rules.specs.Accept.{ruleLimit, choicesLimit, deep, treeRefusal, refusal}
 use Rattle.rules.specs.Kind.{ruleKinds}
+use Rattle.rules.specs.code.Parsed.{FitText}
 
 pub refuse-empty : (s : Bytes) → length s ≡ 0 → refusal s ≡ some RuleLength
 unfolding refusal
@@ -26,38 +27,37 @@ refuse-empty s h =
     let l : length s ≤ 0 = omega arith in
     rw (le-ltb 0 (length s) l, refusal)
 
-pub refuse-long : (s : Bytes) → 256 < length s → refusal s ≡ some RuleLength
+pub refuse-long : (s : Bytes) → ruleLimit < length s → refusal s ≡ some RuleLength
 unfolding refusal
 refuse-long s h =
     let l : 0 < length s = omega arith in
-    rw (lt-ltb 0 (length s) l, lt-leb (length s) 256 h, refusal)
+    rw (lt-ltb 0 (length s) l, lt-leb (length s) ruleLimit h, refusal)
 
-module _ (s : Bytes) (lo : 0 < length s) (hi : length s ≤ 256) where
-  pub refuse-deep : deep 0 0 s ≡ true → refusal s ≡ some Deep
+pub refuse-deep : (s : Bytes) → 0 < length s → length s ≤ ruleLimit → deep 0 0 s ≡ true → refusal s ≡ some Deep
+unfolding refusal
+refuse-deep s lo hi d = rw (lt-ltb 0 (length s) lo, le-leb (length s) ruleLimit hi, d, refusal)
+
+module _ (s : Bytes) (f : FitText s) where
+  pub refuse-text : ruleOf s ≡ none → refusal s ≡ some NotARule
   unfolding refusal
-  refuse-deep d = rw (lt-ltb 0 (length s) lo, le-leb (length s) 256 hi, d, refusal)
+  refuse-text e = rw (lt-ltb 0 (length s) (f .long), le-leb (length s) ruleLimit (f .short), f .shallow, e, refusal)
 
-  module _ (d : deep 0 0 s ≡ false) where
-    pub refuse-text : ruleOf s ≡ none → refusal s ≡ some NotARule
-    unfolding refusal
-    refuse-text e = rw (lt-ltb 0 (length s) lo, le-leb (length s) 256 hi, d, e, refusal)
-
-    pub refuse-tree : {ρ : Rule} → ruleOf s ≡ some ρ → refusal s ≡ treeRefusal ρ
-    unfolding refusal
-    refuse-tree e = rw (lt-ltb 0 (length s) lo, le-leb (length s) 256 hi, d, e, refusal)
+  pub refuse-tree : {ρ : Rule} → ruleOf s ≡ some ρ → refusal s ≡ treeRefusal ρ
+  unfolding refusal
+  refuse-tree e = rw (lt-ltb 0 (length s) (f .long), le-leb (length s) ruleLimit (f .short), f .shallow, e, refusal)
 
 module _ (ρ : Rule) where
   pub tree-mismatch : ruleKinds ρ ≡ false → treeRefusal ρ ≡ some KindMismatch
   unfolding treeRefusal
   tree-mismatch k = rw (k, treeRefusal)
 
-  pub tree-choices : ruleKinds ρ ≡ true → 8 < length (ruleVars [] ρ) → treeRefusal ρ ≡ some Choices
+  pub tree-choices : ruleKinds ρ ≡ true → choicesLimit < length (ruleVars [] ρ) → treeRefusal ρ ≡ some Choices
   unfolding treeRefusal
-  tree-choices k c = rw (k, lt-leb (length (ruleVars [] ρ)) 8 c, treeRefusal)
+  tree-choices k c = rw (k, lt-leb (length (ruleVars [] ρ)) choicesLimit c, treeRefusal)
 
-  pub tree-fits : ruleKinds ρ ≡ true → length (ruleVars [] ρ) ≤ 8 → treeRefusal ρ ≡ none
+  pub tree-fits : ruleKinds ρ ≡ true → length (ruleVars [] ρ) ≤ choicesLimit → treeRefusal ρ ≡ none
   unfolding treeRefusal
-  tree-fits k c = rw (k, le-leb (length (ruleVars [] ρ)) 8 c, treeRefusal)
+  tree-fits k c = rw (k, le-leb (length (ruleVars [] ρ)) choicesLimit c, treeRefusal)
 
   -- The other way round: no refusal, so the kinds fit and the variables are few.
   module _ (e : treeRefusal ρ ≡ none) where
@@ -68,10 +68,10 @@ module _ (ρ : Rule) where
         go true k = k
         go false k = cc (tree-mismatch k, e)
 
-    pub tree-few : length (ruleVars [] ρ) ≤ 8
-    tree-few = go (decLt 8 (length (ruleVars [] ρ)))
+    pub tree-few : length (ruleVars [] ρ) ≤ choicesLimit
+    tree-few = go (decLt choicesLimit (length (ruleVars [] ρ)))
       where
-        go : Dec (8 < length (ruleVars [] ρ)) → length (ruleVars [] ρ) ≤ 8
+        go : Dec (choicesLimit < length (ruleVars [] ρ)) → length (ruleVars [] ρ) ≤ choicesLimit
         go (yes l) = let z : _≡_ {A = ℕ} 0 1 = cc (tree-choices tree-kinds l, e) in absurd (omega arith)
         go (no n) = omega arith
 
@@ -89,16 +89,16 @@ pub record Accepted (s : Bytes) : Type 0 where
   pub reads : ruleOf s ≡ some rule
   pub text : s ≡ ruleText [] rule
   pub numbers : RuleFits rule
-  pub short : length s ≤ 256
+  pub short : length s ≤ ruleLimit
   pub shallow : deep 0 0 s ≡ false
   pub fits : treeRefusal rule ≡ none
-  pub few : length (ruleVars [] rule) ≤ 8
+  pub few : length (ruleVars [] rule) ≤ choicesLimit
 
 pub accepted-gives : (s : Bytes) → refusal s ≡ none → Accepted s
 unfolding refusal
-accepted-gives s e = go (ltb 0 (length s) && leb (length s) 256) (deep 0 0 s) (ruleOf s) refl refl refl e
+accepted-gives s e = go (ltb 0 (length s) && leb (length s) ruleLimit) (deep 0 0 s) (ruleOf s) refl refl refl e
   where
-    go : (b d : Bool) (o : Option Rule) → (ltb 0 (length s) && leb (length s) 256) ≡ b → deep 0 0 s ≡ d → ruleOf s ≡ o → firstOf b d o ≡ none → Accepted s
+    go : (b d : Bool) (o : Option Rule) → (ltb 0 (length s) && leb (length s) ruleLimit) ≡ b → deep 0 0 s ≡ d → ruleOf s ≡ o → firstOf b d o ≡ none → Accepted s
     go false d o p h q e = let z : _≡_ {A = ℕ} 0 1 = cc in absurd (omega arith)
     go true true o p h q e = let z : _≡_ {A = ℕ} 0 1 = cc in absurd (omega arith)
     go true false none p h q e = let z : _≡_ {A = ℕ} 0 1 = cc in absurd (omega arith)
@@ -109,7 +109,7 @@ accepted-gives s e = go (ltb 0 (length s) && leb (length s) 256) (deep 0 0 s) (r
           reads = q;
           text = w .0;
           numbers = w .1;
-          short = leb-true _ _ (and-eq-true-iff (ltb 0 (length s)) (leb (length s) 256) .0 p .1);
+          short = leb-true _ _ (and-eq-true-iff (ltb 0 (length s)) (leb (length s) ruleLimit) .0 p .1);
           shallow = h;
           fits = e;
           few = tree-few ρ e;
@@ -134,7 +134,7 @@ Early r = (11 ≤ numberOf r) × (numberOf r ≤ 15)
 
 tree-early : (ρ : Rule) (r : Refusal) → treeRefusal ρ ≡ some r → Early r
 unfolding treeRefusal
-tree-early ρ r e = go (ruleKinds ρ) (leb (length (ruleVars [] ρ)) 8) e
+tree-early ρ r e = go (ruleKinds ρ) (leb (length (ruleVars [] ρ)) choicesLimit) e
   where
     go : (k b : Bool) → _≡_ {A = Option Refusal} (elim k [ false ↦ some KindMismatch | true ↦ elim b [ false ↦ some Choices | true ↦ none ] ]) (some r) → Early r
     go false b q = let p : KindMismatch ≡ r = cc in rw (← p) (lit≤ tt, lit≤ tt)
@@ -143,7 +143,7 @@ tree-early ρ r e = go (ruleKinds ρ) (leb (length (ruleVars [] ρ)) 8) e
 
 pub refused-early : (s : Bytes) (r : Refusal) → refusal s ≡ some r → Early r
 unfolding refusal
-refused-early s r e = go (ltb 0 (length s) && leb (length s) 256) (deep 0 0 s) (ruleOf s) e
+refused-early s r e = go (ltb 0 (length s) && leb (length s) ruleLimit) (deep 0 0 s) (ruleOf s) e
   where
     go : (b d : Bool) (o : Option Rule) → firstOf b d o ≡ some r → Early r
     go false d o q = let p : RuleLength ≡ r = cc in rw (← p) (lit≤ tt, lit≤ tt)

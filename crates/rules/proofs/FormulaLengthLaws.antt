@@ -12,7 +12,7 @@ use Rattle.syntax.specs.Rule.{Rule, ruleText, ruleVars, quantifiers, formulaWit
 use Rattle.syntax.specs.code.Arena.{HoldsAll, HoldsRule}
 use Rattle.syntax.specs.code.Reading.{mk, Knows}
 use Rattle.rules.specs.code.Thing.{term, rule}
-use Rattle.rules.specs.code.Lengths.{capped, Measured, quantifierLength, FormulaLength}
+use Rattle.rules.specs.code.Lengths.{lengthCap, capped, Measured, quantifierLength, FormulaLength}
 
 -- The lengths of the quantifiers, which are capped one by one, against those of their texts.
 quantifiers-length : (ns ls : List ℕ) (n : ℕ) (τ : Choices) → Measured ns τ n ls → (vs : List ℕ) (d : ℕ) (xs : Choices) → HoldsAll ns vs xs → ((i : ℕ) → i < length vs → getD vs i 0 < n) → capped (quantifierLength ls vs) ≡ capped (length (quantifiers τ d xs))
@@ -27,12 +27,12 @@ quantifiers-length ns ls n τ m (v ∷ vs) d (x ∷ xs) y b =
 capped-sum : (r q a b : ℕ) → r ≡ capped a → capped q ≡ capped b → capped (1 + capped r + q) ≡ capped (b + (1 + a))
 capped-sum r q a b e f = omega arith
 
-capped-small : (t q l : ℕ) → t ≤ 65535 → q ≡ 0 → capped (t + q) ≡ l → t ≡ l
+capped-small : (t q l : ℕ) → t ≤ lengthCap → q ≡ 0 → capped (t + q) ≡ l → t ≡ l
 capped-small t q l h e f = omega arith
 
 -- A loop has added the first i quantifiers to the rule's length.
 pub record Totalled (ls vs : List ℕ) (root i t : ℕ) : Type 0 where
-  pub small : t ≤ 65535
+  pub small : t ≤ lengthCap
   pub is : capped (t + quantifierLength ls (drop i vs)) ≡ capped (1 + capped (getD ls root 0) + quantifierLength ls vs)
 
 pub totalled-none : {ls vs : List ℕ} {root l t : ℕ} → l ≡ capped (getD ls root 0) → t ≡ capped (1 + l) → Totalled ls vs root 0 t

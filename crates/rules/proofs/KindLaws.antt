@@ -10,7 +10,6 @@ use native.Mathlib.Omega.{arith}
 use native.Mathlib.Nat.{eq-or-lt-of-le}
 use lib.Dec.{T, eqb, ltb, lit<, lit≤}
 use lib.ListN.{length, getD, set}
-use lib.Seq.{getD-set-same, getD-set-other}
 use borrow.Author.Tests.{lt-ltb, le-ltb}
 use Rattle.syntax.specs.Term.{Base, bU, bR, bOP, bOBJ, bP, bS, bCR, bCP, bCU, Fn, user, roles, roles*, sessions, permissions, permissions*, object}
 use Rattle.syntax.specs.Term.{operations, meet, join, Term, base, call, oe, ao, two, Pair, calls, joins}
@@ -18,14 +17,14 @@ use Rattle.syntax.specs.Rule.{Cmp, lt, le, gt, ge, eq, ne, Sign, is, isnt, numb
 use Rattle.syntax.specs.Rule.{Clause, plain, when, Rule, last, also}
 use Rattle.syntax.specs.code.Arena.{baseOp, fnOp, twoOp, alikeOp, emptyOp, cmpNumber, One}
 use Rattle.syntax.specs.code.Arena.{Holds, HoldsTest, HoldsClause, HoldsRule}
-use Rattle.syntax.specs.code.Nodes.{firstCall, oeOp, aoOp, firstPair, memberOp, firstAlike, firstEmpty, firstNumbered, firstCounted, whenOp, alsoOp, opAt, leftAt, rightAt, opRoom}
+use Rattle.syntax.specs.code.Nodes.{firstCall, oeOp, aoOp, firstPair, memberOp, firstAlike, firstEmpty, firstNumbered, firstCounted, whenOp, alsoOp, opAt, leftAt, rightAt, opRoom, operationOf, leftOf, rightOf}
 use Rattle.syntax.proofs.ArenaLaws.{base-small, two-range, Parts, none-parts, one-parts, both-parts}
 use Rattle.rules.specs.Kind.{Kind, Kind≟, holds, oneOf, baseKind, takes, makes, ofElement}
 use Rattle.rules.specs.Kind.{callKind, inside, oneKind, othersKind, asSet, joined, row, call2Kind, twoKind, with, kind, check, countable, isMember, countKinds}
 use Rattle.rules.specs.Kind.{testKinds, clauseKinds, ruleKinds}
-use Rattle.rules.specs.code.Numbers.{noKind, kindsFit, kindList, kindOf, oneArgument, oneTable, oneNumber, setNumber, pairTable, call2Number, twoNumber, countableNumber, fitsNumber, nodeNumber, KindAt, Kinded}
+use Rattle.rules.specs.code.Numbers.{kindCount, noKind, kindsFit, kindList, kindOf, oneArgument, oneTable, oneNumber, setNumber, pairTable, call2Number, twoNumber, countableNumber, fitsNumber, nodeNumber, stepNumber, KindAt, Kinded}
 use Rattle.rules.proofs.TableLaws.{left-of-and, right-of-and, entry, upto, below, pair}
-use Rattle.rules.proofs.NodeLaws.{numbered-parts}
+use Rattle.rules.proofs.NodeLaws.{numbered-parts, more-at}
 
 -- Tests of equality that are computed.
 
@@ -77,11 +76,11 @@ numbers z k t =
 
 -- The table of one argument, at all of its entries.
 tableRight : ℕ → ℕ → Bool
-tableRight k x = numbersB x (with (kindOf (k % 15)) (getD oneArgument (k / 15) (λ _. none)))
+tableRight k x = numbersB x (with (kindOf (k % kindCount)) (getD oneArgument (k / kindCount) (λ _. none)))
 
-table-law : (k : ℕ) → k < 135 → Numbers (getD oneTable k 0) (with (kindOf (k % 15)) (getD oneArgument (k / 15) (λ _. none)))
+table-law : (k : ℕ) → k < 135 → Numbers (getD oneTable k 0) (with (kindOf (k % kindCount)) (getD oneArgument (k / kindCount) (λ _. none)))
 unfolding tableRight numbersB sameKind kindOf kindList oneArgument callKind oneOf takes makes ofElement oneKind inside othersKind oneTable
-table-law k h = numbers (getD oneTable k 0) (with (kindOf (k % 15)) (getD oneArgument (k / 15) (λ _. none))) (entry tableRight oneTable tt k h)
+table-law k h = numbers (getD oneTable k 0) (with (kindOf (k % kindCount)) (getD oneArgument (k / kindCount) (λ _. none))) (entry tableRight oneTable tt k h)
 
 one-law : (o x : ℕ) → firstCall ≤ o → o < firstPair → x < kindsFit → Numbers (oneNumber o x) (with (kindOf x) (getD oneArgument (o - firstCall) (λ _. none)))
 unfolding oneNumber kindOf kindList
@@ -95,9 +94,9 @@ one-law o x lo hi h = ⊎-elim at-none at-some (eq-or-lt-of-le le)
 
     at-some : x < noKind → Numbers (oneNumber o x) (with (kindOf x) (getD oneArgument (o - firstCall) (λ _. none)))
     at-some l =
-        let k : ℕ = 15 * (o - firstCall) + x in
-        let p : k % 15 ≡ x = omega arith in
-        let q : k / 15 ≡ o - firstCall = omega arith in
+        let k : ℕ = kindCount * (o - firstCall) + x in
+        let p : k % kindCount ≡ x = omega arith in
+        let q : k / kindCount ≡ o - firstCall = omega arith in
         rw (lt-ltb x noKind l) (rw p at (rw q at (table-law k (omega arith))))
 
 -- Two arguments, at all pairs of numbers.
@@ -178,8 +177,9 @@ fits-law o a b h =
 
 -- A node's number, by the numbers of the nodes below it.
 
-abbrev pub stepNumber : List ℕ → List ℕ → ℕ → ℕ
-stepNumber ns ks k = nodeNumber (opAt ns k) (getD ks (leftAt ns k) noKind) (getD ks (rightAt ns k) noKind)
+pub number-is : (ks : List ℕ) (v : ℕ) {o i j a b : ℕ} → o ≡ operationOf v → i ≡ leftOf v → j ≡ rightOf v → a ≡ getD ks i noKind → b ≡ getD ks j noKind
+    → nodeNumber o a b ≡ stepNumber ks v
+number-is ks v op left right a b = rw (a, b, op, left, right)
 
 -- The operation o makes a term of one argument, whose kind f gives.
 record MakesKind (o : ℕ) (f : Kind → Option Kind) : Type 0 where
@@ -260,13 +260,13 @@ module _ (ns ks : List ℕ) (k : ℕ) (below : Kinded ns k ks) where
       let w = below .at j h .term b x in
       rw p (record { small = w .0; is = w .1 })
 
-  one-step : {o i : ℕ} {f : Kind → Option Kind} (a : Term) → MakesKind o f → One ns k o i → Holds ns i a → Numbers (stepNumber ns ks k) (with (kind a) f)
+  one-step : {o i : ℕ} {f : Kind → Option Kind} (a : Term) → MakesKind o f → One ns k o i → Holds ns i a → Numbers (stepNumber ks (getD ns k 0)) (with (kind a) f)
   one-step {o} {i} {f} a m x y =
       let p = one-parts x (omega arith) in
       let w = at-left a p (x .below) y in
       rw (p .op, ← w .is) (one-numbers m (getD ks (leftAt ns k) noKind) (getD ks (rightAt ns k) noKind) (w .small))
 
-  term-step : (t : Term) → Holds ns k t → Numbers (stepNumber ns ks k) (kind t)
+  term-step : (t : Term) → Holds ns k t → Numbers (stepNumber ks (getD ns k 0)) (kind t)
   unfolding Holds kind
   term-step (base b) x = let h : baseOp b < opRoom = omega (arith, base-small b) in rw (none-parts x h .op) (base-numbers b (getD ks (leftAt ns k) noKind) (getD ks (rightAt ns k) noKind))
   term-step (call f a) x = one-step a (fn-makes f) (x .1) (x .2)
@@ -280,16 +280,16 @@ module _ (ns ks : List ℕ) (k : ℕ) (below : Kinded ns k ks) where
       rw (p .op, ← v .is, ← w .is) (two-numbers o (getD ks (leftAt ns k) noKind) (getD ks (rightAt ns k) noKind) (v .small) (w .small))
 
   -- The number of a test, a clause or a rule is kindsFit where it fits.
-  fits-step : {o i j : ℕ} → memberOp ≤ o → Parts (getD ns k 0) o i j → eqb (stepNumber ns ks k) kindsFit ≡ fitsNumber o (getD ks (leftAt ns k) noKind) (getD ks (rightAt ns k) noKind)
+  fits-step : {o i j : ℕ} → memberOp ≤ o → Parts (getD ns k 0) o i j → eqb (stepNumber ks (getD ns k 0)) kindsFit ≡ fitsNumber o (getD ks (leftAt ns k) noKind) (getD ks (rightAt ns k) noKind)
   fits-step {o} h p = rw (p .op) (fits-law o (getD ks (leftAt ns k) noKind) (getD ks (rightAt ns k) noKind) h)
 
-  counted-step : {o i j : ℕ} (a : Term) → firstEmpty ≤ o → o < firstCounted → Parts (getD ns k 0) o i j → i < k → Holds ns i a → eqb (stepNumber ns ks k) kindsFit ≡ check (kind a) countable
+  counted-step : {o i j : ℕ} (a : Term) → firstEmpty ≤ o → o < firstCounted → Parts (getD ns k 0) o i j → i < k → Holds ns i a → eqb (stepNumber ks (getD ns k 0)) kindsFit ≡ check (kind a) countable
   counted-step {o} a lo hi p h x =
       let w = at-left a p h x in
       let q : memberOp ≤ o = omega arith in
       fits-step q p ∙ counted-law o (getD ks (leftAt ns k) noKind) (getD ks (rightAt ns k) noKind) lo hi ∙ countable-law (getD ks (leftAt ns k) noKind) (w .small) ∙ rw (w .is)
 
-  test-step : (p : Test) → HoldsTest ns k p → eqb (stepNumber ns ks k) kindsFit ≡ testKinds p
+  test-step : (p : Test) → HoldsTest ns k p → eqb (stepNumber ks (getD ns k 0)) kindsFit ≡ testKinds p
   unfolding HoldsTest testKinds countKinds
   test-step (member a b) x =
       let p = both-parts (x .2) (lit< tt) in
@@ -319,7 +319,7 @@ module _ (ns ks : List ℕ) (k : ℕ) (below : Kinded ns k ks) where
       ∙ counts-law (firstCounted + cmpNumber c) (getD ks (leftAt ns k) noKind) (getD ks (rightAt ns k) noKind) (omega arith) (omega arith)
       ∙ rw (← v .is, ← w .is) (ap₂ _&&_ (countable-law (getD ks (leftAt ns k) noKind) (v .small)) (countable-law (getD ks (rightAt ns k) noKind) (w .small)))
 
-  clause-step : (c : Clause) → HoldsClause ns k c → eqb (stepNumber ns ks k) kindsFit ≡ clauseKinds c
+  clause-step : (c : Clause) → HoldsClause ns k c → eqb (stepNumber ks (getD ns k 0)) kindsFit ≡ clauseKinds c
   unfolding HoldsClause clauseKinds
   clause-step (plain p) x = test-step p x
   clause-step (when p q) x =
@@ -328,7 +328,7 @@ module _ (ns ks : List ℕ) (k : ℕ) (below : Kinded ns k ks) where
       ∙ joined-law whenOp (getD ks (leftAt ns k) noKind) (getD ks (rightAt ns k) noKind) (lit≤ tt)
       ∙ rw (w .left, w .right) (ap₂ _&&_ (below .at (x .0) (x .2 .below) .test p (x .3)) (below .at (x .1) (x .2 .below₂) .test q (x .4)))
 
-  rule-step : (ρ : Rule) → HoldsRule ns k ρ → eqb (stepNumber ns ks k) kindsFit ≡ ruleKinds ρ
+  rule-step : (ρ : Rule) → HoldsRule ns k ρ → eqb (stepNumber ks (getD ns k 0)) kindsFit ≡ ruleKinds ρ
   unfolding HoldsRule ruleKinds
   rule-step (last c) x = clause-step c x
   rule-step (also c ρ) x =
@@ -338,20 +338,11 @@ module _ (ns ks : List ℕ) (k : ℕ) (below : Kinded ns k ks) where
       ∙ rw (w .left, w .right) (ap₂ _&&_ (below .at (x .0) (x .2 .below) .clause c (x .3)) (below .at (x .1) (x .2 .below₂) .rule ρ (x .4)))
 
   -- One node more.
-  pub kind-step : {x : ℕ} → x ≡ stepNumber ns ks k → k < length ks → Kinded ns (k + 1) (set ks k x)
-  kind-step {x} e h = record { at = λ j hj. ⊎-elim (at-k j) (below-k j) (eq-or-lt-of-le (le j hj)) }
+  pub kind-step : {x : ℕ} → x ≡ stepNumber ks (getD ns k 0) → k < length ks → Kinded ns (k + 1) (set ks k x)
+  kind-step {x} e h = record { at = more-at (KindAt ns) ks k x noKind h (below .at) (rw e here) }
     where
-      le : (j : ℕ) → j < k + 1 → j ≤ k
-      le j hj = omega arith
-
-      here : KindAt ns k (stepNumber ns ks k)
+      here : KindAt ns k (stepNumber ks (getD ns k 0))
       here = record { term = λ t y. let w = term-step t y in (w .small, w .is); test = test-step; clause = clause-step; rule = rule-step }
-
-      at-k : (j : ℕ) → j ≡ k → KindAt ns j (getD (set ks k x) j noKind)
-      at-k j q = rw (q, getD-set-same ks k x noKind h, e) here
-
-      below-k : (j : ℕ) → j < k → KindAt ns j (getD (set ks k x) j noKind)
-      below-k j l = rw (getD-set-other ks k j x noKind (omega arith)) (below .at j l)
 
 pub kind-none : (ns ks : List ℕ) → Kinded ns 0 ks
 kind-none ns ks = record { at = λ k h. absurd (omega arith) }

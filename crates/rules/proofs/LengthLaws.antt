@@ -5,11 +5,9 @@ use mathlib.Core.Bool.{Bool, true, false, cond}
 use mathlib.Core.List.{List}
 use mathlib.Core.Option.{Option, none, some}
 use Prim.Native.Nat.{ℕ, _+_, _<_, _≤_}
-use native.Mathlib.Nat.{eq-or-lt-of-le}
 use native.Mathlib.Omega.{arith}
 use lib.Dec.{ltb, leb, leb→le}
 use lib.ListN.{length, getD, set, length-append}
-use lib.Seq.{take-length, getD-set-same, getD-set-other}
 use mathlib.Core.Logic.{⊎-elim}
 use borrow.Author.Tests.{lt-ltb, le-ltb, ne-eqb}
 use Rattle.syntax.specs.Term.{Base, bU, bR, bOP, bOBJ, bP, bS, bCR, bCP, bCU, Fn, user, roles, roles*, sessions, permissions, permissions*, object}
@@ -18,15 +16,16 @@ use Rattle.syntax.specs.Term.{spell, spellMiddle, oeText, aoText, text, Pair, c
 use Rattle.syntax.specs.Rule.{Cmp, lt, le, gt, ge, eq, ne, Sign, is, isnt, number, count, Test, member, alike, empty, sized}
 use Rattle.syntax.specs.Rule.{Clause, plain, when, last, also, spellCmp, isSign, spellBetween, digits, countText, testText, clauseText, ruleText}
 use Rattle.syntax.specs.code.Arena.{baseOp, fnOp, twoOp, alikeOp, emptyOp, cmpNumber, hasTwo, One, Both, Holds, HoldsTest, HoldsClause, HoldsRule, Apart}
-use Rattle.syntax.specs.code.Reading.{mk, Knows, Sought}
-use Rattle.syntax.specs.code.Nodes.{firstCall, oeOp, aoOp, firstPair, firstJoin, memberOp, firstEmpty, firstNumbered, firstCounted, whenOp, alsoOp, opsEnd, opAt, leftAt, rightAt, opRoom}
+use Rattle.syntax.specs.code.Reading.{mk, Knows}
+use Rattle.syntax.specs.code.Nodes.{firstCall, oeOp, aoOp, firstPair, firstJoin, memberOp, firstEmpty, firstNumbered, firstCounted, whenOp, alsoOp, opsEnd, opAt, leftAt, rightAt, opRoom, operationOf, leftOf, rightOf}
 use Rattle.rules.specs.code.Thing.{Thing, term, test, clause, rule, HoldsThing, thingText}
-use Rattle.rules.specs.code.Lengths.{extraTable, extra, plainLength, knownLength, nodeLength, capped, Measured}
+use Rattle.rules.specs.code.Lengths.{extraTable, extra, plainLength, knownLength, nodeLength, stepLength, capped, Measured}
+use Rattle.rules.specs.code.Variables.{placeIn}
 use Rattle.rules.proofs.TableLaws.{entry}
 use Rattle.syntax.proofs.ArenaLaws.{base-small, fn-range, two-range, Parts, none-parts, one-parts, both-parts}
 use Rattle.rules.proofs.KindLaws.{alike-op, empty-op, cmp-number}
-use Rattle.rules.proofs.NodeLaws.{numbered-parts, lt-or-le}
-use Rattle.rules.proofs.VariableLaws.{digit-found, found-digit}
+use Rattle.rules.proofs.NodeLaws.{numbered-parts, lt-or-le, more-at}
+use Rattle.rules.proofs.VariableLaws.{digit-found}
 use Rattle.rules.proofs.WalkLaws.{two-less, two-none, two-low, two-high}
 
 -- The table: no entry is above 14, and each is the length of what is spelled.
@@ -254,12 +253,9 @@ single-none o h gap =
     (λ (l : oeOp ≤ o). two-none o (gap l) (omega arith))
     (lt-or-le o oeOp)
 
--- The length at a node, by those below it.
-abbrev pub stepLength : List ℕ → List ℕ → ℕ → Bool → ℕ
-stepLength ns ls k t = capped (nodeLength (opAt ns k) t (capped (getD ls (leftAt ns k) 0)) (capped (getD ls (rightAt ns k) 0)) (rightAt ns k))
-
-pub step-is : (ns ls : List ℕ) (k : ℕ) (t : Bool) (a b : ℕ) {z : ℕ} → a ≡ capped (getD ls (leftAt ns k) 0) → b ≡ capped (getD ls (rightAt ns k) 0) → z ≡ nodeLength (opAt ns k) t a b (rightAt ns k) → capped z ≡ stepLength ns ls k t
-step-is ns ls k t a b p q e = rw (e, p, q)
+pub step-is : (ls vs : List ℕ) (v : ℕ) {o i j p a b z : ℕ} → o ≡ operationOf v → i ≡ leftOf v → j ≡ rightOf v → p ≡ placeIn i vs
+    → a ≡ capped (getD ls i 0) → b ≡ capped (getD ls j 0) → z ≡ nodeLength o (ltb p (length vs)) a b j → capped z ≡ stepLength ls vs v
+step-is ls vs v op left right place a b e = rw (e, a, b, place, op, left, right)
 
 some-true : (t : Bool) (y : ℕ) {d : ℕ} → cond t (some y) none ≡ some d → t ≡ true
 some-true true y e = refl
@@ -269,11 +265,15 @@ none-false : (t : Bool) (y : ℕ) → cond t (some y) none ≡ none → t ≡ fa
 none-false true y e = let z : _≡_ {A = ℕ} 0 1 = cc in absurd (omega arith)
 none-false false y e = refl
 
-module _ {ns vs ls : List ℕ} {n k r : ℕ} {σ : Choices} (apart : Apart ns n) (h : k < n) (c : Knows (mk ns n) vs σ) (m : Measured ns σ k ls) (s : Sought vs (length vs) (leftAt ns k) r) where
-  digit-is : (a : Term) → leftAt ns k < k → Holds ns (leftAt ns k) a → digit σ a ≡ cond (ltb r (length vs)) (some (49 + r)) none
-  digit-is a l w = digit-found ns n apart (leftAt ns k) a w (omega arith) 49 vs σ (c .holds) (c .below) ∙ rw (take-length vs) at (found-digit (omega arith) s)
+module _ {ns vs ls : List ℕ} {n k : ℕ} {σ : Choices} (apart : Apart ns n) (h : k < n) (c : Knows (mk ns n) vs σ) (m : Measured ns σ k ls) where
+  -- Whether the choice of the node at the left is known.
+  abbrev known : Bool
+  known = ltb (placeIn (leftAt ns k) vs) (length vs)
 
-  length-here : (x : Thing) → HoldsThing ns k x → stepLength ns ls k (ltb r (length vs)) ≡ capped (len σ x)
+  digit-is : (a : Term) → leftAt ns k < k → Holds ns (leftAt ns k) a → digit σ a ≡ cond known (some (49 + placeIn (leftAt ns k) vs)) none
+  digit-is a l w = digit-found ns n apart (leftAt ns k) a w (omega arith) 49 vs σ (c .holds) (c .below)
+
+  length-here : (x : Thing) → HoldsThing ns k x → stepLength ls vs (getD ns k 0) ≡ capped (len σ x)
   length-here x w = go (spelt ns k σ x w)
     where
       A : ℕ
@@ -282,37 +282,31 @@ module _ {ns vs ls : List ℕ} {n k r : ℕ} {σ : Choices} (apart : Apart ns n)
       B : ℕ
       B = capped (getD ls (rightAt ns k) 0)
 
-      go : Spelt ns k σ x → capped (nodeLength (opAt ns k) (ltb r (length vs)) A B (rightAt ns k)) ≡ capped (len σ x)
-      go (bare l e) = rw (node-bare (opAt ns k) A B (rightAt ns k) (ltb r (length vs)) l, e)
-      go (chosen a o l v d e) = rw (some-true (ltb r (length vs)) (49 + r) (sym (digit-is a l v) ∙ d), node-chosen (opAt ns k) A B (rightAt ns k) o, e)
+      go : Spelt ns k σ x → capped (nodeLength (opAt ns k) known A B (rightAt ns k)) ≡ capped (len σ x)
+      go (bare l e) = rw (node-bare (opAt ns k) A B (rightAt ns k) known l, e)
+      go (chosen a o l v d e) = rw (some-true known (49 + placeIn (leftAt ns k) vs) (sym (digit-is a l v) ∙ d), node-chosen (opAt ns k) A B (rightAt ns k) o, e)
       go (others a o l v d e) =
-          rw (some-true (ltb r (length vs)) (49 + r) (sym (digit-is a l v) ∙ d), node-others (opAt ns k) A B (rightAt ns k) o)
+          rw (some-true known (49 + placeIn (leftAt ns k) vs) (sym (digit-is a l v) ∙ d), node-others (opAt ns k) A B (rightAt ns k) o)
           (omega (arith, e, m .at (leftAt ns k) (term a) l v))
       go (unknown a lo hi l v d e) =
-          rw (none-false (ltb r (length vs)) (49 + r) (sym (digit-is a l v) ∙ d), node-unknown (opAt ns k) A B (rightAt ns k) (omega arith), plain-one (opAt ns k) A B (rightAt ns k) (two-less (opAt ns k) hi) (omega arith))
+          rw (none-false known (49 + placeIn (leftAt ns k) vs) (sym (digit-is a l v) ∙ d), node-unknown (opAt ns k) A B (rightAt ns k) (omega arith), plain-one (opAt ns k) A B (rightAt ns k) (two-less (opAt ns k) hi) (omega arith))
           (omega (arith, e, m .at (leftAt ns k) (term a) l v))
       go (single y lo hi gap l v e) =
-          rw (node-plain (opAt ns k) A B (rightAt ns k) (ltb r (length vs)) lo (λ z. omega (arith, gap z)), plain-one (opAt ns k) A B (rightAt ns k) (single-none (opAt ns k) hi gap) hi)
+          rw (node-plain (opAt ns k) A B (rightAt ns k) known lo (λ z. omega (arith, gap z)), plain-one (opAt ns k) A B (rightAt ns k) (single-none (opAt ns k) hi gap) hi)
           (omega (arith, e, m .at (leftAt ns k) y l v))
       go (numbered y lo hi l v e) =
-          rw (node-plain (opAt ns k) A B (rightAt ns k) (ltb r (length vs)) (omega arith) (λ z. omega arith), plain-number (opAt ns k) A B (rightAt ns k) (two-none (opAt ns k) (omega arith) hi) lo)
+          rw (node-plain (opAt ns k) A B (rightAt ns k) known (omega arith) (λ z. omega arith), plain-number (opAt ns k) A B (rightAt ns k) (two-none (opAt ns k) (omega arith) hi) lo)
           (omega (arith, e, m .at (leftAt ns k) y l v))
       go (double y z lo both l l′ v w e) =
-          rw (node-plain (opAt ns k) A B (rightAt ns k) (ltb r (length vs)) (omega arith) (λ _. lo), plain-two (opAt ns k) A B (rightAt ns k) both)
+          rw (node-plain (opAt ns k) A B (rightAt ns k) known (omega arith) (λ _. lo), plain-two (opAt ns k) A B (rightAt ns k) both)
           (omega (arith, e, m .at (leftAt ns k) y l v, m .at (rightAt ns k) z l′ w))
 
   -- One node more.
-  pub measured-next : {l : ℕ} → l ≡ stepLength ns ls k (ltb r (length vs)) → k < length ls → Measured ns σ (k + 1) (set ls k l)
-  measured-next {l} e small = record { at = λ i x hi w. ⊎-elim (at-k i x w) (below-k i x w) (eq-or-lt-of-le (le i hi)) }
-    where
-      le : (i : ℕ) → i < k + 1 → i ≤ k
-      le i hi = omega arith
-
-      at-k : (i : ℕ) (x : Thing) → HoldsThing ns i x → i ≡ k → getD (set ls k l) i 0 ≡ capped (len σ x)
-      at-k i x w q = rw (q, getD-set-same ls k l 0 small, e) (length-here x (rw q at w))
-
-      below-k : (i : ℕ) (x : Thing) → HoldsThing ns i x → i < k → getD (set ls k l) i 0 ≡ capped (len σ x)
-      below-k i x w q = rw (getD-set-other ls k i l 0 (omega arith)) (m .at i x q w)
+  pub measured-next : {l : ℕ} → l ≡ stepLength ls vs (getD ns k 0) → k < length ls → Measured ns σ (k + 1) (set ls k l)
+  measured-next {l} e small =
+      record {
+        at = λ i x hi w. more-at (λ i (l : ℕ). (x : Thing) → HoldsThing ns i x → l ≡ capped (len σ x)) ls k l 0 small (λ j q x w. m .at j x q w) (λ x w. e ∙ length-here x w) i hi x w;
+      }
 
 pub measured-none : (ns : List ℕ) (σ : Choices) (ls : List ℕ) → Measured ns σ 0 ls
 measured-none ns σ ls = record { at = λ i x h w. absurd (omega arith) }

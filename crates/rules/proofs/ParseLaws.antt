@@ -1,7 +1,6 @@
 -- From the checks on a text and on its tree to what a parsed rule is.
 -- Assumes nothing.
 use mathlib.Core.Path.{_≡_, ap, sym, _∙_}
-use mathlib.Core.Bool.{false}
 use mathlib.Core.List.{List, []}
 use mathlib.Core.Option.{Option, none, some}
 use Prim.Native.Nat.{ℕ, _<_, _≤_}
@@ -20,16 +19,14 @@ use Rattle.syntax.specs.declared.Whole.{Whole}
 use Rattle.syntax.specs.declared.Whole.the-variants.{Nothing, Root}
 use Rattle.rules.specs.declared.Checked.{Checked}
 use Rattle.rules.specs.declared.Checked.the-variants.{Refused, Accepted}
-use Rattle.rules.specs.declared.TreeCheck.{TreeCheck}
-use Rattle.rules.specs.declared.TreeCheck.the-variants.{Unfit, Variables}
 use Rattle.rules.specs.declared.Found.{Found}
 use Rattle.rules.specs.declared.Found.the-variants.{Rejected, Rule as Tree}
 use Rattle.rules.specs.Kind.{ruleKinds}
-use Rattle.rules.specs.Accept.{deep, treeRefusal, refusal}
+use Rattle.rules.specs.Accept.{choicesLimit, refusal}
 use Rattle.rules.specs.code.Numbers.{noKind, kindsFit, Kinded}
 use Rattle.rules.specs.code.Variables.{VarsOf}
 use Rattle.rules.specs.code.Lengths.{LengthsOf, FormulaLength}
-use Rattle.rules.specs.code.Parsed.{RuleAt, Fitted, ChecksTree, unfit, fit, Finds, rejected, found, Blank, Parses}
+use Rattle.rules.specs.code.Parsed.{FitText, ChecksText, turned, passed, RuleAt, Fitted, ChecksTree, unfit, fit, Finds, rejected, found, Blank, Parses}
 use Rattle.rules.proofs.AcceptLaws.{refuse-tree, tree-mismatch, tree-choices, tree-fits, accepted-gives, formula-within}
 use Rattle.rules.proofs.VariableLaws.{listed-count}
 
@@ -38,14 +35,14 @@ module _ {ns : List ℕ} {n root : ℕ} {ks : List ℕ} {x : ℕ} (kinds : Kinde
   rule-kinds : (ρ : Rule) → HoldsRule ns root ρ → eqb x kindsFit ≡ ruleKinds ρ
   rule-kinds ρ h = rw at (kinds .at root within .rule ρ h)
 
-  pub check-tree-mismatch : {vs : List ℕ} → (x ≡ kindsFit → ⊥) → ChecksTree ns n root ks vs (Unfit KindMismatch)
+  pub check-tree-mismatch : {vs : List ℕ} → (x ≡ kindsFit → ⊥) → ChecksTree ns n root ks vs (Rejected KindMismatch)
   check-tree-mismatch e = unfit (λ ρ h. tree-mismatch ρ (sym (rule-kinds ρ h) ∙ ne-eqb x kindsFit e))
 
   module _ {vs : List ℕ} {c : ℕ} (e : x ≡ kindsFit) (vars : VarsOf ns n root vs c) where
-    pub check-tree-choices : 8 < c → ChecksTree ns n root ks vs (Unfit Choices)
+    pub check-tree-choices : choicesLimit < c → ChecksTree ns n root ks vs (Rejected Choices)
     check-tree-choices many = unfit (λ ρ h. tree-choices ρ (sym (rule-kinds ρ h) ∙ eq-eqb x kindsFit e) (vars .listed ρ h .more many))
 
-    pub check-tree-fit : c ≤ 8 → ChecksTree ns n root ks vs (Variables c)
+    pub check-tree-fit : c ≤ choicesLimit → ChecksTree ns n root ks vs (Tree n root c)
     check-tree-fit few = fit go
       where
         go : (ρ : Rule) → HoldsRule ns root ρ → Fitted ns n ks vs c ρ
@@ -63,13 +60,13 @@ module _ {ns : List ℕ} {n root : ℕ} {ks : List ℕ} {x : ℕ} (kinds : Kinde
 
 -- What an answer says.
 
-pub as-unfit : {ns : List ℕ} {n root : ℕ} {ks vs : List ℕ} {w : TreeCheck} {r : Refusal} → ChecksTree ns n root ks vs w → w ≡ Unfit r → (ρ : Rule) → HoldsRule ns root ρ → treeRefusal ρ ≡ some r
-as-unfit {r = r} (unfit {r = r′} f) q ρ h = let e : r′ ≡ r = cc in f ρ h ∙ ap some e
-as-unfit (fit f) q ρ h = let z : _≡_ {A = ℕ} 0 1 = cc in absurd (omega arith)
+pub as-turned : {s : Bytes} {w : Checked} {r : Refusal} → ChecksText s w → w ≡ Refused r → refusal s ≡ some r
+as-turned {r = r} (turned {r = r′} e) q = let g : r′ ≡ r = cc in e ∙ ap some g
+as-turned (passed f) q = let z : _≡_ {A = ℕ} 0 1 = cc in absurd (omega arith)
 
-pub as-fit : {ns : List ℕ} {n root : ℕ} {ks vs : List ℕ} {w : TreeCheck} {c : ℕ} → ChecksTree ns n root ks vs w → w ≡ Variables c → (ρ : Rule) → HoldsRule ns root ρ → Fitted ns n ks vs c ρ
-as-fit (unfit f) q ρ h = let z : _≡_ {A = ℕ} 0 1 = cc in absurd (omega arith)
-as-fit {c = c} (fit {count = c′} f) q ρ h = let e : c′ ≡ c = cc in rw e at (f ρ h)
+pub as-passed : {s : Bytes} {w : Checked} → ChecksText s w → w ≡ Accepted → FitText s
+as-passed (turned e) q = let z : _≡_ {A = ℕ} 0 1 = cc in absurd (omega arith)
+as-passed (passed f) q = f
 
 pub as-nothing : {s ns : List ℕ} {w : Whole} {o : Option Rule} → Reads s ns w o → w ≡ Nothing → o ≡ none
 as-nothing (noRule e) q = e
@@ -83,25 +80,22 @@ as-root {k = k} {n = n} (someRule {k = k′} {n = n′} f) q =
     rw e at (rw g at f)
 
 -- The checks on a text whose tree was read.
-module _ {s ns : List ℕ} {n root : ℕ} {ks vs : List ℕ} {w : TreeCheck} (lo : 0 < length s) (hi : length s ≤ 256) (d : deep 0 0 s ≡ false) (t : Rooted s ns root n (ruleOf s)) (x : ChecksTree ns n root ks vs w) where
-  pub find-unfit : {r : Refusal} → w ≡ Unfit r → Finds s ns ks vs (Rejected r)
-  find-unfit q = rejected (refuse-tree s lo hi d (t .is) ∙ as-unfit x q (t .rule) (t .holds))
-
-  pub find-rule : {c : ℕ} → w ≡ Variables c → Finds s ns ks vs (Tree n root c)
-  find-rule q =
-      let f = as-fit x q (t .rule) (t .holds) in
-      found (refuse-tree s lo hi d (t .is) ∙ f .refuses)
-      (record {
-        tree = t .rule;
-        reads = t .is;
-        holds = t .holds;
-        within = t .within;
-        tidy = t .tidy;
-        kinds = f .kinds;
-        knows = f .knows;
-        counted = f .counted;
-        few = f .few;
-      })
+pub find-tree : {s ns : List ℕ} {n root : ℕ} {ks vs : List ℕ} {w : Found} → FitText s → Rooted s ns root n (ruleOf s) → ChecksTree ns n root ks vs w → Finds s ns ks vs w
+find-tree {s} fits t (unfit f) = rejected (refuse-tree s fits (t .is) ∙ f (t .rule) (t .holds))
+find-tree {s} fits t (fit f) =
+    let g = f (t .rule) (t .holds) in
+    found (refuse-tree s fits (t .is) ∙ g .refuses)
+    (record {
+      tree = t .rule;
+      reads = t .is;
+      holds = t .holds;
+      within = t .within;
+      tidy = t .tidy;
+      kinds = g .kinds;
+      knows = g .knows;
+      counted = g .counted;
+      few = g .few;
+    })
 
 -- A parsed text.
 

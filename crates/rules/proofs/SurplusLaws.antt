@@ -16,7 +16,7 @@ use mir.Syntax.{w32}
 use mir.Val.{SFits, toZ, ofZ}
 use mir.ValLaws.{toZ-ofZ}
 use borrow.Author.Tests.{lt-ltb, le-ltb, ltb-false}
-use Rattle.rules.specs.Accept.{deep}
+use Rattle.rules.specs.Accept.{depthLimit, deep}
 use Rattle.rules.specs.code.Surplus.{textRoom, stepped, Read}
 use Rattle.rules.proofs.NodeLaws.{lt-or-le}
 
@@ -69,25 +69,25 @@ mag-sub o c = ⊎-elim less more (lt-or-le o c)
     more : c ≤ o → mag (subℕ o c) ≤ o + c
     more h = rw (le-ltb o c h) (omega arith)
 
-sub-over : (o c : ℕ) → ltZ (pos 32) (subℕ o c) ≡ ltb (c + 32) o
+sub-over : (o c : ℕ) → ltZ (pos depthLimit) (subℕ o c) ≡ ltb (c + depthLimit) o
 sub-over o c = ⊎-elim less more (lt-or-le o c)
   where
-    less : o < c → ltZ (pos 32) (subℕ o c) ≡ ltb (c + 32) o
+    less : o < c → ltZ (pos depthLimit) (subℕ o c) ≡ ltb (c + depthLimit) o
     less h =
-        let l : o ≤ c + 32 = omega arith in
-        rw (lt-ltb o c h, le-ltb (c + 32) o l)
+        let l : o ≤ c + depthLimit = omega arith in
+        rw (lt-ltb o c h, le-ltb (c + depthLimit) o l)
 
-    at : (n : ℕ) → n + c ≡ o → ltb 32 n ≡ ltb (c + 32) o
+    at : (n : ℕ) → n + c ≡ o → ltb depthLimit n ≡ ltb (c + depthLimit) o
     at n e = ⊎-elim
-        (λ (h : 32 < n). let l : c + 32 < o = omega arith in rw (lt-ltb 32 n h, lt-ltb (c + 32) o l))
-        (λ (h : n ≤ 32). let l : o ≤ c + 32 = omega arith in rw (le-ltb 32 n h, le-ltb (c + 32) o l))
-        (lt-or-le 32 n)
+        (λ (h : depthLimit < n). let l : c + depthLimit < o = omega arith in rw (lt-ltb depthLimit n h, lt-ltb (c + depthLimit) o l))
+        (λ (h : n ≤ depthLimit). let l : o ≤ c + depthLimit = omega arith in rw (le-ltb depthLimit n h, le-ltb (c + depthLimit) o l))
+        (lt-or-le depthLimit n)
 
-    more : c ≤ o → ltZ (pos 32) (subℕ o c) ≡ ltb (c + 32) o
+    more : c ≤ o → ltZ (pos depthLimit) (subℕ o c) ≡ ltb (c + depthLimit) o
     more h = rw (le-ltb o c h) (at (o - c) (omega arith))
 
 -- A byte more, by what it is.
-deep-open : (o c x : ℕ) (s : List ℕ) → eqb x 40 ≡ true → deep o c (x ∷ s) ≡ (ltb (c + 32) (suc o) || deep (suc o) c s)
+deep-open : (o c x : ℕ) (s : List ℕ) → eqb x 40 ≡ true → deep o c (x ∷ s) ≡ (ltb (c + depthLimit) (suc o) || deep (suc o) c s)
 unfolding deep
 deep-open o c x s e = rw (e, deep)
 
@@ -109,13 +109,13 @@ pub read-end : {s : List ℕ} {i : ℕ} {z : ℤ} → Read s i z → length s �
 unfolding deep
 read-end {s} r h = rw (drop-of-length-le s h) at (r .same)
 
--- The counts after the byte at i, and whether their difference passes 32.
+-- The counts after the byte at i, and whether their difference passes the limit.
 record Next (s : List ℕ) (i : ℕ) (z : ℤ) : Type 0 where
   opened : ℕ
   closed : ℕ
   is : z ≡ subℕ opened closed
   few : opened + closed ≤ i + 1
-  same : (ltb (closed + 32) opened || deep opened closed (drop (i + 1) s)) ≡ deep 0 0 s
+  same : (ltb (closed + depthLimit) opened || deep opened closed (drop (i + 1) s)) ≡ deep 0 0 s
 
 module _ {s : List ℕ} {i : ℕ} {z w : ℤ} (r : Read s i z) (h : i < length s) (e : w ≡ stepped (getD s i 0) z) where
   next : Next s i w
@@ -135,13 +135,13 @@ module _ {s : List ℕ} {i : ℕ} {z w : ℤ} (r : Read s i z) (h : i < length s
             same = sym (deep-open (r .opened) (r .closed) (getD s i 0) (drop (i + 1) s) p) ∙ at;
           }
       go false true p q =
-          let l : r .opened ≤ suc (r .closed) + 32 = omega (arith, r .low) in
+          let l : r .opened ≤ suc (r .closed) + depthLimit = omega (arith, r .low) in
           record {
             opened = r .opened;
             closed = suc (r .closed);
             is = e ∙ rw (p, q, r .is) (sub-down (r .opened) (r .closed));
             few = omega (arith, r .few);
-            same = rw (le-ltb (suc (r .closed) + 32) (r .opened) l) (sym (deep-close (r .opened) (r .closed) (getD s i 0) (drop (i + 1) s) p q) ∙ at);
+            same = rw (le-ltb (suc (r .closed) + depthLimit) (r .opened) l) (sym (deep-close (r .opened) (r .closed) (getD s i 0) (drop (i + 1) s) p q) ∙ at);
           }
       go false false p q =
           record {
@@ -149,25 +149,25 @@ module _ {s : List ℕ} {i : ℕ} {z w : ℤ} (r : Read s i z) (h : i < length s
             closed = r .closed;
             is = e ∙ rw (p, q) (r .is);
             few = omega (arith, r .few);
-            same = rw (le-ltb (r .closed + 32) (r .opened) (r .low)) (sym (deep-other (r .opened) (r .closed) (getD s i 0) (drop (i + 1) s) p q) ∙ at);
+            same = rw (le-ltb (r .closed + depthLimit) (r .opened) (r .low)) (sym (deep-other (r .opened) (r .closed) (getD s i 0) (drop (i + 1) s) p q) ∙ at);
           }
 
-  pub read-over : ltZ (pos 32) w ≡ true → true ≡ deep 0 0 s
+  pub read-over : ltZ (pos depthLimit) w ≡ true → true ≡ deep 0 0 s
   read-over p =
       let n = next in
-      let q : ltb (n .closed + 32) (n .opened) ≡ true = sym (sub-over (n .opened) (n .closed)) ∙ ap (ltZ (pos 32)) (sym (n .is)) ∙ p in
+      let q : ltb (n .closed + depthLimit) (n .opened) ≡ true = sym (sub-over (n .opened) (n .closed)) ∙ ap (ltZ (pos depthLimit)) (sym (n .is)) ∙ p in
       rw q at (n .same)
 
-  pub read-next : ltZ (pos 32) w ≡ false → Read s (i + 1) w
+  pub read-next : ltZ (pos depthLimit) w ≡ false → Read s (i + 1) w
   read-next p =
       let n = next in
-      let q : ltb (n .closed + 32) (n .opened) ≡ false = sym (sub-over (n .opened) (n .closed)) ∙ ap (ltZ (pos 32)) (sym (n .is)) ∙ p in
+      let q : ltb (n .closed + depthLimit) (n .opened) ≡ false = sym (sub-over (n .opened) (n .closed)) ∙ ap (ltZ (pos depthLimit)) (sym (n .is)) ∙ p in
       record {
         opened = n .opened;
         closed = n .closed;
         is = n .is;
         few = n .few;
-        low = ltb-false (n .closed + 32) (n .opened) q;
+        low = ltb-false (n .closed + depthLimit) (n .opened) q;
         same = rw q at (n .same);
       }
 

@@ -12,6 +12,7 @@ use Rattle.syntax.specs.Rule.{number, count, Test, member, alike, empty, sized,
 use Rattle.syntax.specs.Rule.{add, vars, countVars, testVars, clauseVars, ruleVars}
 use Rattle.syntax.specs.code.Arena.{twoOp, emptyOp, alikeOp, cmpNumber, hasTwo, Both, Holds, HoldsTest, HoldsClause, HoldsRule, Apart}
 use Rattle.syntax.specs.code.Nodes.{firstCall, oeOp, firstPair, memberOp, firstEmpty, firstNumbered, firstCounted, whenOp, alsoOp, opAt, leftAt, rightAt, opRoom}
+use Rattle.rules.specs.Accept.{choicesLimit}
 use Rattle.rules.specs.code.Thing.{Thing, term, test, clause, rule, HoldsThing, thingVars}
 use Rattle.rules.specs.code.Variables.{VariableList, Walked, VarsOf, Added, many, known, over, new}
 use Rattle.syntax.proofs.ArenaLaws.{base-small, fn-range, two-range, Parts, none-parts, one-parts, both-parts}
@@ -116,9 +117,9 @@ added-size (known few s m) = refl
 added-size (over e s m) = refl
 added-size {vs} {ws} {c} {v} (new e s m) = length-set vs c v
 
--- The four ways out of the walk.
-module _ {ns : List ℕ} {n k : ℕ} {vs : List ℕ} {c : ℕ} where
-  pub walked-bare : opAt ns k < firstCall → Walked ns n k vs c vs c
+-- The four ways out of the walk, by the node's operation o.
+module _ {ns : List ℕ} {n k : ℕ} {vs : List ℕ} {c o : ℕ} (op : o ≡ opAt ns k) where
+  pub walked-bare : o < firstCall → Walked ns n k vs c vs c
   walked-bare h = record { size = refl; adds = λ x w σ l. go x σ l (shape ns k x w) }
     where
       go : (x : Thing) (σ : Choices) → VariableList ns n vs c σ → Shape ns k x → VariableList ns n vs c (thingVars σ x)
@@ -127,39 +128,41 @@ module _ {ns : List ℕ} {n k : ℕ} {vs : List ℕ} {c : ℕ} where
       go x σ l (choosing a lo hi v e) = absurd (omega arith)
       go x σ l (double y z lo m v w e) = absurd (omega arith)
 
-  module _ {ws : List ℕ} {d : ℕ} (left : Walked ns n (leftAt ns k) vs c ws d) where
-    pub walked-single : firstCall ≤ opAt ns k → (oeOp ≤ opAt ns k → firstPair ≤ opAt ns k) → hasTwo (opAt ns k) ≡ false → Walked ns n k vs c ws d
+  module _ {i : ℕ} {ws : List ℕ} {d : ℕ} (at : i ≡ leftAt ns k) (left : Walked ns n i vs c ws d) where
+    pub walked-single : firstCall ≤ o → (oeOp ≤ o → firstPair ≤ o) → hasTwo o ≡ false → Walked ns n k vs c ws d
     walked-single lo gap none = record { size = left .size; adds = λ x w σ l. go x σ l (shape ns k x w) }
       where
         go : (x : Thing) (σ : Choices) → VariableList ns n vs c σ → Shape ns k x → VariableList ns n ws d (thingVars σ x)
         go x σ l (bare m e) = absurd (omega arith)
-        go x σ l (single y lo′ gap′ m v e) = rw (e σ) (left .adds y v σ l)
-        go x σ l (choosing a lo′ hi v e) = absurd (omega (arith, gap lo′))
+        go x σ l (single y lo′ gap′ m v e) = rw (e σ) (left .adds y (rw at v) σ l)
+        go x σ l (choosing a lo′ hi v e) = absurd (omega (arith, gap (omega arith)))
         go x σ l (double y z lo′ m v w e) = let q : _≡_ {A = Bool} true false = cc in let z : _≡_ {A = ℕ} 0 1 = cc in absurd (omega arith)
 
     module _ {us : List ℕ} {b : ℕ} where
-      pub walked-choosing : oeOp ≤ opAt ns k → opAt ns k < firstPair → Apart ns n → leftAt ns k < n → length vs ≡ 8 → Added ws d (leftAt ns k) us b → Walked ns n k vs c us b
+      pub walked-choosing : oeOp ≤ o → o < firstPair → Apart ns n → i < n → length vs ≡ choicesLimit → Added ws d i us b → Walked ns n k vs c us b
       walked-choosing lo hi apart small size came = record { size = added-size came ∙ left .size; adds = λ x w σ l. go x σ l (shape ns k x w) }
         where
           go : (x : Thing) (σ : Choices) → VariableList ns n vs c σ → Shape ns k x → VariableList ns n us b (thingVars σ x)
           go x σ l (bare m e) = absurd (omega arith)
-          go x σ l (single y lo′ gap m v e) = absurd (omega (arith, gap lo))
-          go x σ l (choosing a lo′ hi′ v e) = rw (e σ) (listed-add apart a v small (left .size ∙ size) (left .adds (term a) v σ l) came)
+          go x σ l (single y lo′ gap m v e) = absurd (omega (arith, gap (omega arith)))
+          go x σ l (choosing a lo′ hi′ v e) =
+              let y : Holds ns i a = rw at v in
+              rw (e σ) (listed-add apart a y small (left .size ∙ size) (left .adds (term a) y σ l) came)
           go x σ l (double y z lo′ m v w e) = absurd (omega arith)
 
-      pub walked-double : hasTwo (opAt ns k) ≡ true → firstPair ≤ opAt ns k → Walked ns n (rightAt ns k) ws d us b → Walked ns n k vs c us b
-      walked-double both lo right = record { size = right .size ∙ left .size; adds = λ x w σ l. go x σ l (shape ns k x w) }
+      pub walked-double : {j : ℕ} → hasTwo o ≡ true → firstPair ≤ o → j ≡ rightAt ns k → Walked ns n j ws d us b → Walked ns n k vs c us b
+      walked-double {j} both lo at′ right = record { size = right .size ∙ left .size; adds = λ x w σ l. go x σ l (shape ns k x w) }
         where
           go : (x : Thing) (σ : Choices) → VariableList ns n vs c σ → Shape ns k x → VariableList ns n us b (thingVars σ x)
           go x σ l (bare m e) = absurd (omega arith)
           go x σ l (single y lo′ gap m v e) = let q : _≡_ {A = Bool} true false = cc in let z : _≡_ {A = ℕ} 0 1 = cc in absurd (omega arith)
           go x σ l (choosing a lo′ hi v e) = absurd (omega arith)
-          go x σ l (double y z lo′ m v w e) = rw (e σ) (right .adds z w (thingVars σ y) (left .adds y v σ l))
+          go x σ l (double y z lo′ m v w e) = rw (e σ) (right .adds z (rw at′ w) (thingVars σ y) (left .adds y (rw at v) σ l))
 
 -- A walk from the start lists the rule's choices.
-pub walked-all : {ns : List ℕ} {n k : ℕ} {vs ws : List ℕ} {d : ℕ} → length vs ≡ 8 → Walked ns n k vs 0 ws d → VarsOf ns n k ws d
+pub walked-all : {ns : List ℕ} {n k : ℕ} {vs ws : List ℕ} {d : ℕ} → length vs ≡ choicesLimit → Walked ns n k vs 0 ws d → VarsOf ns n k ws d
 walked-all size w =
     record {
       size = w .size ∙ size;
-      listed = λ ρ x. w .adds (rule ρ) x [] (record { few = omega arith; more = λ h. absurd (omega arith); held = λ _. tt; below = λ i h. absurd (omega arith) });
+      listed = λ ρ x. w .adds (rule ρ) x [] (record { more = λ h. absurd (omega arith); held = λ _. tt; below = λ i h. absurd (omega arith) });
     }

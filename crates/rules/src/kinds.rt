@@ -3,19 +3,19 @@
 ghost use mathlib.Core.Path.{_≡_};
 ghost use Prim.Native.Nat.{_<_, _≤_};
 ghost use lib.ListN.{length, getD};
-ghost use Rattle.rules.specs.code.Numbers.{noKind, oneNumber, setNumber, call2Number, twoNumber, countableNumber, fitsNumber, nodeNumber, Kinded};
+ghost use Rattle.rules.specs.code.Numbers.{noKind, oneNumber, setNumber, call2Number, twoNumber, countableNumber, fitsNumber, nodeNumber, stepNumber, Kinded};
 ghost use Rattle.syntax.specs.code.Nodes.{firstCall, firstPair, firstJoin, opRoom};
 use syntax::nodes::FIRST_CALL;
 use syntax::nodes::FIRST_COUNTED;
 use syntax::nodes::FIRST_JOIN;
 use syntax::nodes::FIRST_PAIR;
-use syntax::nodes::INDEX_ROOM;
 use syntax::nodes::IS;
 use syntax::nodes::IS_EMPTY;
 use syntax::nodes::MEMBER;
-use syntax::nodes::OP_ROOM;
-use syntax::nodes::RIGHT_UNIT;
 use syntax::nodes::WHEN;
+use syntax::nodes::left;
+use syntax::nodes::operation;
+use syntax::nodes::right;
 
 // The kinds: elements, whose numbers are also those of the sorts; sets; collections.
 pub const USER: u8 = 0;
@@ -53,148 +53,150 @@ pub const FIRST_SET: u8 = USERS;
 
 pub const FIRST_COLLECTION: u8 = CR;
 
-// Behind the kinds.
+// How many kinds there are; and what stands behind them.
+const KINDS: u32 = 15;
+
 pub const NO_KIND: u8 = 15;
 
 pub const KINDS_FIT: u8 = 16;
 
-// The kind of a call of one argument: a row of 15 kinds for each of user, roles, roles*, sessions, permissions, permissions*, object, OE, AO.
+// The kind of a call of one argument: a row of all kinds for each of user, roles, roles*, sessions, permissions, permissions*, object, OE, AO.
 const ONE: [u8; 135] = [
-    15, // user of an element of U
-    6,
-    15,
-    15,
-    15,
-    0,
-    15,
-    6,
-    15,
-    15,
-    15,
-    6,
-    15,
-    15,
-    15,
-    7, // roles of an element of U
-    15,
-    15,
-    15,
-    7,
-    7,
-    7,
-    15,
-    15,
-    15,
-    7,
-    7,
-    15,
-    15,
-    15,
-    7, // roles* of an element of U
-    15,
-    15,
-    15,
-    7,
-    7,
-    7,
-    15,
-    15,
-    15,
-    7,
-    7,
-    15,
-    15,
-    15,
-    11, // sessions of an element of U
-    15,
-    15,
-    15,
-    15,
-    15,
-    11,
-    15,
-    15,
-    15,
-    15,
-    15,
-    15,
-    15,
-    15,
-    15, // permissions of an element of U
-    10,
-    15,
-    15,
-    15,
-    15,
-    15,
-    10,
-    15,
-    15,
-    15,
-    15,
-    15,
-    15,
-    15,
-    15, // permissions* of an element of U
-    10,
-    15,
-    15,
-    15,
-    15,
-    15,
-    10,
-    15,
-    15,
-    15,
-    15,
-    15,
-    15,
-    15,
-    15, // object of an element of U
-    15,
-    15,
-    15,
-    9,
-    15,
-    15,
-    15,
-    15,
-    15,
-    9,
-    15,
-    15,
-    15,
-    15,
-    15, // OE of an element of U
-    15,
-    15,
-    15,
-    15,
-    15,
-    0,
-    1,
-    2,
-    3,
-    4,
-    5,
-    7,
-    10,
-    6,
-    15, // AO of an element of U
-    15,
-    15,
-    15,
-    15,
-    15,
-    6,
-    7,
-    8,
-    9,
-    10,
-    11,
-    12,
-    13,
-    14,
+    NO_KIND, // user of an element of U
+    USERS,
+    NO_KIND,
+    NO_KIND,
+    NO_KIND,
+    USER,
+    NO_KIND,
+    USERS,
+    NO_KIND,
+    NO_KIND,
+    NO_KIND,
+    USERS,
+    NO_KIND,
+    NO_KIND,
+    NO_KIND,
+    ROLES, // roles of an element of U
+    NO_KIND,
+    NO_KIND,
+    NO_KIND,
+    ROLES,
+    ROLES,
+    ROLES,
+    NO_KIND,
+    NO_KIND,
+    NO_KIND,
+    ROLES,
+    ROLES,
+    NO_KIND,
+    NO_KIND,
+    NO_KIND,
+    ROLES, // roles* of an element of U
+    NO_KIND,
+    NO_KIND,
+    NO_KIND,
+    ROLES,
+    ROLES,
+    ROLES,
+    NO_KIND,
+    NO_KIND,
+    NO_KIND,
+    ROLES,
+    ROLES,
+    NO_KIND,
+    NO_KIND,
+    NO_KIND,
+    SESSIONS, // sessions of an element of U
+    NO_KIND,
+    NO_KIND,
+    NO_KIND,
+    NO_KIND,
+    NO_KIND,
+    SESSIONS,
+    NO_KIND,
+    NO_KIND,
+    NO_KIND,
+    NO_KIND,
+    NO_KIND,
+    NO_KIND,
+    NO_KIND,
+    NO_KIND,
+    NO_KIND, // permissions of an element of U
+    PERMISSIONS,
+    NO_KIND,
+    NO_KIND,
+    NO_KIND,
+    NO_KIND,
+    NO_KIND,
+    PERMISSIONS,
+    NO_KIND,
+    NO_KIND,
+    NO_KIND,
+    NO_KIND,
+    NO_KIND,
+    NO_KIND,
+    NO_KIND,
+    NO_KIND, // permissions* of an element of U
+    PERMISSIONS,
+    NO_KIND,
+    NO_KIND,
+    NO_KIND,
+    NO_KIND,
+    NO_KIND,
+    PERMISSIONS,
+    NO_KIND,
+    NO_KIND,
+    NO_KIND,
+    NO_KIND,
+    NO_KIND,
+    NO_KIND,
+    NO_KIND,
+    NO_KIND, // object of an element of U
+    NO_KIND,
+    NO_KIND,
+    NO_KIND,
+    OBJECTS,
+    NO_KIND,
+    NO_KIND,
+    NO_KIND,
+    NO_KIND,
+    NO_KIND,
+    OBJECTS,
+    NO_KIND,
+    NO_KIND,
+    NO_KIND,
+    NO_KIND,
+    NO_KIND, // OE of an element of U
+    NO_KIND,
+    NO_KIND,
+    NO_KIND,
+    NO_KIND,
+    NO_KIND,
+    USER,
+    ROLE,
+    OPERATION,
+    OBJECT,
+    PERMISSION,
+    SESSION,
+    ROLES,
+    PERMISSIONS,
+    USERS,
+    NO_KIND, // AO of an element of U
+    NO_KIND,
+    NO_KIND,
+    NO_KIND,
+    NO_KIND,
+    NO_KIND,
+    USERS,
+    ROLES,
+    OPERATIONS,
+    OBJECTS,
+    PERMISSIONS,
+    SESSIONS,
+    CR,
+    CP,
+    CU,
 ];
 
 // The calls of two terms, a row for each: an element or a set of the first kind and an element of the second give the third.
@@ -210,7 +212,7 @@ fn one_kind(op: u32, a: u8) -> u8
     ensures { λ r. ⌜ r ≡ oneNumber op a ⌝ }
 {
     if a < NO_KIND {
-        ONE[(15 * (op - FIRST_CALL)) as usize + a as usize]
+        ONE[(KINDS * (op - FIRST_CALL)) as usize + a as usize]
     } else {
         NO_KIND
     }
@@ -308,6 +310,15 @@ pub fn kind_at(kinds: &[u8], i: usize) -> u8
     if i < kinds.len() { kinds[i] } else { NO_KIND }
 }
 
+// The kind of a node, by those of the nodes below it.
+fn kind_of(kinds: &[u8], node: u32) -> u8
+    ensures { λ r. ⌜ r ≡ stepNumber (now (kinds .entry)) node ⌝ }
+{
+    let a = kind_at(kinds, left(node) as usize);
+    let b = kind_at(kinds, right(node) as usize);
+    node_kind(operation(node), a, b)
+}
+
 // The kinds of the first n nodes, each from those below it.
 pub fn kinds(nodes: &[u32], n: usize, kinds: &mut [u8])
     requires { ⌜ (n ≤ length (now nodes)) × (n ≤ length (now kinds)) ⌝ }
@@ -315,13 +326,7 @@ pub fn kinds(nodes: &[u32], n: usize, kinds: &mut [u8])
 {
     let mut k = 0;
     while k < n {
-        let v = nodes[k];
-        let op = v % OP_ROOM;
-        let left = (v / OP_ROOM % INDEX_ROOM) as usize;
-        let right = (v / RIGHT_UNIT) as usize;
-        let a = kind_at(kinds, left);
-        let b = kind_at(kinds, right);
-        kinds[k] = node_kind(op, a, b);
+        kinds[k] = kind_of(kinds, nodes[k]);
         k += 1;
     }
 }

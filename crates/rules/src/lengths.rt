@@ -4,17 +4,17 @@ use super::variables::has_two;
 use syntax::nodes::AO;
 use syntax::nodes::FIRST_CALL;
 use syntax::nodes::FIRST_NUMBERED;
-use syntax::nodes::INDEX_ROOM;
 use syntax::nodes::OE;
-use syntax::nodes::OP_ROOM;
 use syntax::nodes::OPS_END;
-use syntax::nodes::RIGHT_UNIT;
+use syntax::nodes::left;
+use syntax::nodes::operation;
+use syntax::nodes::right;
 use syntax::places::seek;
 ghost use mathlib.Core.Path.{_≡_};
 ghost use Prim.Native.Nat.{_<_, _≤_};
 ghost use lib.ListN.{length, getD};
 ghost use Rattle.syntax.specs.code.Arena.{Tidy};
-ghost use Rattle.rules.specs.code.Lengths.{extra, plainLength, knownLength, nodeLength, capped, LengthsOf, FormulaLength};
+ghost use Rattle.rules.specs.code.Lengths.{extra, plainLength, knownLength, nodeLength, stepLength, lengthCap, capped, LengthsOf, FormulaLength};
 
 // How many bytes an operation adds to what it stands on: names with their brackets, signs, bars.
 const EXTRA: [u32; 40] = [
@@ -60,6 +60,9 @@ const EXTRA: [u32; 40] = [
     1,
 ];
 
+// No length above this one is told apart from it.
+const LENGTH_CAP: u32 = 65535;
+
 fn extra_of(op: u32) -> u32
     ensures { λ r. ⌜ (r ≡ extra op) × (r ≤ 14) ⌝ }
 {
@@ -68,7 +71,7 @@ fn extra_of(op: u32) -> u32
 
 // The length of an operation's text by those of its parts, which is m where the right part is a number.
 fn plain_length(op: u32, a: u32, b: u32, m: u32) -> u32
-    requires { ⌜ (a ≤ 65535) × (b ≤ 65535) ⌝ }
+    requires { ⌜ (a ≤ lengthCap) × (b ≤ lengthCap) ⌝ }
     ensures { λ r. ⌜ r ≡ plainLength op a b m ⌝ }
 {
     let e = extra_of(op);
@@ -83,7 +86,7 @@ fn plain_length(op: u32, a: u32, b: u32, m: u32) -> u32
 
 // The same where the choice of an OE or AO is known: `v1`, and `(X-{v1})`.
 fn known_length(op: u32, a: u32, b: u32, m: u32) -> u32
-    requires { ⌜ (a ≤ 65535) × (b ≤ 65535) ⌝ }
+    requires { ⌜ (a ≤ lengthCap) × (b ≤ lengthCap) ⌝ }
     ensures { λ r. ⌜ r ≡ knownLength op a b m ⌝ }
 {
     if op == OE {
@@ -96,7 +99,7 @@ fn known_length(op: u32, a: u32, b: u32, m: u32) -> u32
 }
 
 fn node_length(op: u32, known: bool, a: u32, b: u32, m: u32) -> u32
-    requires { ⌜ (a ≤ 65535) × (b ≤ 65535) ⌝ }
+    requires { ⌜ (a ≤ lengthCap) × (b ≤ lengthCap) ⌝ }
     ensures { λ r. ⌜ r ≡ nodeLength op known a b m ⌝ }
 {
     if op < FIRST_CALL {
@@ -111,7 +114,7 @@ fn node_length(op: u32, known: bool, a: u32, b: u32, m: u32) -> u32
 fn at_most(l: u32) -> u32
     ensures { λ r. ⌜ r ≡ capped l ⌝ }
 {
-    if l < 65535 { l } else { 65535 }
+    if l < LENGTH_CAP { l } else { LENGTH_CAP }
 }
 
 // The length at a place, 0 past the end.
@@ -121,7 +124,19 @@ fn length_at(lens: &[u32], i: usize) -> u32
     if i < lens.len() { at_most(lens[i]) } else { 0 }
 }
 
-// The lengths of what the first n nodes hold, where the choices at vars are known; 65535 stands for every longer one.
+// The length of what a node holds, by those of the nodes below it, where the choices at vars are known.
+fn length_of(lens: &[u32], vars: &[u32], node: u32) -> u32
+    ensures { λ r. ⌜ r ≡ stepLength (now (lens .entry)) (now (vars .entry)) node ⌝ }
+{
+    let i = left(node);
+    let j = right(node);
+    let known = seek(vars, vars.len(), i) < vars.len();
+    let a = length_at(lens, i as usize);
+    let b = length_at(lens, j as usize);
+    at_most(node_length(operation(node), known, a, b, j))
+}
+
+// The lengths of what the first n nodes hold, where the choices at vars are known.
 pub fn lengths(nodes: &[u32], n: usize, vars: &[u32], lens: &mut [u32])
     requires { ⌜ Tidy (now nodes) n ⌝ }
     requires { ⌜ n ≤ length (now lens) ⌝ }
@@ -129,13 +144,7 @@ pub fn lengths(nodes: &[u32], n: usize, vars: &[u32], lens: &mut [u32])
 {
     let mut k = 0;
     while k < n {
-        let v = nodes[k];
-        let left = v / OP_ROOM % INDEX_ROOM;
-        let right = v / RIGHT_UNIT;
-        let known = seek(vars, vars.len(), left) < vars.len();
-        let a = length_at(lens, left as usize);
-        let b = length_at(lens, right as usize);
-        lens[k] = at_most(node_length(v % OP_ROOM, known, a, b, right));
+        lens[k] = length_of(lens, vars, nodes[k]);
         k += 1;
     }
 }

@@ -5,12 +5,18 @@ ghost use Prim.Native.Nat.{_<_, _≤_};
 ghost use lib.ListN.{length};
 ghost use Rattle.syntax.specs.code.Arena.{Tidy};
 ghost use Rattle.rules.specs.declared.Checked.the-variants.{Refused};
-ghost use Rattle.rules.specs.Accept.{refusal};
+ghost use Rattle.rules.specs.Accept.{ruleLimit, choicesLimit, refusal};
 ghost use Rattle.answers.specs.Answer.{numberOrZero};
 ghost use Rattle.rules.specs.Checked.{checkedNumber};
-ghost use Rattle.rules.specs.code.Parsed.{ChecksTree, Finds, Blank, Parses};
+ghost use Rattle.rules.specs.code.Parsed.{ChecksText, ChecksTree, Finds, Blank, Parses};
 use answers::Refusal;
 use syntax::Whole;
+
+// A rule has at most so many bytes, so that its tree has at most so many nodes.
+pub const RULE_LIMIT: usize = 256;
+
+// A rule has at most so many variables.
+pub const CHOICES_LIMIT: usize = 8;
 
 pub mod depth;
 pub mod kinds;
@@ -27,72 +33,69 @@ pub enum Checked {
 // refused, nothing of a tree.
 pub struct Parsed {
     pub outcome: Checked,
-    pub nodes: [u32; 256],
+    pub nodes: [u32; RULE_LIMIT],
     pub n: usize,
     pub root: usize,
-    pub kinds: [u8; 256],
-    pub vars: [u32; 8],
+    pub kinds: [u8; RULE_LIMIT],
+    pub vars: [u32; CHOICES_LIMIT],
     pub count: usize,
 }
 
-// What the checks on a tree find: 14, 15, or how many variables it has.
-pub enum TreeCheck {
-    Unfit(Refusal),
-    Variables(usize),
-}
-
-// What the checks on a text find: a refusal, or its tree.
+// What the checks find: a refusal, or a rule's tree.
 pub enum Found {
     Rejected(Refusal),
     Rule { n: usize, root: usize, count: usize },
 }
 
+// The checks 11 and 12, on the bytes alone.
+fn check_text(s: &[u8]) -> Checked
+    ensures { λ r. ⌜ ChecksText (now (s .entry)) r ⌝ }
+{
+    if s.len() == 0 {
+        return Checked::Refused(Refusal::RuleLength);
+    }
+    if s.len() > RULE_LIMIT {
+        return Checked::Refused(Refusal::RuleLength);
+    }
+    if depth::too_deep(s) {
+        return Checked::Refused(Refusal::Deep);
+    }
+    Checked::Accepted
+}
+
 // The checks 14 and 15 on the tree at root, with the kinds of its nodes and the nodes of its variables.
-fn check_tree(nodes: &[u32], n: usize, root: usize, kinds: &mut [u8], vars: &mut [u32]) -> TreeCheck
+fn check_tree(nodes: &[u32], n: usize, root: usize, kinds: &mut [u8], vars: &mut [u32]) -> Found
     requires { ⌜ Tidy (now nodes) n ⌝ }
     requires { ⌜ root < n ⌝ }
     requires { ⌜ n ≤ length (now kinds) ⌝ }
-    requires { ⌜ length (now vars) ≡ 8 ⌝ }
+    requires { ⌜ length (now vars) ≡ choicesLimit ⌝ }
     ensures { λ r. ⌜ ChecksTree (now (nodes .entry)) n root (now (kinds .exit)) (now (vars .exit)) r ⌝ }
 {
     kinds::kinds(nodes, n, kinds);
     if kinds::kind_at(kinds, root) != kinds::KINDS_FIT {
-        return TreeCheck::Unfit(Refusal::KindMismatch);
+        return Found::Rejected(Refusal::KindMismatch);
     }
     let count = variables::variables(nodes, n, root, vars);
-    if count > 8 {
-        return TreeCheck::Unfit(Refusal::Choices);
+    if count > CHOICES_LIMIT {
+        return Found::Rejected(Refusal::Choices);
     }
-    TreeCheck::Variables(count)
+    Found::Rule { n, root, count }
 }
 
 // The checks 11 to 15 in order.
 fn find(s: &[u8], nodes: &mut [u32], kinds: &mut [u8], vars: &mut [u32]) -> Found
-    requires { ⌜ length (now nodes) ≡ 256 ⌝ }
-    requires { ⌜ length (now kinds) ≡ 256 ⌝ }
-    requires { ⌜ length (now vars) ≡ 8 ⌝ }
+    requires { ⌜ length (now nodes) ≡ ruleLimit ⌝ }
+    requires { ⌜ length (now kinds) ≡ ruleLimit ⌝ }
+    requires { ⌜ length (now vars) ≡ choicesLimit ⌝ }
     ensures { λ r. ⌜ Finds (now (s .entry)) (now (nodes .exit)) (now (kinds .exit)) (now (vars .exit)) r ⌝ }
 {
-    if s.len() == 0 {
-        return Found::Rejected(Refusal::RuleLength);
-    }
-    if s.len() > 256 {
-        return Found::Rejected(Refusal::RuleLength);
-    }
-    if depth::too_deep(s) {
-        return Found::Rejected(Refusal::Deep);
+    if let Checked::Refused(r) = check_text(s) {
+        return Found::Rejected(r);
     }
     let Whole::Root { node, n } = syntax::rule(s, nodes) else {
         return Found::Rejected(Refusal::NotARule);
     };
-    match check_tree(nodes, n, node, kinds, vars) {
-        TreeCheck::Unfit(r) => Found::Rejected(r),
-        TreeCheck::Variables(count) => Found::Rule {
-            n: n,
-            root: node,
-            count: count,
-        },
-    }
+    check_tree(nodes, n, node, kinds, vars)
 }
 
 // The answer to a text that is refused.
@@ -102,11 +105,11 @@ fn rejected(r: Refusal) -> Parsed
 {
     Parsed {
         outcome: Checked::Refused(r),
-        nodes: [0u32; 256],
+        nodes: [0u32; RULE_LIMIT],
         n: 0,
         root: 0,
-        kinds: [15u8; 256],
-        vars: [0u32; 8],
+        kinds: [kinds::NO_KIND; RULE_LIMIT],
+        vars: [0u32; CHOICES_LIMIT],
         count: 0,
     }
 }
@@ -115,9 +118,9 @@ fn rejected(r: Refusal) -> Parsed
 pub fn parse(s: &[u8]) -> Parsed
     ensures { λ p. ⌜ Parses (now (s .entry)) (p .nodes) (p .kinds) (p .vars) (p .outcome) (p .n) (p .root) (p .count) ⌝ }
 {
-    let mut nodes = [0u32; 256];
-    let mut kinds = [kinds::NO_KIND; 256];
-    let mut vars = [0u32; 8];
+    let mut nodes = [0u32; RULE_LIMIT];
+    let mut kinds = [kinds::NO_KIND; RULE_LIMIT];
+    let mut vars = [0u32; CHOICES_LIMIT];
     match find(s, &mut nodes, &mut kinds, &mut vars) {
         Found::Rejected(r) => rejected(r),
         Found::Rule { n, root, count } => Parsed {

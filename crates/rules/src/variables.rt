@@ -1,34 +1,36 @@
 // The variables of a rule: the nodes of the arguments of its OE and AO, in the order of the closing brackets.
-// At most 8 are kept; the count is 9 where there are more.
+// As many as a rule may have are kept; where there are more they are counted to one above that.
 ghost use mathlib.Core.Path.{_≡_};
 ghost use Prim.Native.Nat.{_<_, _≤_};
 ghost use lib.ListN.{length};
 ghost use Rattle.syntax.specs.code.Arena.{Tidy, hasTwo};
+ghost use Rattle.rules.specs.Accept.{choicesLimit};
 ghost use Rattle.rules.specs.code.Variables.{Walked, Added, VarsOf};
+use super::CHOICES_LIMIT;
 use syntax::nodes::FIRST_CALL;
 use syntax::nodes::FIRST_COUNTED;
 use syntax::nodes::FIRST_PAIR;
-use syntax::nodes::INDEX_ROOM;
 use syntax::nodes::IS_EMPTY;
 use syntax::nodes::OE;
-use syntax::nodes::OP_ROOM;
-use syntax::nodes::RIGHT_UNIT;
+use syntax::nodes::left;
+use syntax::nodes::operation;
+use syntax::nodes::right;
 use syntax::places::seek;
 
 // The count after the node, which is put behind the others unless it is one of them.
 fn add(vars: &mut [u32], count: usize, node: u32) -> usize
-    requires { ⌜ length (now vars) ≡ 8 ⌝ }
+    requires { ⌜ length (now vars) ≡ choicesLimit ⌝ }
     ensures { λ r. ⌜ Added (now (vars .entry)) count node (now (vars .exit)) r ⌝ }
 {
-    if count > 8 {
-        return 9;
+    if count > CHOICES_LIMIT {
+        return count;
     }
     let i = seek(vars, count, node);
     if i < count {
         return count;
     }
-    if count == 8 {
-        return 9;
+    if count == CHOICES_LIMIT {
+        return count + 1;
     }
     vars[count] = node;
     count + 1
@@ -51,24 +53,24 @@ pub fn has_two(op: u32) -> bool
 fn walk(nodes: &[u32], n: usize, k: usize, vars: &mut [u32], count: usize) -> usize
     requires { ⌜ Tidy (now nodes) n ⌝ }
     requires { ⌜ k < n ⌝ }
-    requires { ⌜ length (now vars) ≡ 8 ⌝ }
+    requires { ⌜ length (now vars) ≡ choicesLimit ⌝ }
     ensures { λ r. ⌜ Walked (now (nodes .entry)) n k (now (vars .entry)) count (now (vars .exit)) r ⌝ }
 {
     let v = nodes[k];
-    let op = v % OP_ROOM;
+    let op = operation(v);
     if op < FIRST_CALL {
         return count;
     }
-    let left = v / OP_ROOM % INDEX_ROOM;
-    let c = walk(nodes, n, left as usize, vars, count);
+    let below = left(v);
+    let c = walk(nodes, n, below as usize, vars, count);
     if op < OE {
         return c;
     }
     if op < FIRST_PAIR {
-        return add(vars, c, left);
+        return add(vars, c, below);
     }
     if has_two(op) {
-        return walk(nodes, n, (v / RIGHT_UNIT) as usize, vars, c);
+        return walk(nodes, n, right(v) as usize, vars, c);
     }
     c
 }
@@ -77,7 +79,7 @@ fn walk(nodes: &[u32], n: usize, k: usize, vars: &mut [u32], count: usize) -> us
 pub fn variables(nodes: &[u32], n: usize, root: usize, vars: &mut [u32]) -> usize
     requires { ⌜ Tidy (now nodes) n ⌝ }
     requires { ⌜ root < n ⌝ }
-    requires { ⌜ length (now vars) ≡ 8 ⌝ }
+    requires { ⌜ length (now vars) ≡ choicesLimit ⌝ }
     ensures { λ r. ⌜ VarsOf (now (nodes .entry)) n root (now (vars .exit)) r ⌝ }
 {
     walk(nodes, n, root, vars, 0)

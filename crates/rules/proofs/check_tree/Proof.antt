@@ -1,4 +1,4 @@
--- `rules::weigh`: the checks 14 and 15, one after the other.
+-- `rules::check_tree`: the checks 14 and 15, one after the other.
 -- Assumes nothing.
 use Rattle.rules.proofs.ParseLaws.{check-tree-mismatch, check-tree-choices, check-tree-fit}
 use borrow.Author.Needs.{needs}

@@ -10,8 +10,9 @@ use Rattle.syntax.specs.Term.{Choices}
 use Rattle.syntax.specs.Rule.{Rule, ruleVars, formula}
 use Rattle.syntax.specs.code.Arena.{hasTwo, HoldsRule}
 use Rattle.syntax.specs.code.Reading.{mk, Knows}
-use Rattle.syntax.specs.code.Nodes.{firstCall, oeOp, aoOp, firstNumbered}
+use Rattle.syntax.specs.code.Nodes.{firstCall, oeOp, aoOp, firstNumbered, operationOf, leftOf, rightOf}
 use Rattle.rules.specs.code.Thing.{Thing, HoldsThing, thingText}
+use Rattle.rules.specs.code.Variables.{placeIn}
 
 -- How many bytes an operation adds to what it stands on, by its number.
 unfoldable pub extraTable : List ℕ
@@ -37,8 +38,15 @@ unfoldable pub nodeLength : ℕ → Bool → ℕ → ℕ → ℕ → ℕ
 nodeLength o known a b m = cond (ltb o firstCall) (extra o) (cond known (knownLength o a b m) (plainLength o a b m))
 
 -- No length above this number is told apart from it.
+abbrev pub lengthCap : ℕ
+lengthCap = 65535
+
 abbrev pub capped : ℕ → ℕ
-capped l = min 65535 l
+capped l = min lengthCap l
+
+-- The length of what a node holds, by those of the nodes below it, where the choices at the nodes vs are known.
+abbrev pub stepLength : List ℕ → List ℕ → ℕ → ℕ
+stepLength ls vs v = capped (nodeLength (operationOf v) (ltb (placeIn (leftOf v) vs) (length vs)) (capped (getD ls (leftOf v) 0)) (capped (getD ls (rightOf v) 0)) (rightOf v))
 
 -- The list ls has the length of what each node below k holds, where the choices σ are known.
 pub record Measured (ns : List ℕ) (σ : Choices) (k : ℕ) (ls : List ℕ) : Type 0 where

@@ -10,16 +10,20 @@ use lib.ListN.{getD}
 use Rattle.syntax.specs.Term.{Term, user, roles, roles*, sessions, permissions, permissions*, object}
 use Rattle.syntax.specs.Rule.{Test, Clause, Rule}
 use Rattle.syntax.specs.code.Arena.{Holds, HoldsTest, HoldsClause, HoldsRule}
-use Rattle.syntax.specs.code.Nodes.{firstCall, firstPair, firstJoin, memberOp, firstAlike, firstEmpty, firstCounted, whenOp}
+use Rattle.syntax.specs.code.Nodes.{firstCall, firstPair, firstJoin, memberOp, firstAlike, firstEmpty, firstCounted, whenOp, operationOf, leftOf, rightOf}
 use Rattle.rules.specs.Kind.{sU, sR, sOP, sOBJ, sP, sS, CR, CP, CU, Kind, element, set, collection, callKind, oneKind, othersKind}
 use Rattle.rules.specs.Kind.{kind, testKinds, clauseKinds, ruleKinds}
 
--- 0 to 5 are elements of U, R, OP, OBJ, P, S; 6 to 11 sets of them; 12 to 14 are CR, CP, CU. Any other number is no kind.
+-- 0 to 5 are elements of U, R, OP, OBJ, P, S; 6 to 11 sets of them; 12 to 14 are CR, CP, CU.
 abbrev pub firstSet : ℕ
 firstSet = 6
 
 abbrev pub firstCollection : ℕ
 firstCollection = 12
+
+-- How many kinds there are; and what stands behind them.
+abbrev pub kindCount : ℕ
+kindCount = 15
 
 abbrev pub noKind : ℕ
 noKind = 15
@@ -37,7 +41,7 @@ kindList =
 unfoldable pub kindOf : ℕ → Option Kind
 kindOf x = getD kindList x none
 
--- The calls of one argument in the order of their operations, from 9 on, and their table: 15 entries each, one for each kind.
+-- The calls of one argument in the order of their operations, and their table: an entry for each kind, the number of a kind or `noKind`.
 unfoldable pub oneArgument : List (Kind → Option Kind)
 oneArgument =
     callKind user ∷ callKind roles ∷ callKind roles* ∷ callKind sessions ∷ callKind permissions ∷ callKind permissions* ∷ callKind object
@@ -57,7 +61,7 @@ oneTable =
 
 -- The kind's number of an operation's term, by those of its arguments; of a test, a clause, a rule `kindsFit` where they fit.
 unfoldable pub oneNumber : ℕ → ℕ → ℕ
-oneNumber o a = cond (ltb a noKind) (getD oneTable (15 * (o - firstCall) + a) 0) noKind
+oneNumber o a = cond (ltb a noKind) (getD oneTable (kindCount * (o - firstCall) + a) 0) noKind
 
 -- An element counts as the set of itself.
 unfoldable pub setNumber : ℕ → ℕ
@@ -95,6 +99,10 @@ fitsNumber o a b =
 unfoldable pub nodeNumber : ℕ → ℕ → ℕ → ℕ
 nodeNumber o a b =
     cond (ltb o firstCall) (o + firstSet) (cond (ltb o firstPair) (oneNumber o a) (cond (ltb o memberOp) (twoNumber o a b) (cond (fitsNumber o a b) kindsFit noKind)))
+
+-- The number of a node, by those of the nodes below it.
+abbrev pub stepNumber : List ℕ → ℕ → ℕ
+stepNumber ks v = nodeNumber (operationOf v) (getD ks (leftOf v) noKind) (getD ks (rightOf v) noKind)
 
 -- x is the number of what node k holds.
 pub record KindAt (ns : List ℕ) (k x : ℕ) : Type 0 where

@@ -2,6 +2,7 @@
 -- Internal: contracts of entry points that answer with bytes do not speak of it. Assumes nothing.
 use mathlib.Core.Path.{_≡_}
 use mathlib.Core.List.{List, []}
+use mathlib.Core.Bool.{false}
 use mathlib.Core.Option.{Option, none, some}
 use Prim.Native.Nat.{ℕ, _<_, _≤_}
 use lib.ListN.{length, take, replicate}
@@ -12,12 +13,20 @@ use Rattle.syntax.specs.code.Arena.{HoldsRule, Tidy}
 use Rattle.syntax.specs.code.Reading.{mk, Knows}
 use Rattle.rules.specs.declared.Checked.{Checked}
 use Rattle.rules.specs.declared.Checked.the-variants.{Refused, Accepted}
-use Rattle.rules.specs.declared.TreeCheck.{TreeCheck}
-use Rattle.rules.specs.declared.TreeCheck.the-variants.{Unfit, Variables}
 use Rattle.rules.specs.declared.Found.{Found}
 use Rattle.rules.specs.declared.Found.the-variants.{Rejected, Rule as Tree}
-use Rattle.rules.specs.Accept.{treeRefusal, refusal}
-use Rattle.rules.specs.code.Numbers.{Kinded}
+use Rattle.rules.specs.Accept.{ruleLimit, choicesLimit, deep, treeRefusal, refusal}
+use Rattle.rules.specs.code.Numbers.{noKind, Kinded}
+
+-- What the checks on the bytes alone find, 11, 12, or that they pass.
+pub record FitText (s : Bytes) : Type 0 where
+  pub long : 0 < length s
+  pub short : length s ≤ ruleLimit
+  pub shallow : deep 0 0 s ≡ false
+
+pub data ChecksText (s : Bytes) : Checked → Type 0 where
+  turned : {r : Refusal} → refusal s ≡ some r → ChecksText s (Refused r)
+  passed : FitText s → ChecksText s Accepted
 
 -- The tree of an accepted text s, at root in the first n nodes; the kinds ks of the nodes; the nodes of its variables, the first of vs.
 pub record RuleAt (s : Bytes) (ns : List ℕ) (n root : ℕ) (ks vs : List ℕ) (count : ℕ) : Type 0 where
@@ -29,7 +38,7 @@ pub record RuleAt (s : Bytes) (ns : List ℕ) (n root : ℕ) (ks vs : List ℕ) 
   pub kinds : Kinded ns n ks
   pub knows : Knows (mk ns n) (take count vs) (ruleVars [] tree)
   pub counted : count ≡ length (ruleVars [] tree)
-  pub few : count ≤ 8
+  pub few : count ≤ choicesLimit
 
 -- What the checks on a tree find, 14, 15, or the kinds and the variables of a tree that they accept.
 pub record Fitted (ns : List ℕ) (n : ℕ) (ks vs : List ℕ) (count : ℕ) (ρ : Rule) : Type 0 where
@@ -37,11 +46,11 @@ pub record Fitted (ns : List ℕ) (n : ℕ) (ks vs : List ℕ) (count : ℕ) (ρ
   pub kinds : Kinded ns n ks
   pub knows : Knows (mk ns n) (take count vs) (ruleVars [] ρ)
   pub counted : count ≡ length (ruleVars [] ρ)
-  pub few : count ≤ 8
+  pub few : count ≤ choicesLimit
 
-pub data ChecksTree (ns : List ℕ) (n root : ℕ) (ks vs : List ℕ) : TreeCheck → Type 0 where
-  unfit : {r : Refusal} → ((ρ : Rule) → HoldsRule ns root ρ → treeRefusal ρ ≡ some r) → ChecksTree ns n root ks vs (Unfit r)
-  fit : {count : ℕ} → ((ρ : Rule) → HoldsRule ns root ρ → Fitted ns n ks vs count ρ) → ChecksTree ns n root ks vs (Variables count)
+pub data ChecksTree (ns : List ℕ) (n root : ℕ) (ks vs : List ℕ) : Found → Type 0 where
+  unfit : {r : Refusal} → ((ρ : Rule) → HoldsRule ns root ρ → treeRefusal ρ ≡ some r) → ChecksTree ns n root ks vs (Rejected r)
+  fit : {count : ℕ} → ((ρ : Rule) → HoldsRule ns root ρ → Fitted ns n ks vs count ρ) → ChecksTree ns n root ks vs (Tree n root count)
 
 -- What the checks on a text find.
 pub data Finds (s : Bytes) (ns ks vs : List ℕ) : Found → Type 0 where
@@ -50,11 +59,11 @@ pub data Finds (s : Bytes) (ns ks vs : List ℕ) : Found → Type 0 where
 
 -- Nothing of a tree: no node has a kind, and there is no variable.
 pub record Blank (ns : List ℕ) (n root : ℕ) (ks vs : List ℕ) (count : ℕ) : Type 0 where
-  pub nodes : ns ≡ replicate 256 0
+  pub nodes : ns ≡ replicate ruleLimit 0
   pub noNode : n ≡ 0
   pub noRoot : root ≡ 0
-  pub kinds : ks ≡ replicate 256 15
-  pub vars : vs ≡ replicate 8 0
+  pub kinds : ks ≡ replicate ruleLimit noKind
+  pub vars : vs ≡ replicate choicesLimit 0
   pub noVariable : count ≡ 0
 
 -- The case of an answer: the first refusal of 11 to 15, or that none refuses.

@@ -8,7 +8,7 @@ use lib.ListN.{length, length-set}
 use Rattle.syntax.specs.Term.{Choices}
 use Rattle.syntax.specs.code.Reading.{mk, Knows}
 use Rattle.rules.specs.code.Lengths.{Measured}
-use Rattle.rules.proofs.LengthLaws.{measured-none, measured-next, step-is}
+use Rattle.rules.proofs.LengthLaws.{measured-none, measured-next}
 use Rattle.rules.proofs.lengths.lengths.Statement.{statement}
 use Rattle.rules.proofs.lengths.lengths.Tie as tie
 
@@ -21,32 +21,14 @@ abbrev μ-loop : tie.MeasureT-loop
 loop-holds : tie.Need-loop-holds Inv-loop μ-loop
 loop-holds c = (omega arith, refl, λ σ _. measured-none _ σ _)
 
-mul-v : tie.Need-mul-v Inv-loop μ-loop
-mul-v c = search needs
+mul-length-of : tie.Need-mul-length-of Inv-loop μ-loop
+mul-length-of c = search needs
 
-shared-slice-read-v : tie.Need-shared-slice-read-v Inv-loop μ-loop
-shared-slice-read-v c = search needs
+shared-slice-read-length-of : tie.Need-shared-slice-read-length-of Inv-loop μ-loop
+shared-slice-read-length-of c = search needs
 
-seek-requires : tie.Need-seek-requires Inv-loop μ-loop
-seek-requires c κs = search needs
-
-cast-length-at : tie.Need-cast-length-at Inv-loop μ-loop
-cast-length-at c = search needs
-
-length-at-requires : tie.Need-length-at-requires Inv-loop μ-loop
-length-at-requires c κs = search needs
-
-cast-length-at-2 : tie.Need-cast-length-at-2 Inv-loop μ-loop
-cast-length-at-2 c = omega (arith, c .before .before .before .before .shared-slice-known3 .given (c .before .before .before .before .before .before .loop .k))
-
-length-at-requires-2 : tie.Need-length-at-requires-2 Inv-loop μ-loop
-length-at-requires-2 c κs = search needs
-
-node-length-requires : tie.Need-node-length-requires Inv-loop μ-loop
-node-length-requires c κs = search needs
-
-at-most-requires : tie.Need-at-most-requires Inv-loop μ-loop
-at-most-requires c κs = search needs
+length-of-requires : tie.Need-length-of-requires Inv-loop μ-loop
+length-of-requires c κs = search needs
 
 mul-lens : tie.Need-mul-lens Inv-loop μ-loop
 mul-lens c = search needs
@@ -62,10 +44,10 @@ loop-less c = search needs
 
 loop-again : tie.Need-loop-again Inv-loop μ-loop
 loop-again c =
-    let l = c .before .before .before .before .before .before .before .before .before .loop in (
+    let l = c .before .before .before .before .loop in (
       omega arith,
-      length-set (l .lens) (l .k) (c .at-most .result) ∙ l .inv .1,
-      λ σ w. measured-next (c .before .before .before .before .before .before .before .before .before .before .before .before .before .pre .0 .apart) (omega arith) w (l .inv .2 σ w) (c .before .before .before .before .before .before .seek .ensures) (c .at-most .ensures ∙ step-is (c .before .before .before .before .before .before .before .before .before .before .before .before .before .args .nodes .now) (l .lens) (l .k) _ (c .before .before .before .before .length-at .result) (c .before .before .length-at2 .result) (c .before .before .before .before .length-at .ensures) (c .before .before .length-at2 .ensures) (c .before .node-length .ensures)) (omega arith),
+      length-set (l .lens) (l .k) (c .length-of .result) ∙ l .inv .1,
+      λ σ w. measured-next (c .before .before .before .before .before .before .before .before .pre .0 .apart) (omega arith) w (l .inv .2 σ w) (c .length-of .ensures) (omega arith),
     )
 
 same-length : tie.Need-same-length Inv-loop μ-loop
@@ -83,15 +65,9 @@ lengths-spec =
     Inv-loop
     μ-loop
     loop-holds
-    mul-v
-    shared-slice-read-v
-    seek-requires
-    cast-length-at
-    length-at-requires
-    cast-length-at-2
-    length-at-requires-2
-    node-length-requires
-    at-most-requires
+    mul-length-of
+    shared-slice-read-length-of
+    length-of-requires
     mul-lens
     slice-write-lens
     add-k

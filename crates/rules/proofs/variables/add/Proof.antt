@@ -18,6 +18,9 @@ same-length c = search needs
 returns-2 : tie.Need-returns-2
 returns-2 c = known (omega arith) (c .before .seek .ensures) (c .if2 .taken)
 
+add-result : tie.Need-add-result
+add-result c = search needs
+
 same-length-2 : tie.Need-same-length-2
 same-length-2 c = search needs
 
@@ -30,8 +33,8 @@ mul-vars c = search needs
 slice-write-vars : tie.Need-slice-write-vars
 slice-write-vars c = search needs
 
-add-result : tie.Need-add-result
-add-result c = search needs
+add-result-2 : tie.Need-add-result-2
+add-result-2 c = search needs
 
 same-length-3 : tie.Need-same-length-3
 same-length-3 c = search needs
@@ -47,10 +50,11 @@ add-spec =
     seek-requires
     same-length
     returns-2
+    add-result
     same-length-2
     returns-3
     mul-vars
     slice-write-vars
-    add-result
+    add-result-2
     same-length-3
     returns-4)
