@@ -3,14 +3,11 @@
 use mathlib.Core.Path.{_≡_, sym, ap, ap₂, _∙_}
 use mathlib.Core.Bool.{Bool, _||_}
 use mathlib.Core.List.{List, [], _∷_}
-use mathlib.Core.Logic.{⊎-elim}
 use Prim.Native.Nat.{ℕ, zero, suc, _+_, _<_, _≤_}
 use native.Mathlib.Decide.{ℕ-discrete}
 use native.Mathlib.Omega.{arith}
 use lib.Dec.{eqb}
 use lib.ListN.{length, getD, set}
-use lib.Seq.{getD-set-same, getD-set-other}
-use native.Mathlib.Nat.{eq-or-lt-of-le}
 use borrow.Author.Tests.{eq-eqb, ne-eqb}
 use Rattle.words.specs.Words.{has, itemOf, joinOf}
 use Rattle.words.proofs.WordsLaws.{has-zero, has-item, has-join}
@@ -19,8 +16,10 @@ use Rattle.syntax.specs.code.Arena.{Holds, HoldsAll, Tidy}
 use Rattle.syntax.specs.code.Nodes.{firstCall, oeOp, aoOp, firstPair, opAt, leftAt, rightAt}
 use Rattle.values.specs.Values.{variableOf}
 use Rattle.values.specs.Sets.{namesIn, names}
-use Rattle.values.specs.code.Nodes.{placeIn, Variables, Named}
-use Rattle.values.proofs.NodeLaws.{is-base, is-call, is-one, is-others, is-two, variable-place, left-below}
+use Rattle.rules.specs.code.Variables.{placeIn}
+use Rattle.rules.proofs.NodeLaws.{left-below, more-at}
+use Rattle.values.specs.code.Nodes.{Variables, Named}
+use Rattle.values.proofs.NodeLaws.{is-base, is-call, is-one, is-others, is-two, variable-place}
 
 eqb-swap : (a b : ℕ) → eqb a b ≡ eqb b a
 eqb-swap a b = go (ℕ-discrete a b)
@@ -30,53 +29,51 @@ eqb-swap a b = go (ℕ-discrete a b)
     go (no n) = ne-eqb a b n ∙ sym (ne-eqb b a (λ e. n (sym e)))
 
 module _ {ns : List ℕ} {n : ℕ} {vs : List ℕ} {σ : Choices} (d : Tidy ns n) (w : Variables ns n vs σ) (k : ℕ) (h : k < n) (t : Term) (x : Holds ns k t)
-    (u : ℕ) (l : u < 64) where
-  pub names-base : opAt ns k < firstCall → has 0 u ≡ namesIn σ t u
+    (u : ℕ) (l : u < 64) {o : ℕ} (op : o ≡ opAt ns k) where
+  pub names-base : o < firstCall → has 0 u ≡ namesIn σ t u
   unfolding namesIn
-  names-base m = has-zero u ∙ ap (λ (s : Term). namesIn σ s u) (sym (is-base ns k t x m))
+  names-base m = has-zero u ∙ ap (λ (s : Term). namesIn σ s u) (sym (is-base ns k t x (rw op at m)))
 
-  -- OE names its variable;
-  own : (a : Term) → firstCall ≤ opAt ns k → Holds ns (leftAt ns k) a → (p r : ℕ) → p ≡ placeIn (leftAt ns k) vs → r ≡ itemOf p
-      → has r u ≡ eqb (variableOf σ a) u
-  own a m y p r e f =
-      let b = left-below d h m in
-      ap (λ (z : ℕ). has z u) f ∙ has-item p u l ∙ eqb-swap u p
-      ∙ ap (λ (z : ℕ). eqb z u) (e ∙ variable-place d w (leftAt ns k) a (omega arith) y)
+  module _ {i : ℕ} (at : i ≡ leftAt ns k) where
+    -- OE names its variable;
+    names-own : (a : Term) → firstCall ≤ o → Holds ns (leftAt ns k) a → (r : ℕ) → r ≡ itemOf (placeIn i vs) → has r u ≡ eqb (variableOf σ a) u
+    names-own a m y r e =
+        let b = left-below d h op at m in
+        ap (λ (z : ℕ). has z u) e ∙ has-item (placeIn i vs) u l ∙ eqb-swap u (placeIn i vs)
+        ∙ ap (λ (z : ℕ). eqb z u) (variable-place d w i a (omega arith) (rw at y))
 
-  pub names-one : opAt ns k ≡ oeOp → (p r : ℕ) → p ≡ placeIn (leftAt ns k) vs → r ≡ itemOf p → has r u ≡ namesIn σ t u
-  unfolding namesIn
-  names-one m p r e f =
-      let q = is-one ns k t x m in
-      own (q .inner) (omega arith) (q .holds) p r e f ∙ ap (λ (s : Term). namesIn σ s u) (sym (q .is))
+    pub names-one : o ≡ oeOp → (r : ℕ) → r ≡ itemOf (placeIn i vs) → has r u ≡ namesIn σ t u
+    unfolding namesIn
+    names-one m r e =
+        let q = is-one ns k t x (sym op ∙ m) in
+        names-own (q .inner) (omega arith) (q .holds) r e ∙ ap (λ (s : Term). namesIn σ s u) (sym (q .is))
 
-  -- a call what its argument names;
-  pub names-call : firstCall ≤ opAt ns k → opAt ns k < oeOp → (r : ℕ)
-      → ((a : Term) → Holds ns (leftAt ns k) a → has r u ≡ namesIn σ a u) → has r u ≡ namesIn σ t u
-  unfolding namesIn
-  names-call m m′ r ih =
-      let q = is-call ns k t x m m′ in
-      ih (q .inner) (q .holds) ∙ ap (λ (s : Term). namesIn σ s u) (sym (q .is))
+    -- a call what its argument names;
+    pub names-call : firstCall ≤ o → o < oeOp → (r : ℕ) → ((a : Term) → Holds ns i a → has r u ≡ namesIn σ a u) → has r u ≡ namesIn σ t u
+    unfolding namesIn
+    names-call m m′ r ih =
+        let q = is-call ns k t x (rw op at m) (rw op at m′) in
+        ih (q .inner) (rw at (q .holds)) ∙ ap (λ (s : Term). namesIn σ s u) (sym (q .is))
 
-  -- AO both;
-  pub names-others : opAt ns k ≡ aoOp → (p i a r : ℕ) → p ≡ placeIn (leftAt ns k) vs → i ≡ itemOf p
-      → ((b : Term) → Holds ns (leftAt ns k) b → has a u ≡ namesIn σ b u) → r ≡ joinOf i a → has r u ≡ namesIn σ t u
-  unfolding namesIn
-  names-others m p i a r e f ih g =
-      let q = is-others ns k t x m in
-      ap (λ (z : ℕ). has z u) g ∙ has-join i a u l
-      ∙ ap₂ (λ (y z : Bool). y || z) (own (q .inner) (omega arith) (q .holds) p i e f) (ih (q .inner) (q .holds))
-      ∙ ap (λ (s : Term). namesIn σ s u) (sym (q .is))
+    -- AO both;
+    pub names-others : o ≡ aoOp → (e a r : ℕ) → e ≡ itemOf (placeIn i vs) → ((b : Term) → Holds ns i b → has a u ≡ namesIn σ b u) → r ≡ joinOf e a
+        → has r u ≡ namesIn σ t u
+    unfolding namesIn
+    names-others m e a r f ih g =
+        let q = is-others ns k t x (sym op ∙ m) in
+        ap (λ (z : ℕ). has z u) g ∙ has-join e a u l
+        ∙ ap₂ (λ (y z : Bool). y || z) (names-own (q .inner) (omega arith) (q .holds) e f) (ih (q .inner) (rw at (q .holds)))
+        ∙ ap (λ (s : Term). namesIn σ s u) (sym (q .is))
 
-  -- two terms what each names.
-  pub names-two : firstPair ≤ opAt ns k → (a b r : ℕ)
-      → ((s : Term) → Holds ns (leftAt ns k) s → has a u ≡ namesIn σ s u)
-      → ((s : Term) → Holds ns (rightAt ns k) s → has b u ≡ namesIn σ s u) → r ≡ joinOf a b → has r u ≡ namesIn σ t u
-  unfolding namesIn
-  names-two m a b r ih jh g =
-      let q = is-two ns k t x m in
-      ap (λ (z : ℕ). has z u) g ∙ has-join a b u l
-      ∙ ap₂ (λ (y z : Bool). y || z) (ih (q .first) (q .holds)) (jh (q .second) (q .holds₂))
-      ∙ ap (λ (s : Term). namesIn σ s u) (sym (q .is))
+    -- two terms what each names.
+    pub names-two : firstPair ≤ o → {j : ℕ} → j ≡ rightAt ns k → (a b r : ℕ) → ((s : Term) → Holds ns i s → has a u ≡ namesIn σ s u)
+        → ((s : Term) → Holds ns j s → has b u ≡ namesIn σ s u) → r ≡ joinOf a b → has r u ≡ namesIn σ t u
+    unfolding namesIn
+    names-two m at′ a b r ih jh g =
+        let q = is-two ns k t x (rw op at m) in
+        ap (λ (z : ℕ). has z u) g ∙ has-join a b u l
+        ∙ ap₂ (λ (y z : Bool). y || z) (ih (q .first) (rw at (q .holds))) (jh (q .second) (rw at′ (q .holds₂)))
+        ∙ ap (λ (s : Term). namesIn σ s u) (sym (q .is))
 
 -- The words of the variables, one by one.
 pub holds-at : (ns vs : List ℕ) (σ : Choices) → HoldsAll ns vs σ → (i : ℕ) → i < length vs → (d : Term) → Holds ns (getD vs i 0) (getD σ i d)
@@ -94,10 +91,4 @@ pub named-more : (words : List ℕ) (σ : Choices) (v r : ℕ) → v < length wo
     → ((u : ℕ) → u < 64 → has r u ≡ names σ v u) → Named (v + 1) (set words v r) σ
 unfolding Named
 named-more words σ v r l h e w u m m′ =
-    ⊎-elim
-    (λ (q : w ≡ v). rw (q, getD-set-same words v r 0 l) (e u m′))
-    (λ (q : w < v). rw (getD-set-other words v w r 0 (omega arith)) (h w u q m′))
-    (eq-or-lt-of-le (at-most m))
-  where
-    at-most : w < v + 1 → w ≤ v
-    at-most q = omega arith
+    more-at (λ w (r : ℕ). (u : ℕ) → u < 64 → has r u ≡ names σ w u) words v r 0 l (λ w q u m. h w u q m) e w m u m′

@@ -1,22 +1,23 @@
 -- What a node holds, by the number of its operation.
 -- Assumes nothing.
 use mathlib.Core.Path.{_≡_, refl, sym, ap, _∙_}
-use mathlib.Core.Bool.{cond, _&&_}
+use mathlib.Core.Bool.{cond}
 use mathlib.Core.List.{List, [], _∷_}
-use Prim.Native.Nat.{ℕ, zero, suc, _<_, _≤_}
+use Prim.Native.Nat.{ℕ, suc, _<_, _≤_}
 use native.Mathlib.Decide.{ℕ-discrete}
 use native.Mathlib.Omega.{arith}
-use lib.Dec.{eqb, leb, ltb}
+use lib.Dec.{eqb}
 use lib.ListN.{length, getD}
-use borrow.Author.Tests.{eq-eqb, ne-eqb, le-leb, lt-ltb}
+use borrow.Author.Tests.{eq-eqb, ne-eqb}
 use Rattle.syntax.specs.Term.{Base, bU, bR, bOP, bOBJ, bP, bS, bCR, bCP, bCU, Fn, user, roles, roles*, sessions, permissions}
 use Rattle.syntax.specs.Term.{permissions*, object, operations, meet, join, Term, base, call, oe, ao, two, Term≟, Choices, Pair, calls, joins}
-use Rattle.syntax.specs.code.Arena.{baseOp, fnOp, twoOp, Holds, HoldsAll, hasTwo, Down, Tidy}
-use Rattle.syntax.specs.code.Reading.{Sought}
+use Rattle.syntax.specs.code.Arena.{baseOp, fnOp, twoOp, Holds, HoldsAll, Tidy}
 use Rattle.syntax.specs.code.Nodes.{firstCall, oeOp, aoOp, firstPair, memberOp, firstEmpty, firstCounted, opAt, leftAt, rightAt}
 use Rattle.values.specs.Values.{variableOf}
-use Rattle.values.specs.code.Nodes.{baseAt, fnAt, pairAt, placeIn, Variables}
-use Rattle.values.proofs.ReadsLaws.{or-right}
+use Rattle.rules.specs.code.Variables.{placeIn}
+use Rattle.rules.proofs.NodeLaws.{left-below, right-below as two-below}
+use Rattle.rules.proofs.WalkLaws.{two-low, two-high}
+use Rattle.values.specs.code.Nodes.{baseAt, fnAt, pairAt, Variables}
 use Rattle.syntax.proofs.ArenaLaws.{base-small, fn-range, two-range, one-parts, both-parts, holds-once, holds-one, holds-op, opOf}
 
 base-at : (b : Base) → baseAt (baseOp b) ≡ b
@@ -124,17 +125,6 @@ module _ (ns : List ℕ) (k : ℕ) where
   term-small (ao a) x = omega (arith, holds-op ns k (ao a) x)
   term-small (two o a b) x = omega (arith, holds-op ns k (two o a b) x, two-range o .high)
 
--- The first index that has a node is its place.
-place-first : (vs : List ℕ) (k r : ℕ) → r ≤ length vs → ((i : ℕ) → i < r → getD vs i 0 ≡ k → ⊥) → (r < length vs → getD vs r 0 ≡ k) → r ≡ placeIn k vs
-unfolding placeIn
-place-first [] k r l b f = omega arith
-place-first (v ∷ vs) k zero l b f = rw (eq-eqb v k (f (omega arith)))
-place-first (v ∷ vs) k (suc r) l b f =
-    rw (ne-eqb v k (b 0 (omega arith))) (ap suc (place-first vs k r (omega arith) (λ i m. b (suc i) (omega arith)) (λ m. f (omega arith))))
-
-pub placed : {vs : List ℕ} {k r : ℕ} → Sought vs (length vs) k r → r ≡ placeIn k vs
-placed {vs} {k} {r} s = place-first vs k r (s .within) (s .before) (s .found)
-
 -- The variable of the argument that node k holds is the place of k among the variables' nodes.
 place-variable : (ns : List ℕ) (n : ℕ) → Tidy ns n → (vs : List ℕ) (σ : Choices) → HoldsAll ns vs σ → ((i : ℕ) → i < length vs → getD vs i 0 < n)
     → (k : ℕ) (a : Term) → k < n → Holds ns k a → placeIn k vs ≡ variableOf σ a
@@ -158,22 +148,16 @@ variable-place {ns} {n} {vs} {σ} d w k a h y = place-variable ns n d vs σ (w .
 
 -- What stands at a node's left and right stands below it.
 module _ {ns : List ℕ} {n : ℕ} (d : Tidy ns n) {k : ℕ} (h : k < n) where
-  pub left-below : firstCall ≤ opAt ns k → leftAt ns k < k
-  unfolding Down
-  left-below l = d .down k h .left l
-
   pub right-below : firstPair ≤ opAt ns k → opAt ns k < firstEmpty → rightAt ns k < k
-  unfolding Down hasTwo
-  right-below l m = d .down k h .right (rw (le-leb firstPair (opAt ns k) l, lt-ltb (opAt ns k) firstEmpty m))
+  right-below l m = two-below d h refl refl (two-low (opAt ns k) l m)
 
   pub right-below₂ : firstCounted ≤ opAt ns k → rightAt ns k < k
-  unfolding Down hasTwo
-  right-below₂ l = d .down k h .right (or-right (leb firstPair (opAt ns k) && ltb (opAt ns k) firstEmpty) (leb firstCounted (opAt ns k)) (le-leb firstCounted (opAt ns k) l))
+  right-below₂ l = two-below d h refl refl (two-high (opAt ns k) l)
 
 -- So they are among the first n.
 module _ {ns : List ℕ} {n : ℕ} (d : Tidy ns n) {k : ℕ} (h : k < n) where
   pub left-in : firstCall ≤ opAt ns k → leftAt ns k < n
-  left-in l = omega (arith, left-below d h l)
+  left-in l = omega (arith, left-below d h refl refl l)
 
   pub right-in : firstPair ≤ opAt ns k → opAt ns k < firstEmpty → rightAt ns k < n
   right-in l m = omega (arith, right-below d h l m)

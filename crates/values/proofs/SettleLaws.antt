@@ -1,6 +1,6 @@
 -- What a cache has while the nodes of a level are evaluated, from the lowest up.
 -- Assumes nothing.
-use mathlib.Core.Path.{_≡_, sym, _∙_}
+use mathlib.Core.Path.{_≡_, refl, sym, _∙_}
 use mathlib.Core.Bool.{true}
 use mathlib.Core.List.{List}
 use mathlib.Core.Logic.{⊎-elim}
@@ -16,14 +16,14 @@ use Rattle.syntax.specs.Term.{Term, base, call, oe, ao, two, Choices}
 use Rattle.syntax.specs.code.Arena.{Holds, Tidy}
 use Rattle.syntax.specs.code.Nodes.{firstCall, oeOp, firstPair, opAt, leftAt, rightAt}
 use Rattle.syntax.proofs.ArenaLaws.{base-small, fn-range, two-range, one-parts, both-parts, holds-op, holds-one, opOf}
-use Rattle.rules.proofs.NodeLaws.{lt-or-le}
+use Rattle.rules.proofs.NodeLaws.{lt-or-le, left-below}
 use Rattle.values.specs.Values.{value, variableOf}
 use Rattle.values.specs.Sets.{namesIn}
 use Rattle.values.specs.code.Nodes.{World, ValueAt}
 use Rattle.values.specs.code.Levels.{Levels, Following, Linked}
 use Rattle.values.specs.code.Cache.{Fed, StepAt, Stored}
 use Rattle.values.proofs.ReadsLaws.{or-left, or-right}
-use Rattle.values.proofs.NodeLaws.{left-below, right-below, term-small}
+use Rattle.values.proofs.NodeLaws.{right-below, term-small}
 use Rattle.values.proofs.LevelLaws.{level-below}
 
 -- A term names what the terms right below it name.
@@ -59,7 +59,7 @@ fed : {ts ns : List ℕ} {n : ℕ} {ks vs : List ℕ} {T : Tables} {σ : Choices
     → Levels ns n vs order levels → (k : ℕ) → k < n → (a : Term) → Holds ns k a
     → ((i : ℕ) → i < n → i < k → getD levels i 0 ≤ getD levels k 0 → (b : Term) → Holds ns i b → getD cache i 0 ≡ value T σ c b) → Fed T σ c ns cache k
 fed {ts} {ns} {n} {ks} {vs} {T} {σ} {order} {levels} c cache d w lev k h a x right = record {
-  left = λ l m b y. below (leftAt ns k) (left-below d h l) b y (names-left ns σ k a x l m b y);
+  left = λ l m b y. below (leftAt ns k) (left-below d h refl refl l) b y (names-left ns σ k a x l m b y);
   right = λ l b y. below (rightAt ns k) (right-below d h l (omega (arith, term-small ns k a x))) b y (names-right ns σ k a x l b y);
 }
   where

@@ -1,17 +1,27 @@
 // What terms, and with them the sets of the variables, name, as words of variables.
 use syntax::nodes::AO;
 use syntax::nodes::FIRST_CALL;
-use syntax::nodes::INDEX_ROOM;
 use syntax::nodes::MEMBER;
 use syntax::nodes::OE;
-use syntax::nodes::OP_ROOM;
-use syntax::nodes::RIGHT_UNIT;
+use syntax::nodes::left;
+use syntax::nodes::operation;
+use syntax::nodes::right;
 use syntax::places::seek;
+ghost use mathlib.Core.Path.{_≡_};
 ghost use Prim.Native.Nat.{ℕ, _<_, _≤_};
 ghost use lib.ListN.{length, getD};
 ghost use Rattle.syntax.specs.Term.{Choices};
 ghost use Rattle.syntax.specs.code.Arena.{Tidy};
+ghost use Rattle.words.specs.Words.{itemOf};
+ghost use Rattle.rules.specs.code.Variables.{placeIn};
 ghost use Rattle.values.specs.code.Nodes.{NamesAt, Variables, Named};
+
+// The word of the variable whose argument is a node.
+fn own(vars: &[u32], argument: u32) -> u64
+    ensures { λ r. ⌜ r ≡ itemOf (placeIn argument (now (vars .entry))) ⌝ }
+{
+    words::item(seek(vars, vars.len(), argument))
+}
 
 // The word of the variables that the term of node k names.
 pub fn named(nodes: &[u32], n: usize, vars: &[u32], k: usize) -> u64
@@ -19,26 +29,25 @@ pub fn named(nodes: &[u32], n: usize, vars: &[u32], k: usize) -> u64
     ensures { λ r. ⌜ NamesAt (now (nodes .entry)) n (now (vars .entry)) k r ⌝ }
 {
     let node = nodes[k];
-    let op = node % OP_ROOM;
+    let op = operation(node);
     if op < FIRST_CALL {
         return 0;
     }
     if MEMBER <= op {
         return 0;
     }
-    let left = node / OP_ROOM % INDEX_ROOM;
+    let below = left(node);
     if op == OE {
-        return words::item(seek(vars, vars.len(), left));
+        return own(vars, below);
     }
-    let a = named(nodes, n, vars, left as usize);
+    let a = named(nodes, n, vars, below as usize);
     if op < OE {
         return a;
     }
     if op == AO {
-        return words::join(words::item(seek(vars, vars.len(), left)), a);
+        return words::join(own(vars, below), a);
     }
-    let right = (node / RIGHT_UNIT) as usize;
-    let b = named(nodes, n, vars, right);
+    let b = named(nodes, n, vars, right(node) as usize);
     words::join(a, b)
 }
 

@@ -3,17 +3,26 @@ use crate::calls;
 use crate::items;
 use syntax::nodes::AO;
 use syntax::nodes::FIRST_CALL;
-use syntax::nodes::INDEX_ROOM;
 use syntax::nodes::MEMBER;
 use syntax::nodes::OE;
-use syntax::nodes::OP_ROOM;
-use syntax::nodes::RIGHT_UNIT;
+use syntax::nodes::left;
+use syntax::nodes::operation;
+use syntax::nodes::right;
 use syntax::places::seek;
+ghost use mathlib.Core.Path.{_≡_};
 ghost use Prim.Native.Nat.{ℕ, _<_, _≤_};
-ghost use lib.ListN.{length};
+ghost use lib.ListN.{length, getD};
+ghost use Rattle.rules.specs.code.Variables.{placeIn};
 ghost use Rattle.values.specs.code.Nodes.{Evaluable};
 ghost use Rattle.values.specs.code.Levels.{Climbs};
 ghost use Rattle.values.specs.code.Cache.{StepAt, Settles};
+
+// The item chosen for the variable whose argument is a node.
+fn item(vars: &[u32], choice: &[u8], argument: u32) -> usize
+    ensures { λ r. ⌜ r ≡ getD (now (choice .entry)) (placeIn argument (now (vars .entry))) 0 ⌝ }
+{
+    items::chosen(choice, seek(vars, vars.len(), argument))
+}
 
 // The value of node k from those right below it, which the cache has.
 fn step(
@@ -30,16 +39,16 @@ fn step(
     ensures { λ r. ⌜ StepAt (now (t .entry)) (now (nodes .entry)) n (now (kinds .entry)) (now (vars .entry)) (now (choice .entry)) k (now (cache .entry)) r ⌝ }
 {
     let node = nodes[k];
-    let op = node % OP_ROOM;
+    let op = operation(node);
     if op < FIRST_CALL {
         return items::base(t, op as usize);
     }
     if MEMBER <= op {
         return 0;
     }
-    let left = (node / OP_ROOM % INDEX_ROOM) as usize;
+    let left = left(node) as usize;
     if op == OE {
-        let x = items::chosen(choice, seek(vars, vars.len(), left as u32));
+        let x = item(vars, choice, left as u32);
         return items::one(t, kinds[left], x);
     }
     let a = cache[left];
@@ -47,10 +56,10 @@ fn step(
         return calls::call(t, op, kinds[left], a);
     }
     if op == AO {
-        let x = items::chosen(choice, seek(vars, vars.len(), left as u32));
+        let x = item(vars, choice, left as u32);
         return words::less(a, words::item(x));
     }
-    let right = (node / RIGHT_UNIT) as usize;
+    let right = right(node) as usize;
     calls::two(t, op, a, cache[right])
 }
 

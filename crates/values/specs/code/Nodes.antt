@@ -3,7 +3,7 @@
 use mathlib.Core.Path.{_≡_}
 use mathlib.Core.Bool.{Bool, cond, not}
 use mathlib.Core.List.{List, [], _∷_}
-use Prim.Native.Nat.{ℕ, suc, _-_, _<_, _≤_}
+use Prim.Native.Nat.{ℕ, _-_, _<_, _≤_}
 use lib.Dec.{eqb}
 use lib.ListN.{length, getD}
 use Rattle.tables.specs.Tables.{Tables}
@@ -37,11 +37,6 @@ cmpAt d = getD (lt ∷ le ∷ gt ∷ ge ∷ eq ∷ ne ∷ []) d lt
 
 unfoldable pub sortAt : ℕ → Sort
 sortAt s = getD (sU ∷ sR ∷ sOP ∷ sOBJ ∷ sP ∷ sS ∷ []) s sU
-
--- The first place of k in the list, or its length.
-unfoldable pub placeIn : ℕ → List ℕ → ℕ
-placeIn k [] = 0
-placeIn k (v ∷ vs) = cond (eqb v k) 0 (suc (placeIn k vs))
 
 -- What a walk over nodes needs to stay within its slices: the tables are whole, node k is one of the first n, which are tidy and have kinds.
 pub record Evaluable (ts ns : List ℕ) (n : ℕ) (ks : List ℕ) (k : ℕ) : Type 0 where
