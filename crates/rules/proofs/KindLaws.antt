@@ -3,7 +3,7 @@
 use mathlib.Core.Path.{_≡_, refl, ap, ap₂, sym, subst, _∙_}
 use mathlib.Core.List.{List}
 use mathlib.Core.Option.{Option, none, some}
-use mathlib.Core.Bool.{Bool, true, false, not, _&&_, cond, and-true}
+use mathlib.Core.Bool.{Bool, true, false, _&&_, cond, and-true}
 use mathlib.Core.Logic.{⊎-elim}
 use Prim.Native.Nat.{ℕ, _+_, _*_, _-_, _/_, _%_, _<_, _≤_}
 use native.Mathlib.Omega.{arith}
@@ -13,17 +13,18 @@ use lib.ListN.{length, getD, set}
 use borrow.Author.Tests.{lt-ltb, le-ltb}
 use Rattle.syntax.specs.Term.{Base, bU, bR, bOP, bOBJ, bP, bS, bCR, bCP, bCU, Fn, user, roles, roles*, sessions, permissions, permissions*, object}
 use Rattle.syntax.specs.Term.{operations, meet, join, Term, base, call, oe, ao, two, Pair, calls, joins}
-use Rattle.syntax.specs.Rule.{Cmp, lt, le, gt, ge, eq, ne, Sign, is, isnt, number, count, Test, member, alike, empty, sized}
+use Rattle.syntax.specs.Rule.{Sign, is, isnt, number, count, Test, member, alike, empty, sized}
 use Rattle.syntax.specs.Rule.{Clause, plain, when, Rule, last, also}
 use Rattle.syntax.specs.code.Arena.{baseOp, fnOp, twoOp, alikeOp, emptyOp, cmpNumber, One}
 use Rattle.syntax.specs.code.Arena.{Holds, HoldsTest, HoldsClause, HoldsRule}
 use Rattle.syntax.specs.code.Nodes.{firstCall, oeOp, aoOp, firstPair, memberOp, firstAlike, firstEmpty, firstNumbered, firstCounted, whenOp, alsoOp, opAt, leftAt, rightAt, opRoom, operationOf, leftOf, rightOf}
 use Rattle.syntax.proofs.ArenaLaws.{base-small, two-range, Parts, none-parts, one-parts, both-parts}
+use Rattle.syntax.proofs.TestLaws.{cmp-small}
 use Rattle.rules.specs.Kind.{Kind, Kind≟, holds, oneOf, baseKind, takes, makes, ofElement}
 use Rattle.rules.specs.Kind.{callKind, inside, oneKind, othersKind, asSet, joined, row, call2Kind, twoKind, with, kind, check, countable, isMember, countKinds}
 use Rattle.rules.specs.Kind.{testKinds, clauseKinds, ruleKinds}
 use Rattle.rules.specs.code.Numbers.{kindCount, noKind, kindsFit, kindList, kindOf, oneArgument, oneTable, oneNumber, setNumber, pairTable, call2Number, twoNumber, countableNumber, fitsNumber, nodeNumber, stepNumber, KindAt, Kinded}
-use Rattle.rules.proofs.TableLaws.{left-of-and, right-of-and, entry, upto, below, pair}
+use Rattle.rules.proofs.TableLaws.{left-of-and, right-of-and, entry, upto, pair, same-below, same-pair}
 use Rattle.rules.proofs.NodeLaws.{numbered-parts, more-at}
 
 -- Tests of equality that are computed.
@@ -44,16 +45,6 @@ same-kind (some k) (some l) t = go (Kind≟ k l) t
     go : (d : Dec (k ≡ l)) → T (holds d) → some k ≡ some l
     go (yes p) t = ap some p
     go (no n) t = absurd t
-
-sameBool : Bool → Bool → Bool
-sameBool a b = cond a b (not b)
-
-same-bool : (a b : Bool) → T (sameBool a b) → a ≡ b
-unfolding sameBool
-same-bool true true t = refl
-same-bool true false t = absurd t
-same-bool false true t = absurd t
-same-bool false false t = refl
 
 -- z is a kind's number, and the kind is the one given.
 pub record Numbers (z : ℕ) (k : Option Kind) : Type 0 where
@@ -117,23 +108,16 @@ two-law o a b h l = numbers (twoNumber (twoOp o) a b) (with (kindOf a) (λ k. wi
 -- Tests, at all numbers and pairs of numbers.
 
 countable-law : (a : ℕ) → a < kindsFit → countableNumber a ≡ check (kindOf a) countable
-unfolding sameBool countableNumber kindOf kindList countable
-countable-law a h =
-    same-bool (countableNumber a) (check (kindOf a) countable)
-    (below (λ a. sameBool (countableNumber a) (check (kindOf a) countable)) kindsFit tt a h)
+unfolding countableNumber kindOf kindList countable
+countable-law a h = same-below countableNumber (λ a. check (kindOf a) countable) kindsFit tt a h
 
 member-law : (a b : ℕ) → a < kindsFit → b < kindsFit → fitsNumber memberOp a b ≡ check (kindOf a) (λ k. check (kindOf b) (λ l. isMember k l))
-unfolding sameBool fitsNumber kindOf kindList isMember
-member-law a b h l =
-    same-bool (fitsNumber memberOp a b) (check (kindOf a) (λ k. check (kindOf b) (λ l. isMember k l)))
-    (pair (λ a b. sameBool (fitsNumber memberOp a b) (check (kindOf a) (λ k. check (kindOf b) (λ l. isMember k l)))) kindsFit tt a b h l)
+unfolding fitsNumber kindOf kindList isMember
+member-law a b h l = same-pair (fitsNumber memberOp) (λ a b. check (kindOf a) (λ k. check (kindOf b) (λ l. isMember k l))) kindsFit tt a b h l
 
 alike-law : (g : Sign) (a b : ℕ) → a < kindsFit → b < kindsFit → fitsNumber (alikeOp g) a b ≡ check (kindOf a) (λ k. check (kindOf b) (λ l. holds (Kind≟ k l)))
-unfolding sameBool fitsNumber alikeOp kindOf kindList
-alike-law g a b h l =
-    same-sign g
-    ∙ same-bool (fitsNumber firstAlike a b) (check (kindOf a) (λ k. check (kindOf b) (λ l. holds (Kind≟ k l))))
-    (pair (λ a b. sameBool (fitsNumber firstAlike a b) (check (kindOf a) (λ k. check (kindOf b) (λ l. holds (Kind≟ k l))))) kindsFit tt a b h l)
+unfolding fitsNumber alikeOp kindOf kindList
+alike-law g a b h l = same-sign g ∙ same-pair (fitsNumber firstAlike) (λ a b. check (kindOf a) (λ k. check (kindOf b) (λ l. holds (Kind≟ k l)))) kindsFit tt a b h l
   where
     same-sign : (g : Sign) → fitsNumber (alikeOp g) a b ≡ fitsNumber firstAlike a b
     same-sign is = refl
@@ -239,15 +223,6 @@ unfolding emptyOp
 empty-op is = (lit≤ tt, lit< tt)
 empty-op isnt = (lit≤ tt, lit< tt)
 
-pub cmp-number : (c : Cmp) → cmpNumber c < 6
-unfolding cmpNumber
-cmp-number lt = lit< tt
-cmp-number le = lit< tt
-cmp-number gt = lit< tt
-cmp-number ge = lit< tt
-cmp-number eq = lit< tt
-cmp-number ne = lit< tt
-
 module _ (ns ks : List ℕ) (k : ℕ) (below : Kinded ns k ks) where
   -- What is known of the terms at the node's left and right.
   at-left : {o i j : ℕ} (a : Term) → Parts (getD ns k 0) o i j → i < k → Holds ns i a → Numbers (getD ks (leftAt ns k) noKind) (kind a)
@@ -306,11 +281,11 @@ module _ (ns ks : List ℕ) (k : ℕ) (below : Kinded ns k ks) where
       let h : emptyOp g < opRoom = omega (arith, empty-op g .1) in
       counted-step a (empty-op g .0) (omega (arith, empty-op g .1)) (one-parts (x .1) h) (x .1 .below) (x .2)
   test-step (sized c a (number m)) x =
-      let l = cmp-number c in
+      let l = cmp-small c in
       let h : firstNumbered + cmpNumber c < opRoom = omega arith in
       counted-step a (omega arith) (omega arith) (numbered-parts (x .1) h) (x .1 .below) (x .2) ∙ sym (and-true (check (kind a) countable))
   test-step (sized c a (count b)) x =
-      let l = cmp-number c in
+      let l = cmp-small c in
       let h : firstCounted + cmpNumber c < opRoom = omega arith in
       let p = both-parts (x .2) h in
       let v = at-left a p (x .2 .below) (x .3) in

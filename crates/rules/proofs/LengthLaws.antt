@@ -23,7 +23,8 @@ use Rattle.rules.specs.code.Lengths.{extraTable, extra, plainLength, kno
 use Rattle.rules.specs.code.Variables.{placeIn}
 use Rattle.rules.proofs.TableLaws.{entry}
 use Rattle.syntax.proofs.ArenaLaws.{base-small, fn-range, two-range, Parts, none-parts, one-parts, both-parts}
-use Rattle.rules.proofs.KindLaws.{alike-op, empty-op, cmp-number}
+use Rattle.syntax.proofs.TestLaws.{cmp-small}
+use Rattle.rules.proofs.KindLaws.{alike-op, empty-op}
 use Rattle.rules.proofs.NodeLaws.{numbered-parts, lt-or-le, more-at}
 use Rattle.rules.proofs.VariableLaws.{digit-found}
 use Rattle.rules.proofs.WalkLaws.{two-less, two-none, two-low, two-high}
@@ -126,13 +127,13 @@ test-spelt ns k σ (empty g a) x =
     let small : emptyOp g < opRoom = omega arith in
     as-single (term a) (omega arith) hi (λ _. lo) (one-parts (x .1) small) (x .1 .below) (x .2) (simp length-append (omega (arith, sign-extra g .1)))
 test-spelt ns k σ (sized c a (number m)) x =
-    let l = cmp-number c in
+    let l = cmp-small c in
     let small : firstNumbered + cmpNumber c < opRoom = omega arith in
     let p = numbered-parts (x .1) small in
     numbered (term a) (rw (p .op) (omega arith)) (rw (p .op) (omega arith)) (rw (p .left) (x .1 .below)) (rw (p .left) (x .2))
     (rw (p .op, p .right) (simp length-append (omega (arith, cmp-extra c .0, digits-length m))))
 test-spelt ns k σ (sized c a (count b)) x =
-    let l = cmp-number c in
+    let l = cmp-small c in
     as-double (term a) (term b) (omega arith) (omega arith) (two-high (firstCounted + cmpNumber c) (omega arith)) (x .2) (x .3) (x .4) (simp length-append (omega (arith, cmp-extra c .1)))
 
 -- A test alone is a clause, and a clause alone a rule.

@@ -14,9 +14,7 @@ use Rattle.answers.specs.declared.Refusal.the-variants.{KindMismatch, Choices}
 use Rattle.syntax.specs.Bytes.{Bytes}
 use Rattle.syntax.specs.Rule.{Rule, ruleVars, formula, ruleOf}
 use Rattle.syntax.specs.code.Arena.{HoldsRule}
-use Rattle.syntax.specs.code.Reading.{Rooted, Reads, noRule, someRule}
-use Rattle.syntax.specs.declared.Whole.{Whole}
-use Rattle.syntax.specs.declared.Whole.the-variants.{Nothing, Root}
+use Rattle.syntax.specs.code.Reading.{Rooted}
 use Rattle.rules.specs.declared.Checked.{Checked}
 use Rattle.rules.specs.declared.Checked.the-variants.{Refused, Accepted}
 use Rattle.rules.specs.declared.Found.{Found}
@@ -67,17 +65,6 @@ as-turned (passed f) q = let z : _≡_ {A = ℕ} 0 1 = cc in absurd (omega arith
 pub as-passed : {s : Bytes} {w : Checked} → ChecksText s w → w ≡ Accepted → FitText s
 as-passed (turned e) q = let z : _≡_ {A = ℕ} 0 1 = cc in absurd (omega arith)
 as-passed (passed f) q = f
-
-pub as-nothing : {s ns : List ℕ} {w : Whole} {o : Option Rule} → Reads s ns w o → w ≡ Nothing → o ≡ none
-as-nothing (noRule e) q = e
-as-nothing (someRule f) q = let z : _≡_ {A = ℕ} 0 1 = cc in absurd (omega arith)
-
-pub as-root : {s ns : List ℕ} {w : Whole} {o : Option Rule} {k n : ℕ} → Reads s ns w o → w ≡ Root k n → Rooted s ns k n o
-as-root (noRule e) q = let z : _≡_ {A = ℕ} 0 1 = cc in absurd (omega arith)
-as-root {k = k} {n = n} (someRule {k = k′} {n = n′} f) q =
-    let e : k′ ≡ k = cc in
-    let g : n′ ≡ n = cc in
-    rw e at (rw g at f)
 
 -- The checks on a text whose tree was read.
 pub find-tree : {s ns : List ℕ} {n root : ℕ} {ks vs : List ℕ} {w : Found} → FitText s → Rooted s ns root n (ruleOf s) → ChecksTree ns n root ks vs w → Finds s ns ks vs w

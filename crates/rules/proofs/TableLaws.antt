@@ -1,7 +1,7 @@
 -- A rule over a table, or over all small numbers, proved at every entry by one test that is computed.
 -- Assumes nothing.
-use mathlib.Core.Path.{_≡_, subst, sym, _∙_}
-use mathlib.Core.Bool.{Bool, true, false, _&&_}
+use mathlib.Core.Path.{_≡_, refl, subst, sym, _∙_}
+use mathlib.Core.Bool.{Bool, true, false, not, _&&_, cond}
 use mathlib.Core.List.{List, [], _∷_}
 use Prim.Native.Nat.{ℕ, zero, suc, _+_, _<_}
 use native.Mathlib.Nat.{add-zero, zero-add, add-suc, suc-add, le-of-suc-le-suc, not-suc-le-zero, eq-or-lt-of-le}
@@ -47,3 +47,19 @@ below f (suc n) t k h =
 
 pub pair : (f : ℕ → ℕ → Bool) (n : ℕ) → T (upto (λ a. upto (f a) n) n) → (a b : ℕ) → a < n → b < n → T (f a b)
 pair f n t a b h l = below (f a) n (below (λ a. upto (f a) n) n t a h) b l
+
+-- Two tests agree at each number below n, and at each pair of them.
+abbrev pub sameBool : Bool → Bool → Bool
+sameBool a b = cond a b (not b)
+
+same-bool : (a b : Bool) → T (sameBool a b) → a ≡ b
+same-bool true true t = refl
+same-bool true false t = absurd t
+same-bool false true t = absurd t
+same-bool false false t = refl
+
+pub same-below : (f g : ℕ → Bool) (n : ℕ) → T (upto (λ a. sameBool (f a) (g a)) n) → (a : ℕ) → a < n → f a ≡ g a
+same-below f g n t a h = same-bool (f a) (g a) (below (λ a. sameBool (f a) (g a)) n t a h)
+
+pub same-pair : (f g : ℕ → ℕ → Bool) (n : ℕ) → T (upto (λ a. upto (λ b. sameBool (f a b) (g a b)) n) n) → (a b : ℕ) → a < n → b < n → f a b ≡ g a b
+same-pair f g n t a b h l = same-bool (f a b) (g a b) (pair (λ a b. sameBool (f a b) (g a b)) n t a b h l)

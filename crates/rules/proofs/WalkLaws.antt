@@ -16,7 +16,8 @@ use Rattle.rules.specs.Accept.{choicesLimit}
 use Rattle.rules.specs.code.Thing.{Thing, term, test, clause, rule, HoldsThing, thingVars}
 use Rattle.rules.specs.code.Variables.{VariableList, Walked, VarsOf, Added, many, known, over, new}
 use Rattle.syntax.proofs.ArenaLaws.{base-small, fn-range, two-range, Parts, none-parts, one-parts, both-parts}
-use Rattle.rules.proofs.KindLaws.{alike-op, empty-op, cmp-number}
+use Rattle.syntax.proofs.TestLaws.{cmp-small}
+use Rattle.rules.proofs.KindLaws.{alike-op, empty-op}
 use Rattle.rules.proofs.NodeLaws.{numbered-parts}
 use Rattle.rules.proofs.VariableLaws.{listed-add}
 
@@ -72,11 +73,11 @@ test-shape ns k (empty g a) x =
     let small : emptyOp g < opRoom = omega arith in
     as-single (term a) (omega arith) (λ _. omega arith) (two-none (emptyOp g) lo (omega arith)) (one-parts (x .1) small) (x .2) (λ σ. refl)
 test-shape ns k (sized c a (number m)) x =
-    let l = cmp-number c in
+    let l = cmp-small c in
     let small : firstNumbered + cmpNumber c < opRoom = omega arith in
     as-single (term a) (omega arith) (λ _. omega arith) (two-none (firstNumbered + cmpNumber c) (omega arith) (omega arith)) (numbered-parts (x .1) small) (x .2) (λ σ. refl)
 test-shape ns k (sized c a (count b)) x =
-    let l = cmp-number c in
+    let l = cmp-small c in
     as-double (term a) (term b) (omega arith) (omega arith) (two-high (firstCounted + cmpNumber c) (omega arith)) (x .2) (x .3) (x .4) (λ σ. refl)
 
 -- A test alone is a clause, and a clause alone a rule.

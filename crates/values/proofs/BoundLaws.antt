@@ -9,12 +9,12 @@ use Prim.Native.Nat.{ℕ, zero, suc, _+_, _^_, _<_, _≤_}
 use native.Mathlib.Decide.{ℕ-discrete}
 use native.Mathlib.Nat.{eq-or-lt-of-le}
 use native.Mathlib.Omega.{arith}
-use lib.Dec.{eqb, ltb, lit<}
+use lib.Dec.{eqb, lit<}
 use lib.ListN.{length, getD, length-append}
 use lib.Seq.{getD-append-seam}
 use borrow.Author.Tests.{eqb-true}
-use Rattle.words.specs.Words.{has, wordOf, allOf, itemOf, meetOf, joinOf, lessOf}
-use Rattle.words.proofs.WordsLaws.{has-in, word-has, and-true, all-lt}
+use Rattle.words.specs.Words.{has, allOf, itemOf, meetOf, joinOf, lessOf}
+use Rattle.words.proofs.WordsLaws.{has-in, and-true, all-lt}
 use Rattle.tables.specs.Tables.{Tables}
 use Rattle.tables.specs.Accepted.{Below, Sound}
 use Rattle.syntax.specs.Term.{bU, Fn, user, roles, roles*, sessions, permissions, permissions*, object}
@@ -33,27 +33,24 @@ use Rattle.values.specs.Values.{opValue, twoValue, variableOf, itemIn, o
 use Rattle.values.specs.Items.{sortItems, kindItems}
 use Rattle.values.specs.Sets.{setOf, itemsOfKind, itemsOf, inSet}
 use Rattle.values.proofs.VariableLaws.{variable-digit, variable-at, variable-more}
-use Rattle.values.proofs.InsideLaws.{Among, among-all, row-inside, permissions-few, call-among, call2-among}
+use Rattle.values.proofs.InsideLaws.{Among, of-those, among-all, row-inside, permissions-few, call-among, call2-among}
 
 -- Which items a word has by its making.
-in-word : (f : ℕ → Bool) (x : ℕ) → has (wordOf 64 f) x ≡ true → f x ≡ true
-in-word f x h = and-true (ltb x 64) (f x) (sym (word-has 64 f x) ∙ h) .1
-
 item-among : (u i : ℕ) → has u i ≡ true → Among u (itemOf i)
 unfolding itemOf
-item-among u i l x h = ap (has u) (eqb-true x i (in-word (λ j. eqb j i) x h)) ∙ l
+item-among u i l x h = ap (has u) (eqb-true x i (of-those (λ j. eqb j i) x h)) ∙ l
 
 less-among : (u v w : ℕ) → Among u v → Among u (lessOf v w)
 unfolding lessOf
-less-among u v w f x h = f x (and-true (has v x) (not (has w x)) (in-word (λ i. has v i && not (has w i)) x h) .0)
+less-among u v w f x h = f x (and-true (has v x) (not (has w x)) (of-those (λ i. has v i && not (has w i)) x h) .0)
 
 meet-among : (u v w : ℕ) → Among u v → Among u (meetOf v w)
 unfolding meetOf
-meet-among u v w f x h = f x (and-true (has v x) (has w x) (in-word (λ i. has v i && has w i) x h) .0)
+meet-among u v w f x h = f x (and-true (has v x) (has w x) (of-those (λ i. has v i && has w i) x h) .0)
 
 join-among : (u v w : ℕ) → Among u v → Among u w → Among u (joinOf v w)
 unfolding joinOf
-join-among u v w f g x h = go (has v x) refl (in-word (λ i. has v i || has w i) x h)
+join-among u v w f g x h = go (has v x) refl (of-those (λ i. has v i || has w i) x h)
   where
     go : (t : Bool) → has v x ≡ t → (t || has w x) ≡ true → has u x ≡ true
     go true e q = f x e

@@ -9,18 +9,19 @@ use native.Mathlib.Nat.{eq-or-lt-of-le}
 use native.Mathlib.Omega.{arith}
 use lib.ListN.{length, getD, set, length-set}
 use lib.Seq.{getD-set-same, getD-set-other}
-use Rattle.values.specs.code.Levels.{Following, Chained}
+use Rattle.rules.specs.Accept.{ruleLimit}
+use Rattle.values.specs.code.Levels.{Following, levelCount, Chained}
 
 -- The chains of the nodes from k on.
 pub record From (n : ℕ) (levels first next : List ℕ) (k : ℕ) : Type 0 where
   pub within : k ≤ n
-  pub many : length first ≡ 9
-  pub long : length next ≡ 256
-  pub starts : (d : ℕ) → d < 9 → Following n levels d k (getD first d 0)
+  pub many : length first ≡ levelCount
+  pub long : length next ≡ ruleLimit
+  pub starts : (d : ℕ) → d < levelCount → Following n levels d k (getD first d 0)
   pub goes : (j : ℕ) → k ≤ j → j < n → Following n levels (getD levels j 0) (j + 1) (getD next j 0)
 
 -- From n on there are none.
-pub from-none : (n : ℕ) (levels first next : List ℕ) → length first ≡ 9 → length next ≡ 256 → ((d : ℕ) → d < 9 → getD first d 0 ≡ n) → From n levels first next n
+pub from-none : (n : ℕ) (levels first next : List ℕ) → length first ≡ levelCount → length next ≡ ruleLimit → ((d : ℕ) → d < levelCount → getD first d 0 ≡ n) → From n levels first next n
 from-none n levels first next m l h = record {
   within = omega arith;
   many = m;
@@ -30,7 +31,7 @@ from-none n levels first next m l h = record {
 }
 
 -- One node more: its chain goes on where that of its level started, which starts with it now.
-module _ {n : ℕ} {levels first next : List ℕ} {k : ℕ} (F : From n levels first next (k + 1)) (room : n ≤ 256) (small : getD levels k 0 < 9) where
+module _ {n : ℕ} {levels first next : List ℕ} {k : ℕ} (F : From n levels first next (k + 1)) (room : n ≤ ruleLimit) (small : getD levels k 0 < levelCount) where
   starts-here : (d : ℕ) → Following n levels d (k + 1) (getD first d 0) → (getD levels k 0 ≡ d → ⊥) → Following n levels d k (getD first d 0)
   starts-here d G ne = record {
     start = omega (arith, G .start);
@@ -51,7 +52,7 @@ module _ {n : ℕ} {levels first next : List ℕ} {k : ℕ} (F : From n levels f
         goes = λ j p q. at j q (eq-or-lt-of-le p);
       }
     where
-      go : (a : ℕ) → a < 9 → Dec (a ≡ d) → Following n levels a k (getD (set first d k) a 0)
+      go : (a : ℕ) → a < levelCount → Dec (a ≡ d) → Following n levels a k (getD (set first d k) a 0)
       go a l (yes s) =
           rw (s, getD-set-same first d k 0 (omega (arith, F .many))) (record {
             start = omega arith;
@@ -72,7 +73,7 @@ module _ {n : ℕ} {levels first next : List ℕ} {k : ℕ} (F : From n levels f
           o
 
 -- From 0 on they are whole.
-pub from-all : (n : ℕ) (levels first next : List ℕ) (k : ℕ) → k ≡ 0 → n ≤ 256 → From n levels first next k → Chained n levels first next
+pub from-all : (n : ℕ) (levels first next : List ℕ) (k : ℕ) → k ≡ 0 → n ≤ ruleLimit → From n levels first next k → Chained n levels first next
 from-all n levels first next k z room F = record {
   many = F .many;
   starts = rw z at (F .starts);

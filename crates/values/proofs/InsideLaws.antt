@@ -54,7 +54,7 @@ row-there rows i x h = go (decLt i (length rows))
         absurd (true≢false (sym h ∙ ap (λ (w : ℕ). has w x) (List·getD-eq-default rows 0 past) ∙ has-zero x))
 
 -- What is in the word of those that have f has f; and that there is one of w with f means one.
-of-those : (f : ℕ → Bool) (x : ℕ) → has (those f) x ≡ true → f x ≡ true
+pub of-those : (f : ℕ → Bool) (x : ℕ) → has (those f) x ≡ true → f x ≡ true
 of-those f x h = and-true (ltb x 64) (f x) (sym (word-has 64 f x) ∙ h) .1
 
 pub record Witness (f : ℕ → Bool) : Type 0 where

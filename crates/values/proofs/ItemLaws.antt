@@ -1,13 +1,13 @@
 -- The leaves of an evaluation, by number: what the tables have at a place, what a kind's number says, where a variable stands.
 -- Assumes nothing.
 use mathlib.Core.Path.{_≡_, refl, sym, ap, subst, _∙_}
-use mathlib.Core.Bool.{Bool, true, false, not, _&&_, cond}
+use mathlib.Core.Bool.{Bool, true, false, _&&_}
 use mathlib.Core.List.{List, [], _∷_}
 use mathlib.Core.Logic.{⊎-elim}
 use Prim.Native.Nat.{ℕ, zero, suc, _+_, _-_, _%_, _<_, _≤_}
 use native.Mathlib.Nat.{eq-or-lt-of-le}
 use native.Mathlib.Omega.{arith}
-use lib.Dec.{T, eqb, ltb, lit<}
+use lib.Dec.{eqb, ltb, lit<}
 use lib.ListN.{length, getD, List·getD-eq-default}
 use borrow.Author.Tests.{lt-ltb, le-ltb}
 use Rattle.words.specs.Words.{allOf, itemOf}
@@ -20,7 +20,7 @@ use Rattle.tables.proofs.FlatLaws.{flat-at, count-at}
 use Rattle.syntax.specs.code.Nodes.{firstCall}
 use Rattle.rules.specs.Kind.{baseKind}
 use Rattle.rules.specs.code.Numbers.{firstSet, firstCollection, noKind, kindsFit, kindList, kindOf}
-use Rattle.rules.proofs.TableLaws.{pair}
+use Rattle.rules.proofs.TableLaws.{same-pair}
 use Rattle.values.specs.Items.{sortItems, kindItems}
 use Rattle.values.specs.Values.{ofSort, oneValue}
 use Rattle.values.specs.code.Nodes.{baseAt, sortAt}
@@ -99,23 +99,11 @@ module _ (T : Tables) (x : ℕ) (k : ℕ) (l : firstCollection ≤ k) (h : k < n
       past ws q = sym (List·getD-eq-default ws 0 q)
 
 -- Whether a kind is an element or a set of a sort, by their numbers.
-sameB : Bool → Bool → Bool
-sameB true b = b
-sameB false b = not b
-
-same-eq : (a b : Bool) → T (sameB a b) → a ≡ b
-unfolding sameB
-same-eq true true t = refl
-same-eq true false t = absurd t
-same-eq false true t = absurd t
-same-eq false false t = refl
-
-sortTest : ℕ → ℕ → Bool
-sortTest s k = cond (ltb s firstSet) (sameB (ltb k firstCollection && eqb (k % firstSet) s) (ofSort (sortAt s) (kindOf k))) true
-
 is-sort : (s k : ℕ) → s < firstSet → k < kindsFit → (ltb k firstCollection && eqb (k % firstSet) s) ≡ ofSort (sortAt s) (kindOf k)
-unfolding sortTest sameB ofSort sortAt kindOf kindList
-is-sort s k h l = same-eq (ltb k firstCollection && eqb (k % firstSet) s) (ofSort (sortAt s) (kindOf k)) (rw (lt-ltb s firstSet h) at (pair sortTest kindsFit tt s k (omega arith) l))
+unfolding ofSort sortAt kindOf kindList
+is-sort s k h l =
+    rw (lt-ltb s firstSet h) at
+    (same-pair (λ s k. ltb s firstSet && (ltb k firstCollection && eqb (k % firstSet) s)) (λ s k. ltb s firstSet && ofSort (sortAt s) (kindOf k)) kindsFit tt s k (omega arith) l)
 
 pub sort-yes : (s k : ℕ) → s < firstSet → k < firstCollection → eqb (k % firstSet) s ≡ ofSort (sortAt s) (kindOf k)
 sort-yes s k h l = ap (λ (b : Bool). b && eqb (k % firstSet) s) (sym (lt-ltb k firstCollection l)) ∙ is-sort s k h (omega arith)

@@ -7,8 +7,7 @@ use mathlib.Core.Logic.{⊎-elim}
 use Prim.Native.Nat.{ℕ, _+_, _-_, _<_, _≤_}
 use native.Mathlib.Nat.{eq-or-lt-of-le}
 use native.Mathlib.Omega.{arith}
-use lib.ListN.{length, getD, set}
-use lib.Seq.{getD-set-same, getD-set-other}
+use lib.ListN.{length, getD}
 use Rattle.words.specs.Words.{has}
 use Rattle.rules.proofs.NodeLaws.{lt-or-le}
 use Rattle.values.specs.Sets.{namesIn}
@@ -58,18 +57,6 @@ level-below order p q r s l m h =
   where
     least : (i : ℕ) → 0 ≤ i
     least i = omega arith
-
--- One more place of a list is filled.
-pub more-at : (P : ℕ → ℕ → Type 0) (found : List ℕ) (k r : ℕ) → k < length found → ((j : ℕ) → j < k → P j (getD found j 0)) → P k r
-    → (j : ℕ) → j < k + 1 → P j (getD (set found k r) j 0)
-more-at P found k r l h p j m =
-    ⊎-elim
-    (λ (q : j ≡ k). rw (q, getD-set-same found k r 0 l) p)
-    (λ (q : j < k). rw (getD-set-other found k j r 0 (omega arith)) (h j q))
-    (eq-or-lt-of-le (at-most m))
-  where
-    at-most : j < k + 1 → j ≤ k
-    at-most q = omega arith
 
 -- What is chosen for the variable after the first l of the order leaves the values of the levels up to l.
 pub stored-other : {ts ns : List ℕ} {n : ℕ} {ks vs c cache levels : List ℕ} (order : List ℕ) (l v : ℕ) (d : List ℕ) → l < length order → getD order l 0 ≡ v

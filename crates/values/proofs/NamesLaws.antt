@@ -4,13 +4,12 @@ use mathlib.Core.Path.{_≡_, sym, ap, ap₂, _∙_}
 use mathlib.Core.Bool.{Bool, _||_}
 use mathlib.Core.List.{List, [], _∷_}
 use Prim.Native.Nat.{ℕ, zero, suc, _+_, _<_, _≤_}
-use native.Mathlib.Decide.{ℕ-discrete}
 use native.Mathlib.Omega.{arith}
 use lib.Dec.{eqb}
 use lib.ListN.{length, getD, set}
-use borrow.Author.Tests.{eq-eqb, ne-eqb}
 use Rattle.words.specs.Words.{has, itemOf, joinOf}
 use Rattle.words.proofs.WordsLaws.{has-zero, has-item, has-join}
+use Rattle.functions.proofs.FunctionsLaws.{eqb-comm}
 use Rattle.syntax.specs.Term.{Term, Choices}
 use Rattle.syntax.specs.code.Arena.{Holds, HoldsAll, Tidy}
 use Rattle.syntax.specs.code.Nodes.{firstCall, oeOp, aoOp, firstPair, opAt, leftAt, rightAt}
@@ -20,13 +19,6 @@ use Rattle.rules.specs.code.Variables.{placeIn}
 use Rattle.rules.proofs.NodeLaws.{left-below, more-at}
 use Rattle.values.specs.code.Nodes.{Variables, Named}
 use Rattle.values.proofs.NodeLaws.{is-base, is-call, is-one, is-others, is-two, variable-place}
-
-eqb-swap : (a b : ℕ) → eqb a b ≡ eqb b a
-eqb-swap a b = go (ℕ-discrete a b)
-  where
-    go : Dec (a ≡ b) → eqb a b ≡ eqb b a
-    go (yes e) = eq-eqb a b e ∙ sym (eq-eqb b a (sym e))
-    go (no n) = ne-eqb a b n ∙ sym (ne-eqb b a (λ e. n (sym e)))
 
 module _ {ns : List ℕ} {n : ℕ} {vs : List ℕ} {σ : Choices} (d : Tidy ns n) (w : Variables ns n vs σ) (k : ℕ) (h : k < n) (t : Term) (x : Holds ns k t)
     (u : ℕ) (l : u < 64) {o : ℕ} (op : o ≡ opAt ns k) where
@@ -39,7 +31,7 @@ module _ {ns : List ℕ} {n : ℕ} {vs : List ℕ} {σ : Choices} (d : Tidy ns n
     names-own : (a : Term) → firstCall ≤ o → Holds ns (leftAt ns k) a → (r : ℕ) → r ≡ itemOf (placeIn i vs) → has r u ≡ eqb (variableOf σ a) u
     names-own a m y r e =
         let b = left-below d h op at m in
-        ap (λ (z : ℕ). has z u) e ∙ has-item (placeIn i vs) u l ∙ eqb-swap u (placeIn i vs)
+        ap (λ (z : ℕ). has z u) e ∙ has-item (placeIn i vs) u l ∙ eqb-comm u (placeIn i vs)
         ∙ ap (λ (z : ℕ). eqb z u) (variable-place d w i a (omega arith) (rw at y))
 
     pub names-one : o ≡ oeOp → (r : ℕ) → r ≡ itemOf (placeIn i vs) → has r u ≡ namesIn σ t u

@@ -3,7 +3,7 @@
 use mathlib.Core.Path.{_≡_, refl, ap, sym, _∙_}
 use mathlib.Core.List.{[], _∷_, _++_, append-assoc, append-nil}
 use mathlib.Core.Option.{Option, some}
-use mathlib.Core.Bool.{Bool, true, false, _||_}
+use mathlib.Core.Bool.{Bool, true, false, _||_, or-assoc, or-comm, or-false}
 use Prim.Native.Nat.{ℕ, zero, suc, _+_, _≤_, _<_}
 use native.Mathlib.Omega.{arith}
 use native.Mathlib.Decide.{ℕ-discrete}
@@ -16,6 +16,7 @@ use Rattle.syntax.specs.Term.{object, operations, meet, join, calls, joins, Ter
 use Rattle.syntax.specs.Term.{isBase, isCall, isCall2, isBracket, spell, spellMiddle, opening, parting, text, oeText, aoText}
 use Rattle.syntax.specs.Rule.{Rule, ruleVars}
 use Rattle.syntax.proofs.Closed.{In, Known, Ordered, text-more, rule-ordered}
+use Rattle.rules.specs.Accept.{choicesLimit}
 use Rattle.values.specs.Values.{variableOf}
 use Rattle.values.specs.Sets.{setOf, namesIn, names}
 use Rattle.values.specs.Naming.{writes}
@@ -45,11 +46,11 @@ only-got true s = refl
 only-got false s = refl
 
 -- The digit of a variable is no `v`.
-writes-digit : (u m : ℕ) (r : Bytes) → m < 8 → writes u ((49 + m) ∷ r) ≡ writes u r
+writes-digit : (u m : ℕ) (r : Bytes) → m < choicesLimit → writes u ((49 + m) ∷ r) ≡ writes u r
 unfolding writes begins skip
 writes-digit u m r h = rw (ne-eqb 118 (49 + m) (omega arith))
 
-writes-variable : (u m : ℕ) (r : Bytes) → m < 8 → writes u (118 ∷ (49 + m) ∷ r) ≡ (eqb m u || writes u r)
+writes-variable : (u m : ℕ) (r : Bytes) → m < choicesLimit → writes u (118 ∷ (49 + m) ∷ r) ≡ (eqb m u || writes u r)
 unfolding writes begins skip
 writes-variable u m r h = rw (only-got (eqb (49 + u) (49 + m)) r, same-digit u m, ne-eqb 118 (49 + m) (omega arith))
 
@@ -78,17 +79,10 @@ writes-call u permissions* r = refl
 writes-call u object r = refl
 
 or-three : (a b c : Bool) → (a || (b || c)) ≡ ((b || a) || c)
-or-three true true c = refl
-or-three true false c = refl
-or-three false true c = refl
-or-three false false c = refl
+or-three a b c = sym (or-assoc a b c) ∙ ap (λ (x : Bool). x || c) (or-comm a b)
 
-or-assoc : (a b c : Bool) → (a || (b || c)) ≡ ((a || b) || c)
-or-assoc true b c = refl
-or-assoc false b c = refl
-
--- A term whose choices are all among σ, of which there are at most 8.
-module _ (σ ys : Choices) (few : length σ ≤ 8) (u : ℕ) where
+-- A term whose choices are all among σ, of which there are not too many.
+module _ (σ ys : Choices) (few : length σ ≤ choicesLimit) (u : ℕ) where
   abbrev Names : Term → Type 0
   Names t = (r : Bytes) → writes u (text σ t ++ r) ≡ (namesIn (σ ++ ys) t u || writes u r)
 
@@ -96,18 +90,18 @@ module _ (σ ys : Choices) (few : length σ ≤ 8) (u : ℕ) where
   abbrev of : Term → ℕ
   of a = variableOf (σ ++ ys) a
 
-  numbered : (a : Term) → In σ a → (digit σ a ≡ some (49 + of a)) × (of a < 8)
+  numbered : (a : Term) → In σ a → (digit σ a ≡ some (49 + of a)) × (of a < choicesLimit)
   numbered a h =
       let l = variable-digit 49 σ a (h .0) (h .1) in
       let m = variable-more σ ys a l in
       let e : h .0 ≡ 49 + of a = omega (arith, digit-is 49 σ a (h .0) (h .1), m) in
       (h .1 ∙ ap some e, omega (arith, l, m))
 
-  one : (a : Term) (o : Option ℕ) → o ≡ some (49 + of a) → of a < 8 → (r : Bytes) → writes u (oeText o (text σ a) ++ r) ≡ (eqb (of a) u || writes u r)
+  one : (a : Term) (o : Option ℕ) → o ≡ some (49 + of a) → of a < choicesLimit → (r : Bytes) → writes u (oeText o (text σ a) ++ r) ≡ (eqb (of a) u || writes u r)
   unfolding oeText spell
   one a o e h r = rw e (writes-variable u (of a) r h)
 
-  others : (a : Term) → Names a → (o : Option ℕ) → o ≡ some (49 + of a) → of a < 8 → (r : Bytes)
+  others : (a : Term) → Names a → (o : Option ℕ) → o ≡ some (49 + of a) → of a < choicesLimit → (r : Bytes)
       → writes u (aoText o (text σ a) ++ r) ≡ ((eqb (of a) u || namesIn (σ ++ ys) a u) || writes u r)
   unfolding aoText spell spellMiddle writes begins skip
   others a ih o e h r =
@@ -127,7 +121,7 @@ module _ (σ ys : Choices) (few : length σ ≤ 8) (u : ℕ) where
       ∙ g (text σ a ++ (k ∷ (text σ b ++ (41 ∷ r))))
       ∙ p (k ∷ (text σ b ++ (41 ∷ r)))
       ∙ ap (λ (c : Bool). namesIn (σ ++ ys) a u || c) (h (text σ b ++ (41 ∷ r)) ∙ q (41 ∷ r))
-      ∙ or-assoc (namesIn (σ ++ ys) a u) (namesIn (σ ++ ys) b u) (writes u r)
+      ∙ sym (or-assoc (namesIn (σ ++ ys) a u) (namesIn (σ ++ ys) b u) (writes u r))
 
   written : (t : Term) → Known σ t → Names t
   unfolding text namesIn writes begins skip spell spellMiddle opening parting
@@ -143,20 +137,16 @@ module _ (σ ys : Choices) (few : length σ ≤ 8) (u : ℕ) where
   written (two (joins meet) a b) k r = pair (spell isBracket) 38 a b (λ s. refl) (λ s. refl) (written a (k .0)) (written b (k .1)) r
   written (two (joins join) a b) k r = pair (spell isBracket) 43 a b (λ s. refl) (λ s. refl) (written a (k .0)) (written b (k .1)) r
 
-or-false : (b : Bool) → (b || false) ≡ b
-or-false true = refl
-or-false false = refl
-
-set-written : (σ xs τ : Choices) → σ ++ xs ≡ τ → Ordered σ xs → length τ ≤ 8 → (i : ℕ) → i < length xs → (d : Term) (u : ℕ) → writes u (text τ (getD xs i d)) ≡ namesIn τ (getD xs i d) u
+set-written : (σ xs τ : Choices) → σ ++ xs ≡ τ → Ordered σ xs → length τ ≤ choicesLimit → (i : ℕ) → i < length xs → (d : Term) (u : ℕ) → writes u (text τ (getD xs i d)) ≡ namesIn τ (getD xs i d) u
 unfolding writes
 set-written σ [] τ e o few i l d u = absurd (omega arith)
 set-written σ (x ∷ xs) τ e o few zero l d u =
-    let n : length σ ≤ 8 = omega (arith, ap length e, length-append σ (x ∷ xs)) in
+    let n : length σ ≤ choicesLimit = omega (arith, ap length e, length-append σ (x ∷ xs)) in
     let p : text τ x ≡ text σ x ++ [] = ap (λ (υ : Choices). text υ x) (sym e) ∙ text-more σ (x ∷ xs) x (o .0) ∙ sym (append-nil (text σ x)) in
     ap (writes u) p ∙ written σ (x ∷ xs) n u x (o .0) [] ∙ or-false (namesIn (σ ++ (x ∷ xs)) x u) ∙ ap (λ (υ : Choices). namesIn υ x u) e
 set-written σ (x ∷ xs) τ e o few (suc i) l d u = set-written (σ ++ (x ∷ [])) xs τ (append-assoc σ (x ∷ []) xs ∙ e) (o .1) few i (omega arith) d u
 
 -- "it names the variables written in it"
-pub names-written : (ρ : Rule) → length (ruleVars [] ρ) ≤ 8 → (v u : ℕ) → v < length (ruleVars [] ρ)
+pub names-written : (ρ : Rule) → length (ruleVars [] ρ) ≤ choicesLimit → (v u : ℕ) → v < length (ruleVars [] ρ)
     → writes u (text (ruleVars [] ρ) (setOf (ruleVars [] ρ) v)) ≡ names (ruleVars [] ρ) v u
 names-written ρ few v u l = set-written [] (ruleVars [] ρ) (ruleVars [] ρ) refl (rule-ordered [] ρ tt) few v l _ u

@@ -1,4 +1,5 @@
 // What terms, and with them the sets of the variables, name, as words of variables.
+use rules::CHOICES_LIMIT;
 use syntax::nodes::AO;
 use syntax::nodes::FIRST_CALL;
 use syntax::nodes::MEMBER;
@@ -13,6 +14,7 @@ ghost use lib.ListN.{length, getD};
 ghost use Rattle.syntax.specs.Term.{Choices};
 ghost use Rattle.syntax.specs.code.Arena.{Tidy};
 ghost use Rattle.words.specs.Words.{itemOf};
+ghost use Rattle.rules.specs.Accept.{choicesLimit};
 ghost use Rattle.rules.specs.code.Variables.{placeIn};
 ghost use Rattle.values.specs.code.Nodes.{NamesAt, Variables, Named};
 
@@ -52,11 +54,11 @@ pub fn named(nodes: &[u32], n: usize, vars: &[u32], k: usize) -> u64
 }
 
 // For each variable the word of those that its set names.
-pub fn names(nodes: &[u32], n: usize, vars: &[u32]) -> [u64; 8]
-    requires { ⌜ Tidy (now nodes) n × (length (now vars) ≤ 8) × ((i : ℕ) → i < length (now vars) → getD (now vars) i 0 < n) ⌝ }
+pub fn names(nodes: &[u32], n: usize, vars: &[u32]) -> [u64; CHOICES_LIMIT]
+    requires { ⌜ Tidy (now nodes) n × (length (now vars) ≤ choicesLimit) × ((i : ℕ) → i < length (now vars) → getD (now vars) i 0 < n) ⌝ }
     ensures { λ r. ⌜ ((σ : Choices) → Variables (now (nodes .entry)) n (now (vars .entry)) σ → Named (length (now (vars .entry))) r σ) ⌝ }
 {
-    let mut words = [0u64; 8];
+    let mut words = [0u64; CHOICES_LIMIT];
     let mut v = 0;
     while v < vars.len() {
         words[v] = named(nodes, n, vars, vars[v] as usize);

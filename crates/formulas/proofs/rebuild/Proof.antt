@@ -5,7 +5,7 @@ use native.Mathlib.Omega.{arith}
 use lib.Seq.{length-take-le}
 use borrow.Author.Tests.{not-true, not-false}
 use borrow.Author.Needs.{needs}
-use Rattle.rules.proofs.ParseLaws.{as-nothing, as-root}
+use Rattle.syntax.proofs.FormulaLaws.{as-nothing, as-root}
 use Rattle.formulas.proofs.WrittenLaws.{answers-wrote}
 use Rattle.formulas.proofs.ReduceLaws.{rebuild-gives, rebuild-long, rebuild-deep, rebuild-unread, rebuild-wide, rebuild-refused, rebuild-apart, rebuild-same, rebuild-ready, rebuild-text}
 use Rattle.formulas.proofs.rebuild.Statement.{statement}

@@ -3,8 +3,9 @@
 use native.Mathlib.Omega.{arith}
 use borrow.Author.Needs.{needs}
 use Rattle.rules.specs.code.Parsed.{rejected}
+use Rattle.syntax.proofs.FormulaLaws.{as-nothing, as-root}
 use Rattle.rules.proofs.AcceptLaws.{refuse-text}
-use Rattle.rules.proofs.ParseLaws.{as-turned, as-passed, as-nothing, as-root, find-tree}
+use Rattle.rules.proofs.ParseLaws.{as-turned, as-passed, find-tree}
 use Rattle.rules.proofs.find.Statement.{statement}
 use Rattle.rules.proofs.find.Tie as tie
 
@@ -21,7 +22,7 @@ enum-told : tie.Need-enum-told
 enum-told c = search needs
 
 rule-requires : tie.Need-rule-requires
-rule-requires c κs = let f = as-passed (c .before .before .before .check-text .ensures) (c .before .enum-told .given .1) in (omega (arith, f .short, c .before .before .before .before .before .before .before .before .pre), omega (arith, f .short, c .before .before .before .before .before .before .before .before .pre))
+rule-requires c κs = let f = as-passed (c .before .before .before .check-text .ensures) (c .before .enum-told .given .1) in (omega (arith, f .short, c .before .before .before .before .before .before .before .before .pre), omega (arith, f .short, c .before .before .before .before .before .before .before .before .pre), omega (arith, f .short, c .before .before .before .before .before .before .before .before .pre))
 
 enum-known-node : tie.Need-enum-known-node
 enum-known-node c = search needs

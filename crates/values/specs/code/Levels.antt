@@ -3,10 +3,11 @@
 use mathlib.Core.Path.{_≡_}
 use mathlib.Core.Bool.{Bool, true}
 use mathlib.Core.List.{List}
-use Prim.Native.Nat.{ℕ, _+_, _-_, _<_, _≤_}
+use Prim.Native.Nat.{ℕ, suc, _+_, _-_, _<_, _≤_}
 use lib.ListN.{length, getD}
 use Rattle.syntax.specs.Term.{Term, Choices}
 use Rattle.syntax.specs.code.Arena.{Holds}
+use Rattle.rules.specs.Accept.{choicesLimit}
 use Rattle.values.specs.Sets.{namesIn}
 use Rattle.values.specs.code.Nodes.{Variables}
 
@@ -42,8 +43,12 @@ pub record Climbs (n : ℕ) (next : List ℕ) : Type 0 where
   pub long : n ≤ length next
   pub up : (k : ℕ) → k < n → k < getD next k 0
 
+-- Level 0 and one for each variable that there may be.
+abbrev pub levelCount : ℕ
+levelCount = suc choicesLimit
+
 -- The chains of all levels: where each starts, and how it goes on.
 pub record Chained (n : ℕ) (levels first next : List ℕ) : Type 0 where
-  pub many : length first ≡ 9
-  pub starts : (d : ℕ) → d < 9 → Following n levels d 0 (getD first d 0)
+  pub many : length first ≡ levelCount
+  pub starts : (d : ℕ) → d < levelCount → Following n levels d 0 (getD first d 0)
   pub linked : Linked n levels next

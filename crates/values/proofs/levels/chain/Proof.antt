@@ -4,6 +4,7 @@ use mathlib.Core.Path.{_≡_, refl}
 use Prim.Native.Nat.{ℕ, _+_, _-_}
 use native.Mathlib.Omega.{arith}
 use lib.ListN.{getD-replicate}
+use Rattle.values.specs.code.Levels.{levelCount}
 use Rattle.values.proofs.ChainLaws.{From, from-none, from-next, from-all}
 use Rattle.values.proofs.levels.chain.Statement.{statement}
 use Rattle.values.proofs.levels.chain.Tie as tie
@@ -18,7 +19,7 @@ cast-end : tie.Need-cast-end Inv-loop μ-loop
 cast-end c = omega (arith, c .pre .0)
 
 loop-holds : tie.Need-loop-holds Inv-loop μ-loop
-loop-holds c = from-none (c .args .n) (c .args .levels .now) _ _ refl refl (λ d l. getD-replicate 9 d (c .args .n) 0 l)
+loop-holds c = from-none (c .args .n) (c .args .levels .now) _ _ refl refl (λ d l. getD-replicate levelCount d (c .args .n) 0 l)
 
 sub-k : tie.Need-sub-k Inv-loop μ-loop
 sub-k c = omega arith

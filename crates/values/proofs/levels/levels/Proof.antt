@@ -4,13 +4,15 @@ use mathlib.Core.Path.{_≡_, refl, _∙_}
 use Prim.Native.Nat.{ℕ, _≤_, _<_, _-_}
 use native.Mathlib.Omega.{arith}
 use lib.ListN.{length, getD, length-set}
+use Rattle.rules.specs.Accept.{ruleLimit}
 use Rattle.values.specs.code.Levels.{LevelAt}
-use Rattle.values.proofs.LevelLaws.{level-at, more-at}
+use Rattle.rules.proofs.NodeLaws.{more-at}
+use Rattle.values.proofs.LevelLaws.{level-at}
 use Rattle.values.proofs.levels.levels.Statement.{statement}
 use Rattle.values.proofs.levels.levels.Tie as tie
 
 abbrev Inv-loop : tie.InvT-loop
-Inv-loop nodes n vars order found₀ k₀ found k = (k ≤ n) × (length found ≡ 256) × ((j : ℕ) → j < k → (getD found j 0 ≤ length order) × LevelAt nodes n vars order j (getD found j 0))
+Inv-loop nodes n vars order found₀ k₀ found k = (k ≤ n) × (length found ≡ ruleLimit) × ((j : ℕ) → j < k → (getD found j 0 ≤ length order) × LevelAt nodes n vars order j (getD found j 0))
 
 abbrev μ-loop : tie.MeasureT-loop
 μ-loop nodes n vars order found₀ k₀ found k = n - k
@@ -41,7 +43,7 @@ loop-again c =
     let room : k < length (A .loop .found) = omega (arith, S .pre .1, A .loop .inv .1, c .before .before .loop-test .taken) in (
       omega arith,
       length-set (A .loop .found) k (c .level .result) ∙ A .loop .inv .1,
-      more-at (λ j r. (r ≤ length (S .args .order .now)) × LevelAt (S .args .nodes .now) (S .args .n) (S .args .vars .now) (S .args .order .now) j r) (A .loop .found) k (c .level .result) room (A .loop .inv .2)
+      more-at (λ j r. (r ≤ length (S .args .order .now)) × LevelAt (S .args .nodes .now) (S .args .n) (S .args .vars .now) (S .args .order .now) j r) (A .loop .found) k (c .level .result) 0 room (A .loop .inv .2)
           (c .level .ensures .within, level-at (S .args .nodes .now) (S .args .n) (S .args .vars .now) (S .args .order .now) k (c .before .named .result) (c .level .result) (S .pre .3) (c .before .named .ensures) (c .level .ensures)),
     )
 

@@ -6,6 +6,7 @@ use native.Mathlib.Omega.{arith}
 use borrow.Author.Needs.{needs}
 use lib.ListN.{length, length-set}
 use Rattle.syntax.specs.Term.{Choices}
+use Rattle.rules.specs.Accept.{choicesLimit}
 use Rattle.values.specs.Sets.{setOf}
 use Rattle.values.specs.code.Nodes.{Variables, Named}
 use Rattle.values.proofs.NamesLaws.{holds-at, named-none, named-more}
@@ -13,7 +14,7 @@ use Rattle.values.proofs.names.names.Statement.{statement}
 use Rattle.values.proofs.names.names.Tie as tie
 
 abbrev Inv-loop : tie.InvT-loop
-Inv-loop nodes n vars words₀ v₀ words v = (v ≤ length vars) × (length words ≡ 8) × ((σ : Choices) → Variables nodes n vars σ → Named v words σ)
+Inv-loop nodes n vars words₀ v₀ words v = (v ≤ length vars) × (length words ≡ choicesLimit) × ((σ : Choices) → Variables nodes n vars σ → Named v words σ)
 
 abbrev μ-loop : tie.MeasureT-loop
 μ-loop nodes n vars words₀ v₀ words v = length vars - v
