@@ -1,14 +1,13 @@
 -- From the checks on a text and on its tree to what a parsed rule is.
 -- Assumes nothing.
 use mathlib.Core.Path.{_≡_, ap, sym, _∙_}
+use mathlib.Core.Bool.{Bool, true, false}
 use mathlib.Core.List.{List, []}
 use mathlib.Core.Option.{Option, none, some}
 use Prim.Native.Nat.{ℕ, _<_, _≤_}
 use native.Mathlib.Omega.{arith}
-use lib.Dec.{eqb}
 use lib.ListN.{length, getD, take}
 use lib.Seq.{getD-take, length-take-le}
-use borrow.Author.Tests.{eq-eqb, ne-eqb}
 use Rattle.answers.specs.declared.Refusal.{Refusal}
 use Rattle.answers.specs.declared.Refusal.the-variants.{KindMismatch, Choices}
 use Rattle.syntax.specs.Bytes.{Bytes}
@@ -21,7 +20,7 @@ use Rattle.rules.specs.declared.Found.{Found}
 use Rattle.rules.specs.declared.Found.the-variants.{Rejected, Rule as Tree}
 use Rattle.rules.specs.Kind.{ruleKinds}
 use Rattle.rules.specs.Accept.{choicesLimit, refusal}
-use Rattle.rules.specs.code.Numbers.{noKind, kindsFit, Kinded}
+use Rattle.rules.specs.code.Numbers.{Fills}
 use Rattle.rules.specs.code.Variables.{VarsOf}
 use Rattle.rules.specs.code.Lengths.{LengthsOf, FormulaLength}
 use Rattle.rules.specs.code.Parsed.{FitText, ChecksText, turned, passed, RuleAt, Fitted, ChecksTree, unfit, fit, Finds, rejected, found, Blank, Parses}
@@ -29,16 +28,16 @@ use Rattle.rules.proofs.AcceptLaws.{refuse-tree, tree-mismatch, tree-ch
 use Rattle.rules.proofs.VariableLaws.{listed-count}
 
 -- The checks on a tree.
-module _ {ns : List ℕ} {n root : ℕ} {ks : List ℕ} {x : ℕ} (kinds : Kinded ns n ks) (within : root < n) (at : x ≡ getD ks root noKind) where
-  rule-kinds : (ρ : Rule) → HoldsRule ns root ρ → eqb x kindsFit ≡ ruleKinds ρ
-  rule-kinds ρ h = rw at (kinds .at root within .rule ρ h)
+module _ {ns : List ℕ} {n root : ℕ} {ks₀ ks : List ℕ} {r : Bool} (filled : Fills ns n root ks₀ ks r) (within : root < n) where
+  rule-kinds : (ρ : Rule) → HoldsRule ns root ρ → ruleKinds ρ ≡ r
+  rule-kinds ρ h = sym (filled .kinded .at root within .rule ρ h) ∙ sym (filled .fits)
 
-  pub check-tree-mismatch : {vs : List ℕ} → (x ≡ kindsFit → ⊥) → ChecksTree ns n root ks vs (Rejected KindMismatch)
-  check-tree-mismatch e = unfit (λ ρ h. tree-mismatch ρ (sym (rule-kinds ρ h) ∙ ne-eqb x kindsFit e))
+  pub check-tree-mismatch : {vs : List ℕ} → r ≡ false → ChecksTree ns n root ks vs (Rejected KindMismatch)
+  check-tree-mismatch e = unfit (λ ρ h. tree-mismatch ρ (rule-kinds ρ h ∙ e))
 
-  module _ {vs : List ℕ} {c : ℕ} (e : x ≡ kindsFit) (vars : VarsOf ns n root vs c) where
+  module _ {vs : List ℕ} {c : ℕ} (e : r ≡ true) (vars : VarsOf ns n root vs c) where
     pub check-tree-choices : choicesLimit < c → ChecksTree ns n root ks vs (Rejected Choices)
-    check-tree-choices many = unfit (λ ρ h. tree-choices ρ (sym (rule-kinds ρ h) ∙ eq-eqb x kindsFit e) (vars .listed ρ h .more many))
+    check-tree-choices many = unfit (λ ρ h. tree-choices ρ (rule-kinds ρ h ∙ e) (vars .listed ρ h .more many))
 
     pub check-tree-fit : c ≤ choicesLimit → ChecksTree ns n root ks vs (Tree n root c)
     check-tree-fit few = fit go
@@ -49,8 +48,8 @@ module _ {ns : List ℕ} {n root : ℕ} {ks : List ℕ} {x : ℕ} (kinds : Kinde
             let q = listed-count (vars .size) l few in
             let w : length (take c vs) ≡ c = length-take-le c vs (omega (arith, vars .size)) in
             record {
-              refuses = tree-fits ρ (sym (rule-kinds ρ h) ∙ eq-eqb x kindsFit e) (omega arith);
-              kinds = kinds;
+              refuses = tree-fits ρ (rule-kinds ρ h ∙ e) (omega arith);
+              kinds = filled .kinded;
               knows = record { holds = l .held few; below = λ i z. let y : i < c = omega arith in rw (getD-take c vs i 0 y) (l .below i y (omega arith)) };
               counted = q;
               few = few;

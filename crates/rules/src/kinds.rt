@@ -3,7 +3,7 @@
 ghost use mathlib.Core.Path.{_≡_};
 ghost use Prim.Native.Nat.{_<_, _≤_};
 ghost use lib.ListN.{length, getD};
-ghost use Rattle.rules.specs.code.Numbers.{noKind, oneNumber, setNumber, call2Number, twoNumber, countableNumber, fitsNumber, nodeNumber, stepNumber, Kinded};
+ghost use Rattle.rules.specs.code.Numbers.{noKind, oneNumber, setNumber, call2Number, twoNumber, countableNumber, fitsNumber, nodeNumber, stepNumber, Fills};
 ghost use Rattle.syntax.specs.code.Nodes.{firstCall, firstPair, firstJoin, opRoom};
 use syntax::nodes::FIRST_CALL;
 use syntax::nodes::FIRST_COUNTED;
@@ -319,14 +319,15 @@ fn kind_of(kinds: &[u8], node: u32) -> u8
     node_kind(operation(node), a, b)
 }
 
-// The kinds of the first n nodes, each from those below it.
-pub fn kinds(nodes: &[u32], n: usize, kinds: &mut [u8])
+// The kinds of the first n nodes, each from those below it; and whether those of the rule at root fit.
+pub fn kinds(nodes: &[u32], n: usize, root: usize, kinds: &mut [u8]) -> bool
     requires { ⌜ (n ≤ length (now nodes)) × (n ≤ length (now kinds)) ⌝ }
-    ensures { λ _. ⌜ (length (now (kinds .exit)) ≡ length (now (kinds .entry))) × Kinded (now (nodes .entry)) n (now (kinds .exit)) ⌝ }
+    ensures { λ r. ⌜ Fills (now (nodes .entry)) n root (now (kinds .entry)) (now (kinds .exit)) r ⌝ }
 {
     let mut k = 0;
     while k < n {
         kinds[k] = kind_of(kinds, nodes[k]);
         k += 1;
     }
+    kind_at(kinds, root) == KINDS_FIT
 }

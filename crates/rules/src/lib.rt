@@ -71,11 +71,10 @@ fn check_tree(nodes: &[u32], n: usize, root: usize, kinds: &mut [u8], vars: &mut
     requires { ⌜ length (now vars) ≡ choicesLimit ⌝ }
     ensures { λ r. ⌜ ChecksTree (now (nodes .entry)) n root (now (kinds .exit)) (now (vars .exit)) r ⌝ }
 {
-    kinds::kinds(nodes, n, kinds);
-    if kinds::kind_at(kinds, root) != kinds::KINDS_FIT {
+    if !kinds::kinds(nodes, n, root, kinds) {
         return Found::Rejected(Refusal::KindMismatch);
     }
-    let count = variables::variables(nodes, n, root, vars);
+    let count = variables::walk(nodes, n, root, vars, 0);
     if count > CHOICES_LIMIT {
         return Found::Rejected(Refusal::Choices);
     }

@@ -5,7 +5,7 @@ ghost use Prim.Native.Nat.{_<_, _≤_};
 ghost use lib.ListN.{length};
 ghost use Rattle.syntax.specs.code.Arena.{Tidy, hasTwo};
 ghost use Rattle.rules.specs.Accept.{choicesLimit};
-ghost use Rattle.rules.specs.code.Variables.{Walked, Added, VarsOf};
+ghost use Rattle.rules.specs.code.Variables.{Walked, Added};
 use super::CHOICES_LIMIT;
 use syntax::nodes::FIRST_CALL;
 use syntax::nodes::FIRST_COUNTED;
@@ -50,7 +50,7 @@ pub fn has_two(op: u32) -> bool
 }
 
 // The count after the variables of what node k holds, which are put behind the others: first those below it, then its own.
-fn walk(nodes: &[u32], n: usize, k: usize, vars: &mut [u32], count: usize) -> usize
+pub fn walk(nodes: &[u32], n: usize, k: usize, vars: &mut [u32], count: usize) -> usize
     requires { ⌜ Tidy (now nodes) n ⌝ }
     requires { ⌜ k < n ⌝ }
     requires { ⌜ length (now vars) ≡ choicesLimit ⌝ }
@@ -73,14 +73,4 @@ fn walk(nodes: &[u32], n: usize, k: usize, vars: &mut [u32], count: usize) -> us
         return walk(nodes, n, right(v) as usize, vars, c);
     }
     c
-}
-
-// The variables of the rule at a node, and their count.
-pub fn variables(nodes: &[u32], n: usize, root: usize, vars: &mut [u32]) -> usize
-    requires { ⌜ Tidy (now nodes) n ⌝ }
-    requires { ⌜ root < n ⌝ }
-    requires { ⌜ length (now vars) ≡ choicesLimit ⌝ }
-    ensures { λ r. ⌜ VarsOf (now (nodes .entry)) n root (now (vars .exit)) r ⌝ }
-{
-    walk(nodes, n, root, vars, 0)
 }

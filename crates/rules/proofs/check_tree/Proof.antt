@@ -1,5 +1,7 @@
 -- `rules::check_tree`: the checks 14 and 15, one after the other.
 -- Assumes nothing.
+use borrow.Author.Tests.{not-true, not-false}
+use Rattle.rules.proofs.WalkLaws.{walked-all}
 use Rattle.rules.proofs.ParseLaws.{check-tree-mismatch, check-tree-choices, check-tree-fit}
 use borrow.Author.Needs.{needs}
 use Rattle.rules.proofs.check_tree.Statement.{statement}
@@ -8,17 +10,14 @@ use Rattle.rules.proofs.check_tree.Tie as tie
 kinds-requires : tie.Need-kinds-requires
 kinds-requires c κs = search needs
 
-kind-at-requires : tie.Need-kind-at-requires
-kind-at-requires c κs = search needs
-
 same-length : tie.Need-same-length
 same-length c = search needs
 
 returns : tie.Need-returns
-returns c = check-tree-mismatch (c .before .before .before .before .before .kinds .ensures .1) (c .before .before .before .before .before .before .before .before .before .before .pre .1 .0) (c .before .kind-at .ensures) (c .if1 .taken)
+returns c = check-tree-mismatch (c .before .before .before .kinds .ensures) (c .before .before .before .before .before .before .before .before .pre .1 .0) (not-true _ (c .if1 .taken))
 
-variables-requires : tie.Need-variables-requires
-variables-requires c κs = search needs
+walk-requires : tie.Need-walk-requires
+walk-requires c κs = search needs
 
 same-length-2 : tie.Need-same-length-2
 same-length-2 c = search needs
@@ -27,7 +26,7 @@ same-length-3 : tie.Need-same-length-3
 same-length-3 c = search needs
 
 returns-2 : tie.Need-returns-2
-returns-2 c = check-tree-choices (c .before .before .before .before .before .before .before .before .before .before .kinds .ensures .1) (c .before .before .before .before .before .before .before .before .before .before .before .before .before .before .before .pre .1 .0) (c .before .before .before .before .before .before .kind-at .ensures) (c .before .before .before .before .before .if1 .left) (c .before .before .before .variables .ensures) (c .if2 .taken)
+returns-2 c = check-tree-choices (c .before .before .before .before .before .before .before .before .kinds .ensures) (c .before .before .before .before .before .before .before .before .before .before .before .before .before .pre .1 .0) (not-false _ (c .before .before .before .before .before .if1 .left)) (walked-all (c .before .before .before .before .before .before .before .before .before .before .before .before .before .pre .1 .1 .1) (c .before .before .before .walk .ensures)) (c .if2 .taken)
 
 same-length-4 : tie.Need-same-length-4
 same-length-4 c = search needs
@@ -36,17 +35,16 @@ same-length-5 : tie.Need-same-length-5
 same-length-5 c = search needs
 
 returns-3 : tie.Need-returns-3
-returns-3 c = check-tree-fit (c .before .before .before .before .before .before .before .before .before .before .kinds .ensures .1) (c .before .before .before .before .before .before .before .before .before .before .before .before .before .before .before .pre .1 .0) (c .before .before .before .before .before .before .kind-at .ensures) (c .before .before .before .before .before .if1 .left) (c .before .before .before .variables .ensures) (c .if2 .left)
+returns-3 c = check-tree-fit (c .before .before .before .before .before .before .before .before .kinds .ensures) (c .before .before .before .before .before .before .before .before .before .before .before .before .before .pre .1 .0) (not-false _ (c .before .before .before .before .before .if1 .left)) (walked-all (c .before .before .before .before .before .before .before .before .before .before .before .before .before .pre .1 .1 .1) (c .before .before .before .walk .ensures)) (c .if2 .left)
 
 pub check-tree-spec : {M : Type 1} → statement M
 check-tree-spec =
     tie.close
     (tie.spec
     kinds-requires
-    kind-at-requires
     same-length
     returns
-    variables-requires
+    walk-requires
     same-length-2
     same-length-3
     returns-2

@@ -6,7 +6,7 @@ use mathlib.Core.Option.{Option, none, some}
 use mathlib.Core.Bool.{Bool, false, cond}
 use Prim.Native.Nat.{ℕ, _+_, _*_, _-_, _<_}
 use lib.Dec.{eqb, ltb}
-use lib.ListN.{getD}
+use lib.ListN.{length, getD}
 use Rattle.syntax.specs.Term.{Term, user, roles, roles*, sessions, permissions, permissions*, object}
 use Rattle.syntax.specs.Rule.{Test, Clause, Rule}
 use Rattle.syntax.specs.code.Arena.{Holds, HoldsTest, HoldsClause, HoldsRule}
@@ -114,3 +114,9 @@ pub record KindAt (ns : List ℕ) (k x : ℕ) : Type 0 where
 -- The list ks has the number of each node below n.
 pub record Kinded (ns : List ℕ) (n : ℕ) (ks : List ℕ) : Type 0 where
   pub at : (k : ℕ) → k < n → KindAt ns k (getD ks k noKind)
+
+-- The list before became ks, and r says whether the number at root is that of kinds that fit.
+pub record Fills (ns : List ℕ) (n root : ℕ) (before ks : List ℕ) (r : Bool) : Type 0 where
+  pub size : length ks ≡ length before
+  pub kinded : Kinded ns n ks
+  pub fits : r ≡ eqb (getD ks root noKind) kindsFit

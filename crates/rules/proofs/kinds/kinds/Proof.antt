@@ -1,20 +1,21 @@
 -- `rules::kinds::kinds` fills the list of kinds from the front: the nodes below k have theirs.
 -- Assumes nothing.
 use borrow.Author.Needs.{needs}
-use mathlib.Core.Path.{_≡_, refl, _∙_}
-use Prim.Native.Nat.{_≤_, _-_}
+use mathlib.Core.Path.{_≡_, refl, ap, _∙_}
+use Prim.Native.Nat.{ℕ, _≤_, _-_}
 use native.Mathlib.Omega.{arith}
+use lib.Dec.{eqb}
 use lib.ListN.{length, length-set}
-use Rattle.rules.specs.code.Numbers.{Kinded}
+use Rattle.rules.specs.code.Numbers.{kindsFit, Kinded}
 use Rattle.rules.proofs.KindLaws.{kind-step, kind-none}
 use Rattle.rules.proofs.kinds.kinds.Statement.{statement}
 use Rattle.rules.proofs.kinds.kinds.Tie as tie
 
 abbrev Inv-loop : tie.InvT-loop
-Inv-loop nodes n kinds₀ k₀ kinds k = (k ≤ n) × (length kinds ≡ length kinds₀) × Kinded nodes k kinds
+Inv-loop nodes n root kinds₀ k₀ kinds k = (k ≤ n) × (length kinds ≡ length kinds₀) × Kinded nodes k kinds
 
 abbrev μ-loop : tie.MeasureT-loop
-μ-loop nodes n kinds₀ k₀ kinds k = n - k
+μ-loop nodes n root kinds₀ k₀ kinds k = n - k
 
 loop-holds : tie.Need-loop-holds Inv-loop μ-loop
 loop-holds c = (omega arith, refl, kind-none _ _)
@@ -42,13 +43,16 @@ loop-again c =
     let l = c .before .before .before .before .loop in
     (omega arith, length-set (l .kinds) (l .k) (c .kind-of .result) ∙ l .inv .1, kind-step (c .before .before .before .before .before .before .before .args .nodes .now) (l .kinds) (l .k) (l .inv .2) (c .kind-of .ensures) (omega arith))
 
+kind-at-requires : tie.Need-kind-at-requires Inv-loop μ-loop
+kind-at-requires c κs = search needs
+
 same-length : tie.Need-same-length Inv-loop μ-loop
 same-length c = search needs
 
 returns : tie.Need-returns Inv-loop μ-loop
 returns c =
-    let e : c .before .loop .k ≡ c .before .before .before .before .args .n = omega arith in
-    (c .before .loop .inv .1, rw e at (c .before .loop .inv .2))
+    let e : c .before .before .before .loop .k ≡ c .before .before .before .before .before .before .args .n = omega arith in
+    record { size = c .before .before .before .loop .inv .1; kinded = rw e at (c .before .before .before .loop .inv .2); fits = ap (λ (x : ℕ). eqb x kindsFit) (c .kind-at .ensures) }
 
 pub kinds-spec : {M : Type 1} → statement M
 kinds-spec =
@@ -64,5 +68,6 @@ kinds-spec =
     add-k
     loop-less
     loop-again
+    kind-at-requires
     same-length
     returns)
