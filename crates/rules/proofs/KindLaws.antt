@@ -23,7 +23,7 @@ use Rattle.syntax.proofs.TestLaws.{cmp-small}
 use Rattle.rules.specs.Kind.{Kind, Kind≟, holds, oneOf, baseKind, takes, makes, ofElement}
 use Rattle.rules.specs.Kind.{callKind, inside, oneKind, othersKind, asSet, joined, row, call2Kind, twoKind, with, kind, check, countable, isMember, countKinds}
 use Rattle.rules.specs.Kind.{testKinds, clauseKinds, ruleKinds}
-use Rattle.rules.specs.code.Numbers.{kindCount, noKind, kindsFit, kindList, kindOf, oneArgument, oneTable, oneNumber, setNumber, pairTable, call2Number, twoNumber, countableNumber, fitsNumber, nodeNumber, stepNumber, KindAt, Kinded}
+use Rattle.rules.specs.code.Numbers.{firstSet, kindCount, noKind, kindsFit, kindList, kindOf, oneArgument, oneTable, oneNumber, setNumber, pairTable, call2Number, twoNumber, countableNumber, fitsNumber, nodeNumber, stepNumber, KindAt, Kinded}
 use Rattle.rules.proofs.TableLaws.{left-of-and, right-of-and, entry, upto, pair, same-below, same-pair}
 use Rattle.rules.proofs.NodeLaws.{numbered-parts, more-at}
 
@@ -148,12 +148,29 @@ joined-law o a b lo =
     let r : firstCounted ≤ o = omega arith in
     rw (le-ltb o firstAlike p, le-ltb o firstEmpty q, le-ltb o firstCounted r, le-ltb o whenOp lo) (cond-and (eqb a kindsFit) (eqb b kindsFit))
 
+-- A node's number, by its operation.
+module _ (o a b : ℕ) where
+  pub node-base : o < firstCall → nodeNumber o a b ≡ o + firstSet
+  unfolding nodeNumber
+  node-base h = rw (lt-ltb o firstCall h)
+
+  pub node-one : firstCall ≤ o → o < firstPair → nodeNumber o a b ≡ oneNumber o a
+  unfolding nodeNumber
+  node-one lo hi = rw (le-ltb o firstCall lo, lt-ltb o firstPair hi)
+
+  pub node-two : firstPair ≤ o → o < memberOp → nodeNumber o a b ≡ twoNumber o a b
+  unfolding nodeNumber
+  node-two lo hi = let p : firstCall ≤ o = omega arith in rw (le-ltb o firstCall p, le-ltb o firstPair lo, lt-ltb o memberOp hi)
+
+  pub node-fits : memberOp ≤ o → {t : Bool} → fitsNumber o a b ≡ t → nodeNumber o a b ≡ cond t kindsFit noKind
+  unfolding nodeNumber
+  node-fits h e =
+      let p : firstCall ≤ o = omega arith in
+      let q : firstPair ≤ o = omega arith in
+      rw (le-ltb o firstCall p, le-ltb o firstPair q, le-ltb o memberOp h, e)
+
 fits-law : (o a b : ℕ) → memberOp ≤ o → eqb (nodeNumber o a b) kindsFit ≡ fitsNumber o a b
-unfolding nodeNumber
-fits-law o a b h =
-    let p : firstCall ≤ o = omega arith in
-    let q : firstPair ≤ o = omega arith in
-    rw (le-ltb o firstCall p, le-ltb o firstPair q, le-ltb o memberOp h) (go (fitsNumber o a b))
+fits-law o a b h = rw (node-fits o a b h refl) (go (fitsNumber o a b))
   where
     go : (x : Bool) → eqb (cond x kindsFit noKind) kindsFit ≡ x
     go true = refl
@@ -202,16 +219,11 @@ base-numbers bCP x y = record { small = lit< tt; is = refl }
 base-numbers bCU x y = record { small = lit< tt; is = refl }
 
 one-numbers : {o : ℕ} {f : Kind → Option Kind} → MakesKind o f → (x y : ℕ) → x < kindsFit → Numbers (nodeNumber o x y) (with (kindOf x) f)
-unfolding nodeNumber
 one-numbers {o} {f} m x y h =
-    rw (le-ltb o firstCall (m .low), lt-ltb o firstPair (m .high)) (subst (λ (g : Kind → Option Kind). Numbers (oneNumber o x) (with (kindOf x) g)) (m .is) (one-law o x (m .low) (m .high) h))
+    rw (node-one o x y (m .low) (m .high)) (subst (λ (g : Kind → Option Kind). Numbers (oneNumber o x) (with (kindOf x) g)) (m .is) (one-law o x (m .low) (m .high) h))
 
 two-numbers : (o : Pair) (x y : ℕ) → x < kindsFit → y < kindsFit → Numbers (nodeNumber (twoOp o) x y) (with (kindOf x) (λ k. with (kindOf y) (λ l. twoKind o k l)))
-unfolding nodeNumber
-two-numbers o x y h l =
-    let lo = two-range o .low in
-    let p : firstCall ≤ twoOp o = omega arith in
-    rw (le-ltb (twoOp o) firstCall p, le-ltb (twoOp o) firstPair lo, lt-ltb (twoOp o) memberOp (two-range o .high)) (two-law o x y h l)
+two-numbers o x y h l = rw (node-two (twoOp o) x y (two-range o .low) (two-range o .high)) (two-law o x y h l)
 
 pub alike-op : (g : Sign) → (memberOp ≤ alikeOp g) × (alikeOp g < firstEmpty)
 unfolding alikeOp

@@ -1,6 +1,6 @@
 -- The length of what a node holds, by the lengths of what stands below it.
 -- Assumes nothing.
-use mathlib.Core.Path.{_≡_, refl, sym, _∙_}
+use mathlib.Core.Path.{_≡_, refl, sym, ap, _∙_}
 use mathlib.Core.Bool.{Bool, true, false, cond}
 use mathlib.Core.List.{List}
 use mathlib.Core.Option.{Option, none, some}
@@ -235,6 +235,14 @@ module _ (o : ℕ) (a b m : ℕ) where
   unfolding nodeLength knownLength
   node-others e = rw e
 
+  pub as-known : {z p n : ℕ} → firstCall ≤ o → p < n → z ≡ knownLength o a b m → z ≡ nodeLength o (ltb p n) a b m
+  unfolding nodeLength
+  as-known {z} {p} {n} h l e = e ∙ rw (lt-ltb p n l, le-ltb o firstCall h)
+
+  pub as-plain : {z p n : ℕ} → firstCall ≤ o → n ≤ p → z ≡ plainLength o a b m → z ≡ nodeLength o (ltb p n) a b m
+  unfolding nodeLength
+  as-plain {z} {p} {n} h l e = e ∙ rw (le-ltb p n l, le-ltb o firstCall h)
+
   plain-two : hasTwo o ≡ true → plainLength o a b m ≡ extra o + a + b
   unfolding plainLength
   plain-two e = rw e
@@ -257,6 +265,12 @@ single-none o h gap =
 pub step-is : (ls vs : List ℕ) (v : ℕ) {o i j p a b z : ℕ} → o ≡ operationOf v → i ≡ leftOf v → j ≡ rightOf v → p ≡ placeIn i vs
     → a ≡ capped (getD ls i 0) → b ≡ capped (getD ls j 0) → z ≡ nodeLength o (ltb p (length vs)) a b j → capped z ≡ stepLength ls vs v
 step-is ls vs v op left right place a b e = rw (e, a, b, place, op, left, right)
+
+pub step-bare : (ls vs : List ℕ) (v : ℕ) {o z : ℕ} → o ≡ operationOf v → o < firstCall → z ≡ extra o → capped z ≡ stepLength ls vs v
+step-bare ls vs v op h e =
+    rw (e, op)
+    (ap capped
+    (sym (node-bare (operationOf v) (capped (getD ls (leftOf v) 0)) (capped (getD ls (rightOf v) 0)) (rightOf v) (ltb (placeIn (leftOf v) vs) (length vs)) (rw op at h))))
 
 some-true : (t : Bool) (y : ℕ) {d : ℕ} → cond t (some y) none ≡ some d → t ≡ true
 some-true true y e = refl

@@ -3,8 +3,8 @@
 ghost use mathlib.Core.Path.{_≡_};
 ghost use Prim.Native.Nat.{_<_, _≤_};
 ghost use lib.ListN.{length, getD};
-ghost use Rattle.rules.specs.code.Numbers.{noKind, oneNumber, setNumber, call2Number, twoNumber, countableNumber, fitsNumber, nodeNumber, stepNumber, Fills};
-ghost use Rattle.syntax.specs.code.Nodes.{firstCall, firstPair, firstJoin, opRoom};
+ghost use Rattle.rules.specs.code.Numbers.{noKind, oneNumber, setNumber, call2Number, twoNumber, countableNumber, fitsNumber, stepNumber, Fills};
+ghost use Rattle.syntax.specs.code.Nodes.{firstCall, firstPair, firstJoin};
 use syntax::nodes::FIRST_CALL;
 use syntax::nodes::FIRST_COUNTED;
 use syntax::nodes::FIRST_JOIN;
@@ -286,23 +286,6 @@ fn fits(op: u32, a: u8, b: u8) -> bool
     }
 }
 
-// The kind of a node by its operation and the kinds at its left and right.
-fn node_kind(op: u32, a: u8, b: u8) -> u8
-    requires { ⌜ op < opRoom ⌝ }
-    ensures { λ r. ⌜ r ≡ nodeNumber op a b ⌝ }
-{
-    if op < FIRST_CALL {
-        return op as u8 + FIRST_SET;
-    }
-    if op < FIRST_PAIR {
-        return one_kind(op, a);
-    }
-    if op < MEMBER {
-        return two_kind(op, a, b);
-    }
-    if fits(op, a, b) { KINDS_FIT } else { NO_KIND }
-}
-
 // The kind at a place, none past the end.
 pub fn kind_at(kinds: &[u8], i: usize) -> u8
     ensures { λ r. ⌜ r ≡ getD (now (kinds .entry)) i noKind ⌝ }
@@ -310,13 +293,23 @@ pub fn kind_at(kinds: &[u8], i: usize) -> u8
     if i < kinds.len() { kinds[i] } else { NO_KIND }
 }
 
-// The kind of a node, by those of the nodes below it.
+// The kind of a node by its operation and the kinds at its left and right.
 fn kind_of(kinds: &[u8], node: u32) -> u8
     ensures { λ r. ⌜ r ≡ stepNumber (now (kinds .entry)) node ⌝ }
 {
+    let op = operation(node);
+    if op < FIRST_CALL {
+        return op as u8 + FIRST_SET;
+    }
     let a = kind_at(kinds, left(node) as usize);
+    if op < FIRST_PAIR {
+        return one_kind(op, a);
+    }
     let b = kind_at(kinds, right(node) as usize);
-    node_kind(operation(node), a, b)
+    if op < MEMBER {
+        return two_kind(op, a, b);
+    }
+    if fits(op, a, b) { KINDS_FIT } else { NO_KIND }
 }
 
 // The kinds of the first n nodes, each from those below it; and whether those of the rule at root fit.

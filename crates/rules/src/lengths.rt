@@ -14,7 +14,7 @@ ghost use mathlib.Core.Path.{_≡_};
 ghost use Prim.Native.Nat.{_<_, _≤_};
 ghost use lib.ListN.{length, getD};
 ghost use Rattle.syntax.specs.code.Arena.{Tidy};
-ghost use Rattle.rules.specs.code.Lengths.{extra, plainLength, knownLength, nodeLength, stepLength, lengthCap, capped, LengthsOf, FormulaLength};
+ghost use Rattle.rules.specs.code.Lengths.{extra, plainLength, knownLength, stepLength, lengthCap, capped, LengthsOf, FormulaLength};
 
 // How many bytes an operation adds to what it stands on: names with their brackets, signs, bars.
 const EXTRA: [u32; 40] = [
@@ -98,19 +98,6 @@ fn known_length(op: u32, a: u32, b: u32, m: u32) -> u32
     plain_length(op, a, b, m)
 }
 
-fn node_length(op: u32, known: bool, a: u32, b: u32, m: u32) -> u32
-    requires { ⌜ (a ≤ lengthCap) × (b ≤ lengthCap) ⌝ }
-    ensures { λ r. ⌜ r ≡ nodeLength op known a b m ⌝ }
-{
-    if op < FIRST_CALL {
-        return extra_of(op);
-    }
-    if known {
-        return known_length(op, a, b, m);
-    }
-    plain_length(op, a, b, m)
-}
-
 fn at_most(l: u32) -> u32
     ensures { λ r. ⌜ r ≡ capped l ⌝ }
 {
@@ -128,12 +115,18 @@ fn length_at(lens: &[u32], i: usize) -> u32
 fn length_of(lens: &[u32], vars: &[u32], node: u32) -> u32
     ensures { λ r. ⌜ r ≡ stepLength (now (lens .entry)) (now (vars .entry)) node ⌝ }
 {
+    let op = operation(node);
+    if op < FIRST_CALL {
+        return at_most(extra_of(op));
+    }
     let i = left(node);
     let j = right(node);
-    let known = seek(vars, vars.len(), i) < vars.len();
     let a = length_at(lens, i as usize);
     let b = length_at(lens, j as usize);
-    at_most(node_length(operation(node), known, a, b, j))
+    if seek(vars, vars.len(), i) < vars.len() {
+        return at_most(known_length(op, a, b, j));
+    }
+    at_most(plain_length(op, a, b, j))
 }
 
 // The lengths of what the first n nodes hold, where the choices at vars are known.
