@@ -4,6 +4,7 @@ pub mod NodeLaws
 pub mod KindLaws
 pub mod SurplusLaws
 pub mod VariableLaws
+pub mod ShapeLaws
 pub mod WalkLaws
 pub mod LengthLaws
 pub mod FormulaLengthLaws

@@ -16,7 +16,7 @@ use Rattle.syntax.specs.code.Nodes.{firstCall, oeOp, aoOp, firstPair, memberOp,
 use Rattle.values.specs.Values.{variableOf}
 use Rattle.rules.specs.code.Variables.{placeIn}
 use Rattle.rules.proofs.NodeLaws.{left-below, right-below as two-below}
-use Rattle.rules.proofs.WalkLaws.{two-low, two-high}
+use Rattle.rules.proofs.ShapeLaws.{two-low, two-high}
 use Rattle.values.specs.code.Nodes.{baseAt, fnAt, pairAt, Variables}
 use Rattle.syntax.proofs.ArenaLaws.{base-small, fn-range, two-range, one-parts, both-parts, holds-once, holds-one, holds-op, opOf}
 

@@ -4,7 +4,8 @@ use mathlib.Core.Path.{sym, _∙_}
 use native.Mathlib.Omega.{arith}
 use borrow.Author.Needs.{needs}
 use Rattle.rules.proofs.NodeLaws.{left-below, right-below}
-use Rattle.rules.proofs.WalkLaws.{two-less, walked-bare, walked-single, walked-choosing, walked-double}
+use Rattle.rules.proofs.ShapeLaws.{two-less}
+use Rattle.rules.proofs.WalkLaws.{walked-bare, walked-single, walked-choosing, walked-double}
 use Prim.Native.Nat.{ℕ, _<_}
 use borrow.Fn.Kinds.{In}
 use borrow.Fn.PlainCycle.{Measures, is, falls, and}

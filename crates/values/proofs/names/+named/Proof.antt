@@ -4,7 +4,7 @@ use native.Mathlib.Omega.{arith}
 use borrow.Author.Needs.{needs}
 use Rattle.syntax.specs.code.Nodes.{firstPair, firstEmpty}
 use Rattle.rules.proofs.NodeLaws.{left-below, right-below}
-use Rattle.rules.proofs.WalkLaws.{two-low}
+use Rattle.rules.proofs.ShapeLaws.{two-low}
 use Rattle.values.proofs.NodeLaws.{term-small}
 use Rattle.values.proofs.NamesLaws.{names-base, names-one, names-call, names-others, names-two}
 use Prim.Native.Nat.{ℕ, _<_, _≤_}

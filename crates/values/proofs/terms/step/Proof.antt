@@ -4,7 +4,7 @@ use native.Mathlib.Omega.{arith}
 use Prim.Native.Nat.{_≤_, _<_}
 use Rattle.syntax.specs.code.Nodes.{firstPair, firstEmpty}
 use Rattle.rules.proofs.NodeLaws.{left-below, right-below}
-use Rattle.rules.proofs.WalkLaws.{two-low}
+use Rattle.rules.proofs.ShapeLaws.{two-low}
 use Rattle.values.proofs.NodeLaws.{term-small}
 use Rattle.values.proofs.ValueLaws.{fed-left, fed-right, value-base, value-one, value-call, value-others, value-two}
 use borrow.Author.Needs.{needs}
