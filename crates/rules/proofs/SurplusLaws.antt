@@ -22,69 +22,41 @@ use Rattle.rules.proofs.NodeLaws.{lt-or-le}
 
 -- A difference hangs on nothing but the difference.
 sub-same : (a b p q : ℕ) → a + q ≡ p + b → subℕ a b ≡ subℕ p q
-sub-same a b p q e = ⊎-elim less more (lt-or-le a b)
-  where
-    less : a < b → subℕ a b ≡ subℕ p q
-    less h =
-        let l : p < q = omega arith in
-        let m : b - suc a ≡ q - suc p = omega arith in
-        rw (lt-ltb a b h, lt-ltb p q l, m)
-
-    more : b ≤ a → subℕ a b ≡ subℕ p q
-    more h =
-        let l : q ≤ p = omega arith in
-        let m : a - b ≡ p - q = omega arith in
-        rw (le-ltb a b h, le-ltb p q l, m)
+sub-same a b p q e =
+    ⊎-elim
+    (λ (h : a < b). let l : p < q = omega arith in let m : b - suc a ≡ q - suc p = omega arith in rw (lt-ltb a b h, lt-ltb p q l, m))
+    (λ (h : b ≤ a). let l : q ≤ p = omega arith in let m : a - b ≡ p - q = omega arith in rw (le-ltb a b h, le-ltb p q l, m))
+    (lt-or-le a b)
 
 sub-up : (o c : ℕ) → subℕ o c +ℤ pos 1 ≡ subℕ (suc o) c
-sub-up o c = ⊎-elim less more (lt-or-le o c)
-  where
-    less : o < c → subℕ o c +ℤ pos 1 ≡ subℕ (suc o) c
-    less h = rw (lt-ltb o c h) (sub-same 1 (suc (c - suc o)) (suc o) c (omega arith))
-
-    more : c ≤ o → subℕ o c +ℤ pos 1 ≡ subℕ (suc o) c
-    more h =
-        let l : c ≤ suc o = omega arith in
-        let m : o - c + 1 ≡ suc o - c = omega arith in
-        rw (le-ltb o c h, le-ltb (suc o) c l, m)
+sub-up o c =
+    ⊎-elim
+    (λ (h : o < c). rw (lt-ltb o c h) (sub-same 1 (suc (c - suc o)) (suc o) c (omega arith)))
+    (λ (h : c ≤ o). let l : c ≤ suc o = omega arith in let m : o - c + 1 ≡ suc o - c = omega arith in rw (le-ltb o c h, le-ltb (suc o) c l, m))
+    (lt-or-le o c)
 
 sub-down : (o c : ℕ) → subℕ o c -ℤ pos 1 ≡ subℕ o (suc c)
-sub-down o c = ⊎-elim less more (lt-or-le o c)
-  where
-    less : o < c → subℕ o c -ℤ pos 1 ≡ subℕ o (suc c)
-    less h =
-        let l : o < suc c = omega arith in
-        let m : suc (c - suc o + 0) ≡ suc c - suc o = omega arith in
-        rw (lt-ltb o c h, lt-ltb o (suc c) l, m)
-
-    more : c ≤ o → subℕ o c -ℤ pos 1 ≡ subℕ o (suc c)
-    more h = rw (le-ltb o c h) (sub-same (o - c) 1 o (suc c) (omega arith))
+sub-down o c =
+    ⊎-elim
+    (λ (h : o < c). let l : o < suc c = omega arith in let m : suc (c - suc o + 0) ≡ suc c - suc o = omega arith in rw (lt-ltb o c h, lt-ltb o (suc c) l, m))
+    (λ (h : c ≤ o). rw (le-ltb o c h) (sub-same (o - c) 1 o (suc c) (omega arith)))
+    (lt-or-le o c)
 
 mag-sub : (o c : ℕ) → mag (subℕ o c) ≤ o + c
-mag-sub o c = ⊎-elim less more (lt-or-le o c)
-  where
-    less : o < c → mag (subℕ o c) ≤ o + c
-    less h = rw (lt-ltb o c h) (omega arith)
-
-    more : c ≤ o → mag (subℕ o c) ≤ o + c
-    more h = rw (le-ltb o c h) (omega arith)
+mag-sub o c = ⊎-elim (λ (h : o < c). rw (lt-ltb o c h) (omega arith)) (λ (h : c ≤ o). rw (le-ltb o c h) (omega arith)) (lt-or-le o c)
 
 sub-over : (o c : ℕ) → ltZ (pos depthLimit) (subℕ o c) ≡ ltb (c + depthLimit) o
-sub-over o c = ⊎-elim less more (lt-or-le o c)
+sub-over o c =
+    ⊎-elim
+    (λ (h : o < c). let l : o ≤ c + depthLimit = omega arith in rw (lt-ltb o c h, le-ltb (c + depthLimit) o l))
+    (λ (h : c ≤ o). rw (le-ltb o c h) (at (o - c) (omega arith)))
+    (lt-or-le o c)
   where
-    less : o < c → ltZ (pos depthLimit) (subℕ o c) ≡ ltb (c + depthLimit) o
-    less h =
-        let l : o ≤ c + depthLimit = omega arith in
-        rw (lt-ltb o c h, le-ltb (c + depthLimit) o l)
-
     at : (n : ℕ) → n + c ≡ o → ltb depthLimit n ≡ ltb (c + depthLimit) o
     at n e = ⊎-elim
         (λ (h : depthLimit < n). let l : c + depthLimit < o = omega arith in rw (lt-ltb depthLimit n h, lt-ltb (c + depthLimit) o l))
         (λ (h : n ≤ depthLimit). let l : o ≤ c + depthLimit = omega arith in rw (le-ltb depthLimit n h, le-ltb (c + depthLimit) o l))
         (lt-or-le depthLimit n)
-
-    more : c ≤ o → ltZ (pos depthLimit) (subℕ o c) ≡ ltb (c + depthLimit) o
-    more h = rw (le-ltb o c h) (at (o - c) (omega arith))
 
 -- A byte more, by what it is.
 deep-open : (o c x : ℕ) (s : List ℕ) → eqb x 40 ≡ true → deep o c (x ∷ s) ≡ (ltb (c + depthLimit) (suc o) || deep (suc o) c s)
