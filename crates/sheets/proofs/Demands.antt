@@ -28,12 +28,12 @@ use Rattle.texts.specs.Decimal.{decimalOf}
 use Rattle.walks.specs.Order.{upFrom, variablesOf}
 use Rattle.walks.proofs.OrderLaws.{order-admissible}
 use Rattle.values.specs.Sets.{names}
-use Rattle.verdicts.specs.Verdict.{acceptedVerdict, tablesVerdict, verdictOf}
+use Rattle.verdicts.specs.Verdict.{acceptedVerdict, turnOrder, turnVerdict, tablesVerdict, verdictOf}
 use Rattle.verdicts.specs.Report.{OrderOf}
 use Rattle.verdicts.proofs.VerdictLaws.{turn-order}
 use Rattle.verdicts.proofs.ReportLaws.{verdict-reports}
 use Rattle.sheets.specs.Line.{labelled, saysOf, lineText}
-use Rattle.sheets.specs.Sheet.{orderOf, ruleVerdict, sheetBy, sheetOf, sheetLine}
+use Rattle.sheets.specs.Sheet.{sheetBy, sheetOf, sheetLine}
 use Rattle.sheets.specs.Promise.{Lines, Wrote, TooShort, LineReports}
 use Rattle.sheets.proofs.SheetLaws.{judged-some}
 
@@ -66,7 +66,7 @@ line-written tables rules place {old} {new} {w} p room = go (line-ends tables ru
 -- DEMAND 3, as the sheet's reader meets it, of the line at place k + 1.
 module _ (tables rules : Bytes) (T : Tables) (t : tablesOf tables ≡ taken T) (short : length rules ≤ 32768) (k : ℕ) (rule : Bytes)
     (at : getElem? (lines rules) k ≡ some rule) where
-  line-is : sheetLine (sheetOf tables rules) (suc k) ≡ lineText (suc k) (ruleVerdict T rule)
+  line-is : sheetLine (sheetOf tables rules) (suc k) ≡ lineText (suc k) (turnVerdict T rule)
   unfolding sheetOf sheetBy
   line-is =
       let m : suc k - 1 ≡ k = omega arith in
@@ -76,13 +76,13 @@ module _ (tables rules : Bytes) (T : Tables) (t : tablesOf tables ≡ taken T) (
   pub line-reports : accepted rule ≡ true → (ρ : Rule) × (rule ≡ ruleText [] ρ) × ((old new : List ℕ) (w : Written) → Lines tables rules (suc k) old new w
       → length (sheetLine (sheetOf tables rules) (suc k)) ≤ length old
       → (numberIn w ≡ 0) × LineReports T ρ (suc k) (take (lengthIn w) new) × (drop (lengthIn w) new ≡ drop (lengthIn w) old))
-  unfolding verdictOf tablesVerdict ruleVerdict orderOf
+  unfolding verdictOf tablesVerdict turnVerdict turnOrder
   line-reports h =
       let r = accepted-none rule h in
       let (ρ, tree, _) = accepted-rule rule r in
       let order : OrderOf ρ (upFrom 1 (length (ruleVars [] ρ))) = order-admissible (names (ruleVars [] ρ)) (length (ruleVars [] ρ)) (variablesOf (upFrom 1 (length (ruleVars [] ρ)))) .0 (turn-order ρ) in
       let reports = verdict-reports {tables = tables} (record { reads = t; accepts = r; tree = tree; ordered = order }) in
-      let same : ruleVerdict T rule ≡ verdictOf tables rule (upFrom 1 (length (ruleVars [] ρ))) = rw (t, tree) in (
+      let same : turnVerdict T rule ≡ verdictOf tables rule (upFrom 1 (length (ruleVars [] ρ))) = rw (t, tree) in (
         ρ,
         rule-text rule ρ tree .0,
         λ old new w p room.
@@ -96,5 +96,5 @@ module _ (tables rules : Bytes) (T : Tables) (t : tablesOf tables ≡ taken T) (
   -- A refused rule's line is its number behind `refused`: "or line number, `refused`, number".
   pub line-refused : (e : Refusal) → refusal rule ≡ some e
       → sheetLine (sheetOf tables rules) (suc k) ≡ decimalOf (suc k) ++ labelled (ascii " refused ") (numberOf e)
-  unfolding ruleVerdict acceptedVerdict saysOf
+  unfolding turnVerdict acceptedVerdict saysOf
   line-refused e h = line-is ∙ rw h

@@ -2,5 +2,4 @@
 pub mod LineLaws
 pub mod SheetLaws
 pub mod JudgedLaws
-pub mod OrderLaws
 pub mod Demands

@@ -11,8 +11,9 @@ use Rattle.syntax.specs.Bytes.{Bytes}
 use Rattle.tables.specs.Tables.{Tables}
 use Rattle.texts.specs.code.Overwritten.{Overwritten}
 use Rattle.texts.proofs.OverwrittenLaws.{none-written}
+use Rattle.verdicts.specs.Verdict.{turnVerdict}
 use Rattle.sheets.specs.Line.{lineText}
-use Rattle.sheets.specs.Sheet.{ruleVerdict, judgedFrom, only, sheetLine}
+use Rattle.sheets.specs.Sheet.{judgedFrom, only, sheetLine}
 
 pub first-line : (w : Bytes) (place : ℕ) → place ≡ 1 → sheetLine (only w) place ≡ w
 unfolding sheetLine
@@ -35,12 +36,12 @@ one-made {w} {place} e r = rw (first-line w place e) r
 -- The line at a place of judged rules is that of the rule there.
 abbrev lineOf : ℕ → Tables → Option Bytes → Option Bytes
 lineOf k T none = none
-lineOf k T (some w) = some (lineText k (ruleVerdict T w))
+lineOf k T (some w) = some (lineText k (turnVerdict T w))
 
 judged-at : (i : ℕ) (T : Tables) (ws : List Bytes) (k : ℕ) → getElem? (judgedFrom i T ws) k ≡ lineOf (i + k) T (getElem? ws k)
 unfolding judgedFrom
 judged-at i T [] k = refl
-judged-at i T (w ∷ ws) zero = ap (λ (n : ℕ). some (lineText n (ruleVerdict T w))) (sym (add-zero i))
+judged-at i T (w ∷ ws) zero = ap (λ (n : ℕ). some (lineText n (turnVerdict T w))) (sym (add-zero i))
 judged-at i T (w ∷ ws) (suc k) = judged-at (suc i) T ws k ∙ ap (λ (n : ℕ). lineOf n T (getElem? ws k)) (suc-add i k ∙ sym (add-suc i k))
 
 pub judged-none : (T : Tables) (ws : List Bytes) (place : ℕ) → getElem? ws (place - 1) ≡ none → sheetLine (judgedFrom 1 T ws) place ≡ []
@@ -50,7 +51,7 @@ judged-none T ws (suc k) e =
     let m : suc k - 1 ≡ k = omega arith in
     rw (judged-at 1 T ws k, rw m at e)
 
-pub judged-some : (T : Tables) (ws : List Bytes) (place : ℕ) (w : Bytes) → (place ≡ 0 → ⊥) → getElem? ws (place - 1) ≡ some w → sheetLine (judgedFrom 1 T ws) place ≡ lineText place (ruleVerdict T w)
+pub judged-some : (T : Tables) (ws : List Bytes) (place : ℕ) (w : Bytes) → (place ≡ 0 → ⊥) → getElem? ws (place - 1) ≡ some w → sheetLine (judgedFrom 1 T ws) place ≡ lineText place (turnVerdict T w)
 unfolding sheetLine
 judged-some T ws zero w n e = absurd (n refl)
 judged-some T ws (suc k) w n e =

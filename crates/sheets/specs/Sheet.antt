@@ -8,29 +8,16 @@ use lib.Dec.{leb}
 use lib.ListN.{length, getElem?}
 use Rattle.answers.specs.Refusal.{numberOf}
 use Rattle.syntax.specs.Bytes.{Bytes, ascii}
-use Rattle.syntax.specs.Rule.{Rule, ruleVars, ruleOf}
-use Rattle.rules.specs.Accept.{refusal}
 use Rattle.tables.specs.Tables.{Tables}
 use Rattle.tables.specs.Reading.{Reading, rejected, taken, tablesOf}
 use Rattle.texts.specs.Pieces.{lines}
-use Rattle.walks.specs.Order.{upFrom}
-use Rattle.verdicts.specs.declared.Verdict.{Verdict}
-use Rattle.verdicts.specs.Verdict.{acceptedVerdict}
+use Rattle.verdicts.specs.Verdict.{turnVerdict}
 use Rattle.sheets.specs.Line.{labelled, lineText}
 
--- "The order is 1, 2, ..": one byte for each variable; no rule, no variables.
-unfoldable pub orderOf : Option Rule → Bytes
-orderOf none = []
-orderOf (some ρ) = upFrom 1 (length (ruleVars [] ρ))
-
--- The verdict on one line of the rules.
-unfoldable pub ruleVerdict : Tables → Bytes → Verdict
-ruleVerdict T rule = acceptedVerdict T (refusal rule) rule (orderOf (ruleOf rule))
-
--- The lines of the rules from line k on.
+-- The lines of the rules from line k on: "The order is 1, 2, .."
 unfoldable pub judgedFrom : ℕ → Tables → List Bytes → List Bytes
 judgedFrom k T [] = []
-judgedFrom k T (w ∷ ws) = lineText k (ruleVerdict T w) ∷ judgedFrom (suc k) T ws
+judgedFrom k T (w ∷ ws) = lineText k (turnVerdict T w) ∷ judgedFrom (suc k) T ws
 
 -- A sheet of one line.
 abbrev pub only : Bytes → List Bytes

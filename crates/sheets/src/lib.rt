@@ -2,25 +2,21 @@
 // Nothing here reads files or prints.
 use answers::Refusal;
 use answers::Written;
-use rules::Checked;
 use tables::Outcome;
 use texts::Span;
 
 mod text;
 
-ghost use mathlib.Core.Path.{_≡_};
 ghost use Prim.Native.Nat.{_≤_};
-ghost use lib.Dec.{leb};
 ghost use lib.ListN.{length};
 ghost use Rattle.answers.specs.Refusal.{numberOf};
 ghost use Rattle.syntax.specs.Bytes.{ascii};
-ghost use Rattle.tables.specs.Tables.{Tables};
-ghost use Rattle.tables.specs.Reading.{taken, tablesOf};
 ghost use Rattle.texts.specs.code.Overwritten.{Overwritten};
-ghost use Rattle.sheets.specs.Line.{labelled, lineText};
-ghost use Rattle.sheets.specs.Sheet.{only, ruleVerdict, unlessLong, sheetOf, sheetLine};
+ghost use Rattle.verdicts.specs.code.Judging.{Loaded};
+ghost use Rattle.sheets.specs.Line.{labelled};
+ghost use Rattle.sheets.specs.Sheet.{only, sheetOf, sheetLine};
 ghost use Rattle.sheets.specs.Promise.{Lines};
-ghost use Rattle.sheets.specs.code.Orders.{Counted};
+ghost use Rattle.sheets.specs.code.Lines.{LinesOn, RuleLineOn};
 
 // The line at a place, from 1, without byte 10; no bytes at any other place.
 pub fn line(tables: &[u8], rules: &[u8], place: usize, out: &mut [u8]) -> Written
@@ -53,7 +49,7 @@ fn long_rules(place: usize, out: &mut [u8]) -> usize
     texts::put(b"rules too long", out)
 }
 
-// The line of any tables and rules.
+// The line of any tables and rules. The tables are read once, and the rule of the line is parsed once.
 fn write_line(tables: &[u8], rules: &[u8], place: usize, out: &mut [u8]) -> usize
     requires { ⌜ 512 ≤ length (now out) ⌝ }
     ensures { λ r. ⌜ Overwritten (sheetLine (sheetOf (now (tables .entry)) (now (rules .entry))) place) (now (out .entry)) (now (out .exit)) r ⌝ }
@@ -62,14 +58,18 @@ fn write_line(tables: &[u8], rules: &[u8], place: usize, out: &mut [u8]) -> usiz
     let outcome = loaded.outcome;
     match outcome {
         Outcome::Refused(e) => refused_tables(e, place, out),
-        Outcome::Accepted => judged_line(tables, rules, place, out),
+        Outcome::Accepted => {
+            let words = loaded.words;
+            judged_line(&words, rules, place, out)
+        }
     }
 }
 
-// The line of accepted tables.
-fn judged_line(tables: &[u8], rules: &[u8], place: usize, out: &mut [u8]) -> usize
+// The line of accepted tables, held as words.
+fn judged_line(words: &[u64], rules: &[u8], place: usize, out: &mut [u8]) -> usize
+    requires { ⌜ Loaded (now words) ⌝ }
     requires { ⌜ 512 ≤ length (now out) ⌝ }
-    ensures { λ r. ⌜ ((T : Tables) → tablesOf (now (tables .entry)) ≡ taken T → Overwritten (sheetLine (unlessLong (leb (length (now (rules .entry))) 32768) T (now (rules .entry))) place) (now (out .entry)) (now (out .exit)) r) ⌝ }
+    ensures { λ r. ⌜ LinesOn (now (words .entry)) (now (rules .entry)) place (now (out .entry)) (now (out .exit)) r ⌝ }
 {
     if 32768 < rules.len() {
         return long_rules(place, out);
@@ -80,28 +80,14 @@ fn judged_line(tables: &[u8], rules: &[u8], place: usize, out: &mut [u8]) -> usi
     let Span::Found { from, to } = texts::line(rules, place - 1) else {
         return 0;
     };
-    rule_line(tables, &rules[from..to], place, out)
+    rule_line(words, &rules[from..to], place, out)
 }
 
 // The line of one rule on accepted tables.
-fn rule_line(tables: &[u8], rule: &[u8], place: usize, out: &mut [u8]) -> usize
+fn rule_line(words: &[u64], rule: &[u8], place: usize, out: &mut [u8]) -> usize
+    requires { ⌜ Loaded (now words) ⌝ }
     requires { ⌜ 512 ≤ length (now out) ⌝ }
-    ensures { λ r. ⌜ ((T : Tables) → tablesOf (now (tables .entry)) ≡ taken T → Overwritten (lineText place (ruleVerdict T (now (rule .entry)))) (now (out .entry)) (now (out .exit)) r) ⌝ }
+    ensures { λ r. ⌜ RuleLineOn (now (words .entry)) (now (rule .entry)) place (now (out .entry)) (now (out .exit)) r ⌝ }
 {
-    let n = variables(rule);
-    let order = [1u8, 2, 3, 4, 5, 6, 7, 8];
-    let v = verdicts::decide(tables, rule, &order[..n]);
-    text::line_of(place, v, out)
-}
-
-// How many variables an accepted rule has.
-fn variables(rule: &[u8]) -> usize
-    ensures { λ r. ⌜ Counted (now (rule .entry)) r ⌝ }
-{
-    let parsed = rules::parse(rule);
-    let outcome = parsed.outcome;
-    match outcome {
-        Checked::Accepted => parsed.count,
-        Checked::Refused(_) => 0,
-    }
+    text::line_of(place, verdicts::in_turn(words, rule), out)
 }

@@ -30,7 +30,7 @@ use Rattle.verdicts.specs.Report.{OrderOf, Admitted, Met, badTables, bad
 use Rattle.verdicts.specs.code.Judging.{InSorts}
 use Rattle.verdicts.proofs.OutcomeLaws.{word-accepted}
 use Rattle.verdicts.proofs.VerdictLaws.{first-least}
-use Rattle.verdicts.proofs.DecideLaws.{length-written}
+use Rattle.verdicts.proofs.SheetLaws.{length-written}
 
 -- The refusals of judging, one after the other: "A refusal gives its number, .. counts 0, share 255 and choice all 255".
 

@@ -1,9 +1,11 @@
--- Laws of verdicts: deciding, ruling, walking, writing; what a verdict reports; the worked examples.
+-- Laws of verdicts: tables that are read, rules that are parsed, ruling, walking, writing; what a verdict reports.
 pub mod OutcomeLaws
 pub mod VerdictLaws
 pub mod WalkingLaws
 pub mod RulingLaws
 pub mod SheetLaws
-pub mod DecideLaws
+pub mod LoadedLaws
+pub mod ParsedLaws
+pub mod TurnLaws
 pub mod JudgedLaws
 pub mod ReportLaws

@@ -18,7 +18,7 @@ use Rattle.syntax.specs.Rule.{Rule, ruleVars, ruleOf}
 use Rattle.rules.specs.Accept.{refusal}
 use Rattle.walks.specs.Choices.{nothingChosen, countFull, each, ifBreaks}
 use Rattle.walks.specs.Walk.{walkFirst, choiceBytes}
-use Rattle.walks.specs.Order.{variablesOf, isOrder}
+use Rattle.walks.specs.Order.{variablesOf, isOrder, upFrom}
 use Rattle.walks.specs.Share.{shareOf}
 use Rattle.values.specs.Sets.{itemsOf, inSet, names, breaks}
 use Rattle.verdicts.specs.declared.Outcome.{Outcome}
@@ -100,6 +100,14 @@ treeVerdict T (some ρ) order = orderVerdict T ρ order
 unfoldable pub acceptedVerdict : Tables → Option Refusal → Bytes → Bytes → Verdict
 acceptedVerdict T (some e) rule order = refusedBy e
 acceptedVerdict T none rule order = treeVerdict T (ruleOf rule) order
+
+-- "The order is 1, 2, ..": one byte for each variable; no rule, no variables.
+unfoldable pub turnOrder : Option Rule → Bytes
+turnOrder none = []
+turnOrder (some ρ) = upFrom 1 (length (ruleVars [] ρ))
+
+unfoldable pub turnVerdict : Tables → Bytes → Verdict
+turnVerdict T rule = acceptedVerdict T (refusal rule) rule (turnOrder (ruleOf rule))
 
 -- "Judging checks tables, rule, order."
 unfoldable pub tablesVerdict : Reading → Bytes → Bytes → Verdict

@@ -3,13 +3,16 @@
 use answers::Refusal;
 use answers::Written;
 use rules::Checked;
+use rules::Parsed;
 use tables::Outcome as Read;
+ghost use mathlib.Core.Path.{_≡_};
 ghost use lib.ListN.{length};
-ghost use Rattle.answers.specs.Answer.{lent};
+ghost use Rattle.rules.specs.declared.Checked.the-variants.{Accepted as AcceptedRule};
+ghost use Rattle.answers.specs.Answer.{wrote, lent};
 ghost use Rattle.verdicts.specs.Verdict.{Gives, verdictOf, judged};
-ghost use Rattle.verdicts.specs.code.Judging.{Loaded, JudgesOn};
+ghost use Rattle.verdicts.specs.code.Judging.{Loaded, SomeRule, JudgesOn, JudgesInTurn, JudgesParsed};
 ghost use Rattle.answers.specs.Written.{Answers};
-ghost use Rattle.verdicts.specs.code.Writing.{PutsVerdict};
+ghost use Rattle.verdicts.specs.code.Writing.{writtenOf};
 
 mod ruling;
 mod sheet;
@@ -31,31 +34,58 @@ pub struct Verdict {
     pub share: u8,
 }
 
-// The verdict on accepted tables, held as words.
-fn on_tables(t: &[u64], rule: &[u8], order: &[u8]) -> Verdict
-    requires { ⌜ Loaded (now t) ⌝ }
-    ensures { λ r. ⌜ JudgesOn (now (t .entry)) (now (rule .entry)) (now (order .entry)) r ⌝ }
+// The verdict of a parsed rule that is accepted.
+fn of_accepted(words: &[u64], parsed: Parsed, order: &[u8]) -> Verdict
+    requires { ⌜ Loaded (now words) ⌝ }
+    requires { ⌜ SomeRule parsed ⌝ }
+    requires { ⌜ parsed .outcome ≡ AcceptedRule ⌝ }
+    ensures { λ r. ⌜ JudgesParsed (now (words .entry)) parsed (now (order .entry)) r ⌝ }
 {
-    let parsed = rules::parse(rule);
+    let nodes = parsed.nodes;
+    let kinds = parsed.kinds;
+    let vars = parsed.vars;
+    let count = parsed.count;
+    ruling::along(
+        words,
+        &nodes,
+        parsed.n,
+        &kinds,
+        &vars[..count],
+        parsed.root,
+        order,
+    )
+}
+
+// The verdict of a parsed rule on accepted tables, held as words, along an order.
+pub fn of_parsed(words: &[u64], parsed: Parsed, order: &[u8]) -> Verdict
+    requires { ⌜ Loaded (now words) ⌝ }
+    requires { ⌜ SomeRule parsed ⌝ }
+    ensures { λ r. ⌜ JudgesParsed (now (words .entry)) parsed (now (order .entry)) r ⌝ }
+{
     let outcome = parsed.outcome;
     match outcome {
         Checked::Refused(e) => ruling::refused(e),
-        Checked::Accepted => {
-            let nodes = parsed.nodes;
-            let kinds = parsed.kinds;
-            let vars = parsed.vars;
-            let count = parsed.count;
-            ruling::along(
-                t,
-                &nodes,
-                parsed.n,
-                &kinds,
-                &vars[..count],
-                parsed.root,
-                order,
-            )
-        }
+        Checked::Accepted => of_accepted(words, parsed, order),
     }
+}
+
+// The verdict of a rule's text on such tables.
+pub fn on_tables(words: &[u64], rule: &[u8], order: &[u8]) -> Verdict
+    requires { ⌜ Loaded (now words) ⌝ }
+    ensures { λ r. ⌜ JudgesOn (now (words .entry)) (now (rule .entry)) (now (order .entry)) r ⌝ }
+{
+    of_parsed(words, rules::parse(rule), order)
+}
+
+// The same along 1, 2, ..
+pub fn in_turn(words: &[u64], rule: &[u8]) -> Verdict
+    requires { ⌜ Loaded (now words) ⌝ }
+    ensures { λ r. ⌜ JudgesInTurn (now (words .entry)) (now (rule .entry)) r ⌝ }
+{
+    let parsed = rules::parse(rule);
+    let count = parsed.count;
+    let order = [1u8, 2, 3, 4, 5, 6, 7, 8];
+    of_parsed(words, parsed, &order[..count])
 }
 
 // Judging checks tables, rule, order.
@@ -73,13 +103,13 @@ pub fn decide(tables: &[u8], rule: &[u8], order: &[u8]) -> Verdict
     }
 }
 
-// Writes the verdict with that word, or says that the lent output is too short for it.
-fn put(out: &mut [u8], word: u8, verdict: Verdict) -> Written
-    ensures { λ r. ⌜ PutsVerdict (now (out .entry)) (now (out .exit)) word verdict r ⌝ }
+// Writes the verdict, or says that the lent output is too short for it.
+fn put(verdict: Verdict, out: &mut [u8]) -> Written
+    ensures { λ r. ⌜ Answers (lent (length (now (out .entry))) (wrote (writtenOf verdict))) (now (out .entry)) (now (out .exit)) r ⌝ }
 {
     let mut sheet = [0u8; 26];
-    sheet::write(&mut sheet, word, verdict);
-    answers::lend(&sheet, out)
+    let n = sheet::write(verdict, &mut sheet);
+    answers::lend(&sheet[..n], out)
 }
 
 // Judges the rule and writes the verdict to the lent output. 17 follows 18, and a refusal writes nothing.
@@ -87,11 +117,9 @@ pub fn judge(tables: &[u8], rule: &[u8], order: &[u8], out: &mut [u8]) -> Writte
     ensures { λ r. ⌜ Answers (lent (length (now (out .entry))) (judged (now (tables .entry)) (now (rule .entry)) (now (order .entry)))) (now (out .entry)) (now (out .exit)) r ⌝ }
 {
     let found = decide(tables, rule, order);
-    let outcome = found.outcome;
-    match outcome {
-        Outcome::Refused(e) => Written::Refused(e),
-        Outcome::Held => put(out, 0, found),
-        Outcome::Idle => put(out, 1, found),
-        Outcome::Broken => put(out, 2, found),
+    let refusal = ruling::refusal(found);
+    match refusal {
+        Checked::Refused(e) => Written::Refused(e),
+        Checked::Accepted => put(found, out),
     }
 }

@@ -1,12 +1,14 @@
 // Writing a verdict as 26 bytes: its word, full and breaking as words of 8 bytes, the choice, the share.
+use crate::Outcome;
 use crate::Verdict;
 ghost use mathlib.Core.Path.{_≡_};
-ghost use mathlib.Core.List.{_++_};
-ghost use Prim.Native.Nat.{_+_, _≤_};
-ghost use lib.ListN.{length, drop};
-ghost use lib.Seq.{paste};
+ghost use mathlib.Core.List.{[], _∷_};
+ghost use Prim.Native.Nat.{_+_, _≤_, _<_};
+ghost use lib.ListN.{length};
 ghost use Rattle.tables.specs.Bytes.{lowestFirst};
-ghost use Rattle.verdicts.specs.Verdict.{written};
+ghost use Rattle.texts.specs.code.Overwritten.{Overwritten};
+ghost use Rattle.verdicts.specs.Verdict.{wordNumber};
+ghost use Rattle.verdicts.specs.code.Writing.{Behind, writtenOf};
 
 // A word as 8 bytes, lowest byte first.
 fn bytes(w: u64) -> [u8; 8]
@@ -23,31 +25,52 @@ fn bytes(w: u64) -> [u8; 8]
     b
 }
 
-// Copies `p` into the sheet from `at` on.
-fn copy(out: &mut [u8], at: usize, p: &[u8])
-    requires { ⌜ at + length (now p) ≤ length (now out) ⌝ }
-    ensures { λ _. ⌜ now (out .exit) ≡ paste (now (out .entry)) at (now (p .entry)) (length (now (p .entry))) ⌝ }
+// The verdict's word; a refusal has none of them.
+fn word(verdict: Verdict) -> u8
+    ensures { λ r. ⌜ r ≡ wordNumber (verdict .outcome) ⌝ }
 {
-    let mut i = 0;
-    while i < p.len() {
-        out[at + i] = p[i];
-        i += 1;
+    let outcome = verdict.outcome;
+    match outcome {
+        Outcome::Held => 0,
+        Outcome::Idle => 1,
+        Outcome::Broken => 2,
+        Outcome::Refused(_) => 255,
     }
 }
 
-// Writes the verdict with that word to the front of the sheet, and keeps the rest.
-pub fn write(out: &mut [u8], word: u8, verdict: Verdict)
-    requires { ⌜ 26 ≤ length (now out) ⌝ }
-    ensures { λ _. ⌜ now (out .exit) ≡ written word verdict ++ drop 26 (now (out .entry)) ⌝ }
+// Each of these writes a piece behind the first n bytes: a byte, bytes, a word.
+fn byte_behind(n: usize, x: u8, out: &mut [u8])
+    requires { ⌜ n < length (now out) ⌝ }
+    ensures { λ _. ⌜ Behind n (x ∷ []) (now (out .entry)) (now (out .exit)) ⌝ }
 {
-    let head = [word];
-    copy(out, 0, &head);
-    let full = bytes(verdict.full);
-    copy(out, 1, &full);
-    let breaking = bytes(verdict.breaking);
-    copy(out, 9, &breaking);
+    out[n] = x;
+}
+
+fn behind(n: usize, w: &[u8], out: &mut [u8])
+    requires { ⌜ n + length (now w) ≤ length (now out) ⌝ }
+    ensures { λ _. ⌜ Behind n (now (w .entry)) (now (out .entry)) (now (out .exit)) ⌝ }
+{
+    texts::put(w, &mut out[n..]);
+}
+
+fn word_behind(n: usize, w: u64, out: &mut [u8])
+    requires { ⌜ n + 8 ≤ length (now out) ⌝ }
+    ensures { λ _. ⌜ Behind n (lowestFirst 8 w) (now (out .entry)) (now (out .exit)) ⌝ }
+{
+    let b = bytes(w);
+    behind(n, &b, out);
+}
+
+// Writes the verdict over the beginning of the lent bytes.
+pub fn write(verdict: Verdict, out: &mut [u8]) -> usize
+    requires { ⌜ 26 ≤ length (now out) ⌝ }
+    ensures { λ r. ⌜ Overwritten (writtenOf verdict) (now (out .entry)) (now (out .exit)) r ⌝ }
+{
     let first = verdict.first;
-    copy(out, 17, &first);
-    let share = [verdict.share];
-    copy(out, 25, &share);
+    byte_behind(0, word(verdict), out);
+    word_behind(1, verdict.full, out);
+    word_behind(9, verdict.breaking, out);
+    behind(17, &first, out);
+    byte_behind(25, verdict.share, out);
+    26
 }

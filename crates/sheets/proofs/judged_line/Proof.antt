@@ -13,10 +13,10 @@ same-length : tie.Need-same-length
 same-length c = search needs
 
 returns : tie.Need-returns
-returns c = λ T t. long-made T (c .before .before .before .before .before .before .before .before .args .rules .now) _ (c .before .before .before .before .if1 .taken) (c .before .before .long-rules .ensures)
+returns c = λ T H. long-made T (c .before .before .before .before .before .before .before .before .args .rules .now) _ (c .before .before .before .before .if1 .taken) (c .before .before .long-rules .ensures)
 
 returns-2 : tie.Need-returns-2
-returns-2 c = λ T t. zero-made T (c .before .before .before .before .before .args .rules .now) _ _ (c .if2 .taken)
+returns-2 c = λ T H. zero-made T (c .before .before .before .before .before .args .rules .now) _ _ (c .if2 .taken)
 
 sub-line : tie.Need-sub-line
 sub-line c = search needs
@@ -31,16 +31,16 @@ enum-told : tie.Need-enum-told
 enum-told c = search needs
 
 returns-3 : tie.Need-returns-3
-returns-3 c = λ T t. missing-made T _ _ _ (c .before .before .before .before .if1 .left) (c .before .before .line .ensures) (c .enum-told .given .1)
+returns-3 c = λ T H. missing-made T _ _ _ (c .before .before .before .before .if1 .left) (c .before .before .line .ensures) (c .enum-told .given .1)
 
 sub-rule-line : tie.Need-sub-rule-line
-sub-rule-line c = let l = lies (c .before .before .before .line .ensures) (c .before .from .given .1) in l .low
+sub-rule-line c = lies (c .before .before .before .line .ensures) (c .before .from .given .1) .low
 
 part-rule-line-start : tie.Need-part-rule-line-start
-part-rule-line-start c = let l = lies (c .before .before .before .line .ensures) (c .before .from .given .1) in l .low
+part-rule-line-start c = lies (c .before .before .before .line .ensures) (c .before .from .given .1) .low
 
 part-rule-line-end : tie.Need-part-rule-line-end
-part-rule-line-end c = let l = lies (c .before .before .before .line .ensures) (c .before .from .given .1) in l .high
+part-rule-line-end c = lies (c .before .before .before .line .ensures) (c .before .from .given .1) .high
 
 rule-line-requires : tie.Need-rule-line-requires
 rule-line-requires c κs = search needs
@@ -49,7 +49,7 @@ same-length-2 : tie.Need-same-length-2
 same-length-2 c = search needs
 
 returns-4 : tie.Need-returns-4
-returns-4 c = λ T t. found-made T _ _ (c .before .before .before .before .before .before .before .before .before .before .if1 .left) (c .before .before .before .before .before .before .before .before .before .if2 .left) (c .before .before .before .before .before .before .before .before .line .ensures) (c .before .before .before .before .before .before .from .given .1) (c .before .before .rule-line .ensures T t)
+returns-4 c = λ T H. found-made T _ _ (c .before .before .before .before .before .before .before .before .before .before .if1 .left) (c .before .before .before .before .before .before .before .before .before .if2 .left) (c .before .before .before .before .before .before .before .before .line .ensures) (c .before .before .before .before .before .before .from .given .1) (c .before .before .rule-line .ensures T H)
 
 pub judged-line-spec : {M : Type 1} → statement M
 judged-line-spec =

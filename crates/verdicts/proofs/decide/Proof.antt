@@ -1,9 +1,9 @@
 -- `verdicts::decide` meets its contract: refused tables give their refusal, accepted ones go on to the rule.
 -- Assumes nothing.
-use mathlib.Core.Path.{_∙_}
-use Rattle.tables.proofs.FitsLaws.{accepted-sound}
+use mathlib.Core.Path.{sym, _∙_}
 use Rattle.verdicts.proofs.OutcomeLaws.{same-gives}
-use Rattle.verdicts.proofs.DecideLaws.{tables-refused, tables-taken, took-words, took-loaded, took-verdict}
+use Rattle.verdicts.proofs.LoadedLaws.{was-rejected, was-taken, took-loaded, took-judged}
+use Rattle.verdicts.proofs.JudgedLaws.{tables-rejected}
 use borrow.Author.Needs.{needs}
 use Rattle.verdicts.proofs.decide.Statement.{statement}
 use Rattle.verdicts.proofs.decide.Tie as tie
@@ -24,22 +24,20 @@ slice-aggregate-on-tables : tie.Need-slice-aggregate-on-tables
 slice-aggregate-on-tables c = search needs
 
 on-tables-requires : tie.Need-on-tables-requires
-on-tables-requires c κs =
-    let b = c .before .before .before .before .before .before .before .before .args .tables .now in
-    took-loaded b (c .before .before .before .before .read .result .words) (tables-taken b _ (c .before .before .before .before .read .ensures .0) (c .before .before .enum-told .given .1)) (c .before .before .before .before .read .ensures .1)
+on-tables-requires c κs = took-loaded (was-taken (c .before .before .before .before .before .before .before .before .args .tables .now) (c .before .before .before .before .read .ensures .0) (c .before .before .before .before .read .ensures .1) (c .before .before .enum-told .given .1))
 
 returns : tie.Need-returns
 returns c =
     let S = c .before .before .before .before .before .before .before .before in
-    same-gives (c .refused .ensures ∙ tables-refused (S .args .tables .now) (S .args .rule .now) (S .args .order .now) (c .before .before .outcome .given .0 .0) _ (c .before .before .before .before .read .ensures .0) (c .before .before .outcome .given .1))
+    let e = c .before .before .outcome .given .0 .0 in
+    let said = was-rejected (S .args .tables .now) (c .before .before .before .before .read .ensures .0) (c .before .before .outcome .given .1) in
+    same-gives (c .refused .ensures ∙ sym (tables-rejected (S .args .tables .now) (S .args .rule .now) (S .args .order .now) e said))
 
 returns-2 : tie.Need-returns-2
 returns-2 c =
     let S = c .before .before .before .before .before .before .before .before .before in
-    let b = S .args .tables .now in
-    let q = tables-taken b _ (c .before .before .before .before .before .read .ensures .0) (c .before .before .before .enum-told .given .1) in
-    same-gives (took-verdict b (S .args .rule .now) (S .args .order .now) q (c .on-tables .result)
-    (c .on-tables .ensures (q .tables) (accepted-sound b (q .is)) (took-words b (c .before .before .before .before .before .read .result .words) q (c .before .before .before .before .before .read .ensures .1))))
+    let q = was-taken (S .args .tables .now) (c .before .before .before .before .before .read .ensures .0) (c .before .before .before .before .before .read .ensures .1) (c .before .before .before .enum-told .given .1) in
+    same-gives (took-judged q (S .args .rule .now) (S .args .order .now) (c .on-tables .ensures (q .tables) (q .holds)))
 
 pub decide-spec : {M : Type 1} → statement M
 decide-spec =

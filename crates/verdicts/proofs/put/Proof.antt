@@ -1,8 +1,6 @@
 -- `verdicts::put` meets its contract: the 26 bytes are made by themselves, and lent.
 -- Assumes nothing.
-use mathlib.Core.Path.{_≡_, _∙_}
-use mathlib.Core.List.{append-nil}
-use Rattle.verdicts.specs.Verdict.{written}
+use Rattle.texts.proofs.OverwrittenLaws.{written-part, part-length}
 use borrow.Author.Needs.{needs}
 use Rattle.verdicts.proofs.put.Statement.{statement}
 use Rattle.verdicts.proofs.put.Tie as tie
@@ -13,8 +11,11 @@ slice-aggregate-write c = search needs
 write-requires : tie.Need-write-requires
 write-requires c κs = search needs
 
+array-share-prefix-sheet : tie.Need-array-share-prefix-sheet
+array-share-prefix-sheet c = search needs
+
 slice-aggregate-lend : tie.Need-slice-aggregate-lend
-slice-aggregate-lend c = search needs
+slice-aggregate-lend c = part-length (c .before .before .write .ensures)
 
 lend-requires : tie.Need-lend-requires
 lend-requires c κs = search needs
@@ -23,11 +24,7 @@ same-length : tie.Need-same-length
 same-length c = search needs
 
 returns : tie.Need-returns
-returns c =
-    let W = c .before .before .before .before .before .before in
-    let S = W .before .before .before in
-    let bytes : W .write .last .0 ≡ written (S .args .word) (S .args .verdict) = W .write .ensures ∙ append-nil (written (S .args .word) (S .args .verdict)) in
-    rw bytes at (c .before .before .lend .ensures)
+returns c = rw (written-part (c .before .before .before .before .before .before .write .ensures)) at (c .before .before .lend .ensures)
 
 pub put-spec : {M : Type 1} → statement M
 put-spec =
@@ -35,6 +32,7 @@ put-spec =
     (tie.spec
     slice-aggregate-write
     write-requires
+    array-share-prefix-sheet
     slice-aggregate-lend
     lend-requires
     same-length

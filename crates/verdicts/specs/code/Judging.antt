@@ -10,17 +10,20 @@ use Rattle.words.specs.Words.{has, gate}
 use Rattle.tables.specs.Tables.{Tables}
 use Rattle.tables.specs.Flat.{flat}
 use Rattle.tables.specs.Accepted.{Sound}
+use Rattle.syntax.specs.Bytes.{Bytes}
 use Rattle.syntax.specs.Term.{Choices}
 use Rattle.syntax.specs.Rule.{Rule, ruleVars}
 use Rattle.syntax.specs.code.Arena.{HoldsRule}
 use Rattle.rules.specs.Accept.{refusal}
+use Rattle.rules.specs.declared.Parsed.{Parsed}
+use Rattle.rules.specs.code.Parsed.{Parses}
 use Rattle.walks.specs.declared.Tally.{Tally}
 use Rattle.walks.specs.Walk.{gateO, choiceBytes}
 use Rattle.walks.specs.Meaning.{After}
 use Rattle.walks.specs.code.Among.{Within}
 use Rattle.walks.specs.code.Tally.{Walked, Upto}
 use Rattle.walks.specs.Share.{shareOf}
-use Rattle.verdicts.specs.Verdict.{outcomeOf, orderVerdict, acceptedVerdict}
+use Rattle.verdicts.specs.Verdict.{outcomeOf, orderVerdict, acceptedVerdict, turnVerdict}
 use Rattle.verdicts.specs.declared.Verdict.{Verdict}
 use Rattle.values.specs.Sets.{itemsOf, inSet, names, breaks}
 use Rattle.values.specs.code.Nodes.{Evaluable, Variables, World}
@@ -101,11 +104,24 @@ ruledBy a = record {
   share = shareOf (a .full) (a .breaking);
 }
 
--- The words hold some sound tables.
+-- The words hold the tables T, which are sound;
+pub record TablesAt (ts : List ℕ) (T : Tables) : Type 0 where
+  pub sound : Sound T
+  pub words : ts ≡ flat T
+
+-- some such tables.
 pub record Loaded (ts : List ℕ) : Type 0 where
   pub tables : Tables
-  pub sound : Sound tables
-  pub words : ts ≡ flat tables
+  pub holds : TablesAt ts tables
+
+-- The parsed rule is that of the text s;
+abbrev pub ParsedFrom : Bytes → Parsed → Type 0
+ParsedFrom s p = Parses s (p .nodes) (p .kinds) (p .vars) (p .outcome) (p .n) (p .root) (p .count)
+
+-- of some text.
+pub record SomeRule (p : Parsed) : Type 0 where
+  pub text : Bytes
+  pub parses : ParsedFrom text p
 
 -- What is shown whatever tables and rule the slices hold: r is what the walk along the last m variables of the order gives; the verdict
 -- r is that of the order.
@@ -116,6 +132,12 @@ module _ (ts ns : List ℕ) (n : ℕ) (ks vs : List ℕ) (root : ℕ) (order : L
   abbrev pub RulesOn : Verdict → Type 0
   RulesOn r = (T : Tables) (ρ : Rule) → Case ts ns n ks vs root T ρ → r ≡ orderVerdict T ρ order
 
--- The verdict r is that of the tables that the words hold.
-abbrev pub JudgesOn : List ℕ → List ℕ → List ℕ → Verdict → Type 0
-JudgesOn ts rule order r = (T : Tables) → Sound T → ts ≡ flat T → r ≡ acceptedVerdict T (refusal rule) rule order
+-- Whatever tables the words hold, the verdict r is that of the rule along the order; along 1, 2, ..; of a parsed rule, whatever text it is of.
+abbrev pub JudgesOn : List ℕ → Bytes → Bytes → Verdict → Type 0
+JudgesOn ts rule order r = (T : Tables) → TablesAt ts T → r ≡ acceptedVerdict T (refusal rule) rule order
+
+abbrev pub JudgesInTurn : List ℕ → Bytes → Verdict → Type 0
+JudgesInTurn ts rule r = (T : Tables) → TablesAt ts T → r ≡ turnVerdict T rule
+
+abbrev pub JudgesParsed : List ℕ → Parsed → Bytes → Verdict → Type 0
+JudgesParsed ts p order r = (rule : Bytes) → ParsedFrom rule p → JudgesOn ts rule order r

@@ -1,13 +1,16 @@
--- What is left of the lent bytes where a verdict is to be written.
+-- What is left of the lent bytes where a verdict is written, piece by piece.
 -- Internal: the entry points' contracts speak of `Answers`. Assumes nothing.
-use mathlib.Core.List.{List}
-use Prim.Native.Nat.{ℕ}
+use mathlib.Core.List.{List, _++_}
+use Prim.Native.Nat.{ℕ, _+_}
 use lib.ListN.{length}
-use Rattle.answers.specs.Answer.{wrote, lent}
-use Rattle.answers.specs.Written.{Answers}
-use Rattle.answers.specs.declared.Written.{Written}
+use Rattle.texts.specs.code.Overwritten.{Overwritten}
 use Rattle.verdicts.specs.declared.Verdict.{Verdict}
-use Rattle.verdicts.specs.Verdict.{written}
+use Rattle.verdicts.specs.Verdict.{wordNumber, written}
 
-abbrev pub PutsVerdict : List ℕ → List ℕ → ℕ → Verdict → Written → Type 0
-PutsVerdict old new word v r = Answers (lent (length old) (wrote (written word v))) old new r
+-- Whatever the n bytes v in front were written over, w stands behind them now.
+abbrev pub Behind : ℕ → List ℕ → List ℕ → List ℕ → Type 0
+Behind n w mid new = (v old : List ℕ) → Overwritten v old mid n → Overwritten (v ++ w) old new (n + length w)
+
+-- The verdict with its own word.
+abbrev pub writtenOf : Verdict → List ℕ
+writtenOf v = written (wordNumber (v .outcome)) v

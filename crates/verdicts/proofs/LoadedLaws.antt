@@ -1,0 +1,47 @@
+-- What reading the tables said: they are refused, or taken, and then the words hold them.
+-- Assumes nothing.
+use mathlib.Core.Path.{_≡_, refl, sym, ap, _∙_}
+use mathlib.Core.List.{List}
+use Prim.Native.Nat.{ℕ}
+use native.Mathlib.Omega.{arith}
+use Rattle.answers.specs.declared.Refusal.{Refusal}
+use Rattle.tables.specs.Tables.{Tables}
+use Rattle.tables.specs.Reading.{Reading, rejected, taken, tablesOf, outcomeNumber, readingNumber, wordsOf}
+use Rattle.tables.specs.code.Reads.{readingOutcome}
+use Rattle.tables.specs.declared.Outcome.{Outcome}
+use Rattle.tables.specs.declared.Outcome.the-variants.{Refused, Accepted}
+use Rattle.tables.proofs.LoadLaws.{outcome-case}
+use Rattle.tables.proofs.FitsLaws.{accepted-sound}
+use Rattle.syntax.specs.Bytes.{Bytes}
+use Rattle.rules.specs.Accept.{refusal}
+use Rattle.verdicts.specs.declared.Verdict.{Verdict}
+use Rattle.verdicts.specs.Verdict.{acceptedVerdict, tablesVerdict, verdictOf}
+use Rattle.verdicts.specs.code.Judging.{TablesAt, Loaded}
+
+pub record Took (b : Bytes) (ts : List ℕ) : Type 0 where
+  pub tables : Tables
+  pub is : tablesOf b ≡ taken tables
+  pub holds : TablesAt ts tables
+
+pub took-loaded : {b : Bytes} {ts : List ℕ} → Took b ts → Loaded ts
+took-loaded q = record { tables = q .tables; holds = q .holds }
+
+module _ (b : Bytes) {o : Outcome} (n : outcomeNumber o ≡ readingNumber (tablesOf b)) where
+  pub was-rejected : {e : Refusal} → o ≡ Refused e → tablesOf b ≡ rejected e
+  was-rejected {e} h = go (tablesOf b) (sym (outcome-case (tablesOf b) o n) ∙ h)
+    where
+      go : (q : Reading) → readingOutcome q ≡ Refused e → q ≡ rejected e
+      go (rejected p) k = let same : p ≡ e = cc in ap rejected same
+      go (taken T) k = let z : _≡_ {A = ℕ} 0 1 = cc in absurd (omega arith)
+
+  pub was-taken : {ts : List ℕ} → ts ≡ wordsOf (tablesOf b) → o ≡ Accepted → Took b ts
+  was-taken {ts} w h = go (tablesOf b) refl (sym (outcome-case (tablesOf b) o n) ∙ h)
+    where
+      go : (q : Reading) → tablesOf b ≡ q → readingOutcome q ≡ Accepted → Took b ts
+      go (rejected p) e k = let z : _≡_ {A = ℕ} 0 1 = cc in absurd (omega arith)
+      go (taken T) e k = record { tables = T; is = e; holds = record { sound = accepted-sound b e; words = w ∙ ap wordsOf e } }
+
+-- On tables that are taken the verdict is that of the rule and the order.
+pub took-judged : {b : Bytes} {ts : List ℕ} (q : Took b ts) (s order : Bytes) {r : Verdict} → r ≡ acceptedVerdict (q .tables) (refusal s) s order → r ≡ verdictOf b s order
+unfolding verdictOf tablesVerdict
+took-judged q s order e = rw (q .is) e
