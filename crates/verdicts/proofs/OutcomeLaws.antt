@@ -3,19 +3,18 @@
 use mathlib.Core.Path.{_≡_, refl, ap}
 use mathlib.Core.Bool.{Bool, true, false, cond}
 use mathlib.Core.Logic.{_↔_}
-use mathlib.Core.Option.{Option, none}
+use mathlib.Core.Option.{none}
 use Prim.Native.Nat.{ℕ, zero, suc, _<_, _≤_}
 use native.Mathlib.Omega.{arith}
 use lib.Dec.{eqb, ltb}
 use borrow.Author.Tests.{lt-ltb, le-ltb, eq-eqb, ne-eqb}
-use Rattle.answers.specs.declared.Refusal.{Refusal}
 use Rattle.answers.proofs.AnswerLaws.{same-number}
 use Rattle.syntax.specs.Bytes.{Bytes}
 use Rattle.verdicts.specs.declared.Outcome.{Outcome}
 use Rattle.verdicts.specs.declared.Outcome.the-variants.{Refused, Held, Idle, Broken}
 use Rattle.verdicts.specs.declared.Verdict.{Verdict}
 use Rattle.verdicts.specs.Verdict.{refusalIn, verdictNumber, wordNumber, Gives, outcomeOf, verdictOf}
-use Rattle.verdicts.specs.Verdict.{written, unlessRefused, answerBy, judged}
+use Rattle.verdicts.specs.Verdict.{answerBy, judged}
 
 same-outcome : (a b : Outcome) → verdictNumber a ≡ verdictNumber b → wordNumber a ≡ wordNumber b → a ≡ b
 same-outcome (Refused e) (Refused f) n w = ap Refused (same-number e f n)
@@ -46,11 +45,10 @@ gives-same {v} {r} g =
 pub same-gives : {v r : Verdict} → r ≡ v → Gives v r
 same-gives e = rw e (record { number = refl; word = refl; full = refl; breaking = refl; first = refl; share = refl })
 
--- What judging answers, by whether the verdict is a refusal.
-pub judged-by : (b s order : Bytes) {v : Verdict} → Gives (verdictOf b s order) v → (q : Option Refusal) → refusalIn (v .outcome) ≡ q
-    → unlessRefused q (written (wordNumber (v .outcome)) v) ≡ judged b s order
-unfolding judged answerBy
-judged-by b s order g q h = rw (← gives-same g, h)
+-- What judging answers, by the verdict's outcome.
+pub judged-by : (b s order : Bytes) (v : Verdict) (o : Outcome) → Gives (verdictOf b s order) v → v .outcome ≡ o → answerBy o v ≡ judged b s order
+unfolding judged
+judged-by b s order v o is h = rw (← gives-same is, h)
 
 -- The verdict's word, by the counts.
 abbrev wordOf : ℕ → ℕ → ℕ

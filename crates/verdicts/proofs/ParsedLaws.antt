@@ -20,11 +20,11 @@ use Rattle.verdicts.specs.declared.Verdict.{Verdict}
 use Rattle.verdicts.specs.Verdict.{refusedBy, treeVerdict, acceptedVerdict}
 use Rattle.verdicts.specs.code.Judging.{Case, Lent, TablesAt, Loaded, RulesOn}
 
-pub checked-none : (q : Option Refusal) → checkedOf q ≡ Accepted → q ≡ none
+checked-none : (q : Option Refusal) → checkedOf q ≡ Accepted → q ≡ none
 checked-none none e = refl
 checked-none (some r) e = let z : _≡_ {A = ℕ} 0 1 = cc in absurd (omega arith)
 
-pub checked-some : (q : Option Refusal) {e : Refusal} → checkedOf q ≡ Refused e → q ≡ some e
+checked-some : (q : Option Refusal) {e : Refusal} → checkedOf q ≡ Refused e → q ≡ some e
 checked-some none h = let z : _≡_ {A = ℕ} 0 1 = cc in absurd (omega arith)
 checked-some (some p) h = cc
 

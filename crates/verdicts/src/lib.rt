@@ -8,11 +8,11 @@ use tables::Outcome as Read;
 ghost use mathlib.Core.Path.{_≡_};
 ghost use lib.ListN.{length};
 ghost use Rattle.rules.specs.declared.Checked.the-variants.{Accepted as AcceptedRule};
-ghost use Rattle.answers.specs.Answer.{wrote, lent};
+ghost use Rattle.answers.specs.Answer.{lent};
 ghost use Rattle.verdicts.specs.Verdict.{Gives, verdictOf, judged};
 ghost use Rattle.verdicts.specs.code.Judging.{Loaded, SomeRule, JudgesOn, JudgesInTurn, JudgesParsed};
 ghost use Rattle.answers.specs.Written.{Answers};
-ghost use Rattle.verdicts.specs.code.Writing.{writtenOf};
+ghost use Rattle.verdicts.specs.code.Writing.{PutsVerdict};
 
 mod ruling;
 mod sheet;
@@ -103,12 +103,12 @@ pub fn decide(tables: &[u8], rule: &[u8], order: &[u8]) -> Verdict
     }
 }
 
-// Writes the verdict, or says that the lent output is too short for it.
-fn put(verdict: Verdict, out: &mut [u8]) -> Written
-    ensures { λ r. ⌜ Answers (lent (length (now (out .entry))) (wrote (writtenOf verdict))) (now (out .entry)) (now (out .exit)) r ⌝ }
+// Writes the verdict with that word, or says that the lent output is too short for it.
+fn put(out: &mut [u8], word: u8, verdict: Verdict) -> Written
+    ensures { λ r. ⌜ PutsVerdict (now (out .entry)) (now (out .exit)) word verdict r ⌝ }
 {
     let mut sheet = [0u8; 26];
-    let n = sheet::write(verdict, &mut sheet);
+    let n = sheet::write(word, verdict, &mut sheet);
     answers::lend(&sheet[..n], out)
 }
 
@@ -117,9 +117,11 @@ pub fn judge(tables: &[u8], rule: &[u8], order: &[u8], out: &mut [u8]) -> Writte
     ensures { λ r. ⌜ Answers (lent (length (now (out .entry))) (judged (now (tables .entry)) (now (rule .entry)) (now (order .entry)))) (now (out .entry)) (now (out .exit)) r ⌝ }
 {
     let found = decide(tables, rule, order);
-    let refusal = ruling::refusal(found);
-    match refusal {
-        Checked::Refused(e) => Written::Refused(e),
-        Checked::Accepted => put(found, out),
+    let outcome = found.outcome;
+    match outcome {
+        Outcome::Refused(e) => Written::Refused(e),
+        Outcome::Held => put(out, 0, found),
+        Outcome::Idle => put(out, 1, found),
+        Outcome::Broken => put(out, 2, found),
     }
 }

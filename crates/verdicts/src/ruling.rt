@@ -3,12 +3,10 @@ use crate::Outcome;
 use crate::Verdict;
 use crate::walking;
 use answers::Refusal;
-use rules::Checked;
 use walks::Tally;
 ghost use mathlib.Core.Path.{_≡_};
 ghost use Prim.Native.Nat.{_≤_, _^_};
-ghost use Rattle.rules.specs.code.Parsed.{checkedOf};
-ghost use Rattle.verdicts.specs.Verdict.{outcomeOf, refusalIn, refusedBy};
+ghost use Rattle.verdicts.specs.Verdict.{outcomeOf, refusedBy};
 ghost use Rattle.verdicts.specs.code.Judging.{Lent, RulesOn, ruledBy};
 
 // A refusal has counts 0, share 255 and choice all 255.
@@ -21,19 +19,6 @@ pub fn refused(refusal: Refusal) -> Verdict
         breaking: 0,
         first: [255u8; 8],
         share: 255,
-    }
-}
-
-// The refusal, if the verdict is one.
-pub fn refusal(verdict: Verdict) -> Checked
-    ensures { λ r. ⌜ r ≡ checkedOf (refusalIn (verdict .outcome)) ⌝ }
-{
-    let outcome = verdict.outcome;
-    match outcome {
-        Outcome::Refused(e) => Checked::Refused(e),
-        Outcome::Held => Checked::Accepted,
-        Outcome::Idle => Checked::Accepted,
-        Outcome::Broken => Checked::Accepted,
     }
 }
 

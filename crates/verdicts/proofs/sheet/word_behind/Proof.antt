@@ -1,23 +1,58 @@
--- `verdicts::sheet::word_behind` meets its contract.
+-- `verdicts::sheet::word_behind` meets its contract. The invariant: the bytes written and those of the rest are the word's.
 -- Assumes nothing.
+use Prim.Native.Nat.{_-_}
+use native.Mathlib.Omega.{arith}
 use borrow.Author.Needs.{needs}
+use Rattle.verdicts.specs.code.Writing.{Wording}
+use Rattle.verdicts.proofs.SheetLaws.{word-none, word-next, word-all}
 use Rattle.verdicts.proofs.sheet.word_behind.Statement.{statement}
 use Rattle.verdicts.proofs.sheet.word_behind.Tie as tie
 
-bytes-requires : tie.Need-bytes-requires
-bytes-requires c κs = search needs
+abbrev Inv-loop : tie.InvT-loop
+Inv-loop n w out₀ rest₀ i₀ out rest i = Wording n w out₀ out rest i
 
-slice-aggregate-behind : tie.Need-slice-aggregate-behind
-slice-aggregate-behind c = search needs
+abbrev μ-loop : tie.MeasureT-loop
+μ-loop n w out₀ rest₀ i₀ out rest i = 8 - i
 
-behind-requires : tie.Need-behind-requires
-behind-requires c κs = search needs
+loop-holds : tie.Need-loop-holds Inv-loop μ-loop
+loop-holds c = word-none _ _ _
 
-same-length : tie.Need-same-length
-same-length c = search needs
+cast-out : tie.Need-cast-out Inv-loop μ-loop
+cast-out c = omega arith
 
-returns : tie.Need-returns
-returns c = rw (c .before .before .before .before .before .bytes .ensures) at (c .before .before .behind .ensures)
+add-out : tie.Need-add-out Inv-loop μ-loop
+add-out c = omega (arith, c .before .before .pre)
+
+slice-write-out : tie.Need-slice-write-out Inv-loop μ-loop
+slice-write-out c = omega (arith, c .before .before .pre, c .before .loop .inv .size)
+
+add-i : tie.Need-add-i Inv-loop μ-loop
+add-i c = omega arith
+
+loop-less : tie.Need-loop-less Inv-loop μ-loop
+loop-less c = omega arith
+
+loop-again : tie.Need-loop-again Inv-loop μ-loop
+loop-again c = word-next (c .before .loop .inv) (c .loop-test .taken) (c .before .before .pre)
+
+same-length : tie.Need-same-length Inv-loop μ-loop
+same-length c = c .before .loop .inv .size
+
+returns : tie.Need-returns Inv-loop μ-loop
+returns c = word-all (c .before .loop .inv) (omega (arith, c .before .loop .inv .within, c .loop-test .left))
 
 pub word-behind-spec : {M : Type 1} → statement M
-word-behind-spec = tie.close (tie.spec bytes-requires slice-aggregate-behind behind-requires same-length returns)
+word-behind-spec =
+    tie.close
+    (tie.spec
+    Inv-loop
+    μ-loop
+    loop-holds
+    cast-out
+    add-out
+    slice-write-out
+    add-i
+    loop-less
+    loop-again
+    same-length
+    returns)
