@@ -8,8 +8,7 @@ use Prim.Native.Nat.{ℕ, _≤_}
 use native.Mathlib.Omega.{arith}
 use mathlib.Core.Logic.{_↔_}
 use lib.ListN.{length}
-use Rattle.answers.specs.Answer.{refused, wrote, lent}
-use Rattle.answers.proofs.AnswerLaws.{lent-wrote}
+use Rattle.answers.specs.Answer.{refused, wrote}
 use Rattle.answers.specs.declared.Refusal.{Refusal}
 use Rattle.answers.specs.declared.Refusal.the-variants.{NotAnOrder}
 use Rattle.tables.specs.Tables.{Tables}
@@ -123,6 +122,3 @@ written-length tables rule order b q = go (met tables rule order)
     go (badRule T e t r) = never e (rule-rejected tables rule order T e t r)
     go (badOrder T ρ t r h bad) = never NotAnOrder (order-rejected tables rule order T ρ t r h bad)
     go (good T ρ a) = let s : b ≡ verdictBytes T ρ order = cc (admitted-wrote a, q) in rw s (bytes-length a)
-
-pub verdict-at-most : (tables rule order b : Bytes) (n : ℕ) → lent n (judged tables rule order) ≡ wrote b → length b ≤ 4096
-verdict-at-most tables rule order b n e = omega (arith, written-length tables rule order b (lent-wrote n (judged tables rule order) b e))

@@ -2,7 +2,6 @@
 -- Assumes nothing.
 use Prim.Native.Nat.{_-_}
 use native.Mathlib.Omega.{arith}
-use borrow.Author.Needs.{needs}
 use Rattle.verdicts.specs.code.Writing.{Wording}
 use Rattle.verdicts.proofs.SheetLaws.{word-none, word-next, word-all}
 use Rattle.verdicts.proofs.sheet.word_behind.Statement.{statement}
