@@ -12,27 +12,38 @@ use tables::Outcome;
 ghost use Prim.Native.Nat.{_≤_};
 ghost use lib.ListN.{length};
 
+// Every command has bytes in its first field.
 pub fn answer(line: &[u8], long: bool) {
-    if long {
+    if long || 80000 < line.len() {
         unknown();
         return;
     }
-    if 80000 < line.len() {
+    let mut first = [0u8; 40000];
+    let f = read_bytes(line, 1, &mut first);
+    if !f.good {
         unknown();
         return;
     }
+    let n = f.n;
+    command(line, &first[..n]);
+}
+
+// The command of a line, given the bytes of its first field.
+fn command(line: &[u8], first: &[u8])
+    requires { ⌜ length (now line) ≤ 80000 ⌝ }
+{
     if is_command(line, b"tables", 2) {
-        tables(line);
+        tables(first);
     } else if is_command(line, b"rule", 2) {
-        rule(line);
+        rule(first);
     } else if is_command(line, b"reduce", 3) {
-        reduce(line);
+        formula(line, first, false);
     } else if is_command(line, b"rebuild", 3) {
-        rebuild(line);
+        formula(line, first, true);
     } else if is_command(line, b"judge", 5) {
-        judge(line);
+        judge(line, first);
     } else if is_command(line, b"sheet", 3) {
-        sheet(line);
+        sheet(line, first);
     } else {
         unknown();
     }
@@ -48,17 +59,8 @@ fn print_number(n: u64) {
 }
 
 // `tables T`: the refusal's number, or 0.
-fn tables(line: &[u8])
-    requires { ⌜ length (now line) ≤ 80000 ⌝ }
-{
-    let mut tables = [0u8; 40000];
-    let t = read_bytes(line, 1, &mut tables);
-    if !t.good {
-        unknown();
-        return;
-    }
-    let n = t.n;
-    let loaded = tables::read(&tables[..n]);
+fn tables(tables: &[u8]) {
+    let loaded = tables::read(tables);
     let outcome = loaded.outcome;
     match outcome {
         Outcome::Refused(refusal) => print_number(answers::number(refusal) as u64),
@@ -67,95 +69,70 @@ fn tables(line: &[u8])
 }
 
 // `rule R`: the refusal's number, or 0.
-fn rule(line: &[u8])
-    requires { ⌜ length (now line) ≤ 80000 ⌝ }
-{
-    let mut rule = [0u8; 40000];
-    let r = read_bytes(line, 1, &mut rule);
-    if !r.good {
-        unknown();
-        return;
-    }
-    let n = r.n;
-    let checked = rules::check(&rule[..n]);
+fn rule(rule: &[u8]) {
+    let checked = rules::check(rule);
     match checked {
         Checked::Refused(refusal) => print_number(answers::number(refusal) as u64),
         Checked::Accepted => print_number(0),
     }
 }
 
-// `reduce R LEN`: the tracker's number and the lent output, which held a5 throughout.
-fn reduce(line: &[u8])
+// `reduce R LEN`, or back, `rebuild F LEN`: the tracker's number and the lent output, which held a5 throughout.
+fn formula(line: &[u8], text: &[u8], back: bool) {
+    let mut output = [0xa5u8; 65536];
+    let l = read_length(line, 2, &output);
+    if !l.good {
+        unknown();
+        return;
+    }
+    let lent = l.n;
+    if back {
+        calls::rebuild(text, &mut output[..lent]);
+    } else {
+        calls::reduce(text, &mut output[..lent]);
+    }
+}
+
+// `judge T R ORDER LEN`: the same for a verdict.
+fn judge(line: &[u8], tables: &[u8])
     requires { ⌜ length (now line) ≤ 80000 ⌝ }
 {
     let mut rule = [0u8; 40000];
-    let mut output = [0xa5u8; 65536];
-    let r = read_bytes(line, 1, &mut rule);
-    let l = read_length(line, 2, &output);
-    if !r.good || !l.good {
+    let mut order = [0u8; 40000];
+    let r = read_bytes(line, 2, &mut rule);
+    let o = read_bytes(line, 3, &mut order);
+    if !r.good || !o.good {
         unknown();
         return;
     }
     let n = r.n;
-    let lent = l.n;
-    calls::reduce(&rule[..n], &mut output[..lent]);
+    let m = o.n;
+    verdict(line, tables, &rule[..n], &order[..m]);
 }
 
-// `rebuild F LEN`: the same for a formula.
-fn rebuild(line: &[u8])
-    requires { ⌜ length (now line) ≤ 80000 ⌝ }
-{
-    let mut formula = [0u8; 40000];
+fn verdict(line: &[u8], tables: &[u8], rule: &[u8], order: &[u8]) {
     let mut output = [0xa5u8; 65536];
-    let f = read_bytes(line, 1, &mut formula);
-    let l = read_length(line, 2, &output);
-    if !f.good || !l.good {
-        unknown();
-        return;
-    }
-    let n = f.n;
-    let lent = l.n;
-    calls::rebuild(&formula[..n], &mut output[..lent]);
-}
-
-// `judge T R ORDER LEN`: the same for a verdict.
-fn judge(line: &[u8])
-    requires { ⌜ length (now line) ≤ 80000 ⌝ }
-{
-    let mut tables = [0u8; 40000];
-    let mut rule = [0u8; 40000];
-    let mut order = [0u8; 40000];
-    let mut output = [0xa5u8; 65536];
-    let t = read_bytes(line, 1, &mut tables);
-    let r = read_bytes(line, 2, &mut rule);
-    let o = read_bytes(line, 3, &mut order);
     let l = read_length(line, 4, &output);
-    if !t.good || !r.good || !o.good || !l.good {
+    if !l.good {
         unknown();
         return;
     }
-    let a = t.n;
-    let b = r.n;
-    let c = o.n;
     let lent = l.n;
-    calls::judge(&tables[..a], &rule[..b], &order[..c], &mut output[..lent]);
+    calls::judge(tables, rule, order, &mut output[..lent]);
 }
 
 // `sheet T RULES`: everything that the listing program prints.
-fn sheet(line: &[u8])
+fn sheet(line: &[u8], tables: &[u8])
     requires { ⌜ length (now line) ≤ 80000 ⌝ }
 {
-    let mut tables = [0u8; 40000];
     let mut rules = [0u8; 40000];
-    let t = read_bytes(line, 1, &mut tables);
     let r = read_bytes(line, 2, &mut rules);
-    if !t.good || !r.good {
+    if !r.good {
         unknown();
         return;
     }
-    let a = t.n;
-    let b = r.n;
-    if !print_sheet(&tables[..a], &rules[..b]) {
+    let n = r.n;
+    if !print_sheet(tables, &rules[..n]) {
         io::write_all(STDOUT_FILENO, b"-");
     }
     io::write_all(STDOUT_FILENO, b"\n");
