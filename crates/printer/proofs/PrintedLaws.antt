@@ -1,13 +1,13 @@
 -- Putting texts into a sheet, one after the other.
 -- Assumes nothing.
 use mathlib.Core.Path.{_≡_, refl, ap, sym, _∙_}
-use mathlib.Core.List.{List, [], _∷_, _++_, append-assoc, append-nil}
-use Prim.Native.Nat.{ℕ, _+_, _-_, _≤_, _<_, min}
+use mathlib.Core.List.{List, [], _∷_, _++_, map, append-assoc, append-nil}
+use Prim.Native.Nat.{ℕ, zero, suc, _+_, _-_, _≤_, _<_, min}
 use native.Mathlib.Omega.{arith}
 use native.Mathlib.Nat.{zero-add}
 use native.Mathlib.Numerals.{add-one}
 use native.Mathlib.Decide.{decLt}
-use lib.ListN.{length, take, drop, getD, set, length-set, length-append, length-take, length-drop, drop-of-length-le}
+use lib.ListN.{length, take, drop, getD, set, replicate, length-set, length-append, length-take, length-drop, drop-of-length-le}
 use lib.Seq.{paste-suc, take-all, take-length, length-take-le, drop-nil, take-append-seam, drop-append-seam, take-append-add}
 use lib.Seq.{take-append-le, drop-drop, take-nil, take-at}
 use borrow.Rule.Slice.PartAt.{part-to-end}
@@ -83,17 +83,22 @@ puts-then {w} {v} {old} {mid} {rest} {r} {s} p q =
 pub puts-as : {w v old new : Bytes} {r : ℕ} → w ≡ v → Puts w old new r → Puts v old new r
 puts-as e p = rw e at p
 
--- The text of a number in a table of texts.
-pub puts-at : (ws : List Bytes) {op n : ℕ} {w old new : Bytes} {r : ℕ} → op ≡ n → w ≡ getD ws n [] → Puts w old new r → Puts (getD ws op []) old new r
-puts-at ws e q p = rw (e, ← q) p
+-- A table of texts, each in a row of 13 bytes, and of their lengths.
 
--- A number that is none of those passed is the last.
+unfoldable pub row : Bytes → Bytes
+row w = w ++ replicate (13 - length w) 32
 
-pub above : {a op : ℕ} → a ≤ op → (op ≡ a → ⊥) → a + 1 ≤ op
-above h n = omega arith
+pub row-room : (ws : List Bytes) (k : ℕ) → getD (map length ws) k 0 ≤ length (getD (map row ws) k [])
+unfolding row
+row-room [] k = omega arith
+row-room (w ∷ ws) zero = rw length-append (omega arith)
+row-room (w ∷ ws) (suc k) = row-room ws k
 
-pub only : {a op : ℕ} → op < a + 1 → a ≤ op → op ≡ a
-only h l = omega arith
+pub row-text : (ws : List Bytes) (k : ℕ) → take (getD (map length ws) k 0) (getD (map row ws) k []) ≡ getD ws k []
+unfolding row
+row-text [] k = refl
+row-text (w ∷ ws) zero = take-append-seam w _
+row-text (w ∷ ws) (suc k) = row-text ws k
 
 -- Rooms, one after the other.
 

@@ -11,11 +11,11 @@ use lib.ListN.{length, getD}
 use borrow.Author.Tests.{le-leb, lt-ltb}
 use borrow.Rule.Slice.PartMut.{midOf, putMid}
 use Rattle.syntax.specs.Bytes.{Bytes, ascii}
-use Rattle.syntax.specs.Term.{Term, base, call, oe, ao, two, Choices, text, aoText, spell, isChoice, spellMiddle}
+use Rattle.syntax.specs.Term.{Term, base, call, oe, ao, two, Choices, text, aoText, spell, spellMiddle}
 use Rattle.syntax.specs.code.Arena.{Holds, HoldsAll, Down, hasTwo}
 use Rattle.syntax.specs.code.Reading.{Sought}
 use Rattle.syntax.specs.code.Nodes.{firstCall, oeOp, aoOp, firstPair, memberOp, firstEmpty, firstCounted, opAt, leftAt, rightAt}
-use Rattle.printer.specs.code.Signs.{signOf, openOf}
+use Rattle.printer.specs.code.Signs.{signOf, openOf, variable, without}
 use Rattle.printer.specs.code.Printed.{Puts, Prints, Printable}
 use Rattle.syntax.proofs.ArenaLaws.{base-small, fn-range, two-range, opOf, holds-op}
 use Rattle.printer.proofs.PrintedLaws.{puts-as, puts-then, puts-room, room-then, room-none, puts-none}
@@ -83,13 +83,13 @@ module _ {ns vs : List ℕ} {k : ℕ} (w : Printable ns k vs) {op : ℕ} (e : op
       }
 
   pub term-two : {l m : ℕ} → l ≡ leftAt ns k → m ≡ rightAt ns k → firstPair ≤ op → op < memberOp
-      → Prints ns vs (λ (p : Term × Term). Holds ns l (p .0) × Holds ns m (p .1)) (λ σ p. (((openOf op ++ text σ (p .0)) ++ signOf op) ++ text σ (p .1)) ++ ascii ")") old new r
+      → Prints ns vs (λ (p : Term × Term). Holds ns l (p .0) × Holds ns m (p .1)) (λ σ p. (openOf op ++ text σ (p .0)) ++ (signOf op ++ (text σ (p .1) ++ ascii ")"))) old new r
       → Prints ns vs (Holds ns k) text old new r
   term-two q u h g p =
       prints-as
       (λ σ t y x.
       let z = text-two ns k σ t (omega arith) (omega arith) x in
-      record { thing = z .thing; held = z .held; written = simp append-assoc (z .written) })
+      record { thing = z .thing; held = z .held; written = append-assoc (openOf (opAt ns k)) _ _ ∙ z .written })
       (rw e at (rw q at (rw u at p)))
 
   -- Below a call, an OE or an AO.
@@ -105,7 +105,7 @@ module _ {ns vs : List ℕ} {k : ℕ} (w : Printable ns k vs) {op : ℕ} (e : op
           (λ σ t y x. text-new ns k σ t (omega arith) (omega arith) (λ a z. choice-none v s σ y a (rw q z) h) x)
           (rw e at (rw q at p))
 
-      pub term-choice : op ≡ oeOp → d < length vs → Puts (spell isChoice ++ ((49 + d) ∷ [])) old new r → Prints ns vs (Holds ns k) text old new r
+      pub term-choice : op ≡ oeOp → d < length vs → Puts (variable (49 + d)) old new r → Prints ns vs (Holds ns k) text old new r
       term-choice g h p =
           let v = ready-left w q (omega arith) .0 in
           record {
@@ -141,6 +141,6 @@ no-term ns k (ao a) h x = omega (arith, holds-op ns k (ao a) x)
 no-term ns k (two o a b) h x = omega (arith, holds-op ns k (two o a b) x, two-range o .high)
 
 -- The parts of `(X-{v})`, one after the other.
-pub others-text : (c : ℕ) (w : Bytes) → (((ascii "(" ++ w) ++ ascii "-{v") ++ (c ∷ [])) ++ ascii "})" ≡ aoText (some c) w
+pub others-text : (c : ℕ) (w : Bytes) → (ascii "(" ++ w) ++ without c ≡ aoText (some c) w
 unfolding aoText spell spellMiddle
-others-text c w = simp append-assoc
+others-text c w = append-assoc (ascii "(") w (without c)

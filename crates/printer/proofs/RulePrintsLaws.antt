@@ -14,7 +14,7 @@ use Rattle.syntax.specs.Rule.{digits, testText, clauseText, ruleText}
 use Rattle.syntax.specs.code.Printing.{quantifiersAfter}
 use Rattle.syntax.specs.code.Arena.{Holds, HoldsTest, HoldsClause, HoldsRule}
 use Rattle.syntax.specs.code.Nodes.{memberOp, firstEmpty, firstNumbered, firstCounted, whenOp, alsoOp, opAt, leftAt, rightAt}
-use Rattle.printer.specs.code.Signs.{signOf, cmpSignOf}
+use Rattle.printer.specs.code.Signs.{signOf, bound}
 use Rattle.printer.specs.code.Printed.{Prints, Printable, quantifier, quantifiersFrom, Any}
 use Rattle.printer.proofs.PrintedLaws.{puts-as, puts-then, room-then, room-none, puts-empty}
 use Rattle.printer.proofs.PrintsLaws.{prints-as}
@@ -38,11 +38,11 @@ module _ {ns vs : List ℕ} {k : ℕ} (w : Printable ns k vs) {op : ℕ} (e : op
           → Prints ns vs (HoldsTest ns k) testText old new r
       prints-compared h g p = prints-as (λ σ t y x. test-compared ns k σ t (omega arith) (omega arith) x) (rw e at (rw q at (rw u at p)))
 
-      pub prints-number : firstNumbered ≤ op → op < firstCounted → Prints ns vs (Holds ns l) (λ σ a. (counted σ a ++ cmpSignOf ((op - firstNumbered) % 6)) ++ digits (m % 100)) old new r
+      pub prints-number : firstNumbered ≤ op → op < firstCounted → Prints ns vs (Holds ns l) (λ σ a. (counted σ a ++ signOf op) ++ digits (m % 100)) old new r
           → Prints ns vs (HoldsTest ns k) testText old new r
       prints-number h g p = prints-as (λ σ t y x. test-number ns k σ t (omega arith) (omega arith) x) (rw e at (rw q at (rw u at p)))
 
-      pub prints-count : firstCounted ≤ op → op < whenOp → Prints ns vs (Both (Holds ns l) (Holds ns m)) (λ σ p. (counted σ (p .0) ++ cmpSignOf ((op - firstNumbered) % 6)) ++ counted σ (p .1)) old new r
+      pub prints-count : firstCounted ≤ op → op < whenOp → Prints ns vs (Both (Holds ns l) (Holds ns m)) (λ σ p. (counted σ (p .0) ++ signOf op) ++ counted σ (p .1)) old new r
           → Prints ns vs (HoldsTest ns k) testText old new r
       prints-count h g p = prints-as (λ σ t y x. test-count ns k σ t (omega arith) (omega arith) x) (rw e at (rw q at (rw u at p)))
 
@@ -75,7 +75,7 @@ ready-choice {ns} {vs} {k} {d} w h =
 
 -- One quantifier, from its parts.
 pub prints-quantifier : {ns : List ℕ} (vs : List ℕ) {d : ℕ} {old new : Bytes} {r : ℕ} → d < length vs
-    → Prints ns (take d vs) (Holds ns (getD vs d 0)) (λ σ x. (((ascii "[v" ++ ((49 + d) ∷ [])) ++ ascii "@") ++ text σ x) ++ ascii "]") old new r
+    → Prints ns (take d vs) (Holds ns (getD vs d 0)) (λ σ x. (bound (49 + d) ++ text σ x) ++ ascii "]") old new r
     → Prints ns (take d vs) (Holds ns (getD vs d 0)) quantifier old new r
 unfolding quantifier
 prints-quantifier {ns} vs {d} h p =

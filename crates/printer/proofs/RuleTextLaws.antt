@@ -2,7 +2,7 @@
 -- Assumes nothing.
 use mathlib.Core.Path.{_≡_, refl, ap, _∙_}
 use mathlib.Core.List.{List, [], _∷_, _++_, append-assoc}
-use Prim.Native.Nat.{ℕ, suc, zero, _+_, _-_, _%_, _≤_, _<_}
+use Prim.Native.Nat.{ℕ, suc, zero, _+_, _%_, _≤_, _<_}
 use native.Mathlib.Omega.{arith}
 use lib.ListN.{length, getD, take, drop}
 use Rattle.syntax.specs.Bytes.{Bytes, ascii}
@@ -13,7 +13,7 @@ use Rattle.syntax.specs.code.Printing.{quantifiersAfter}
 use Rattle.syntax.specs.code.Arena.{alikeOp, emptyOp, cmpNumber, Numbered, Holds, HoldsTest, HoldsClause}
 use Rattle.syntax.specs.code.Arena.{HoldsRule, HoldsAll}
 use Rattle.syntax.specs.code.Nodes.{memberOp, firstAlike, firstEmpty, firstNumbered, firstCounted, whenOp, alsoOp, opAt, leftAt, rightAt, opRoom}
-use Rattle.printer.specs.code.Signs.{signs, signOf, cmpSigns, cmpSignOf}
+use Rattle.printer.specs.code.Signs.{signs, signOf, cmpSigns}
 use Rattle.printer.specs.code.Printed.{quantifier, quantifiersFrom}
 use Rattle.syntax.proofs.ArenaLaws.{Parts, parts, one-parts, both-parts}
 use Rattle.printer.proofs.TextLaws.{Shown, AtBoth}
@@ -65,14 +65,14 @@ test-range ns k (empty g a) x = let e = test-op ns k (empty g a) x in let r = em
 test-range ns k (sized c a (number m)) x = let e = test-op ns k (sized c a (number m)) x in let r = cmp-small c in (omega arith, omega arith)
 test-range ns k (sized c a (count b)) x = let e = test-op ns k (sized c a (count b)) x in let r = cmp-small c in (omega arith, omega arith)
 
-cmp-sign : (c : Cmp) → cmpSignOf (cmpNumber c) ≡ spellCmp c
-unfolding cmpSigns cmpNumber
-cmp-sign lt = refl
-cmp-sign le = refl
-cmp-sign gt = refl
-cmp-sign ge = refl
-cmp-sign eq = refl
-cmp-sign ne = refl
+cmp-sign : (c : Cmp) → (signOf (firstNumbered + cmpNumber c) ≡ spellCmp c) × (signOf (firstCounted + cmpNumber c) ≡ spellCmp c)
+unfolding signs cmpSigns cmpNumber
+cmp-sign lt = (refl, refl)
+cmp-sign le = (refl, refl)
+cmp-sign gt = (refl, refl)
+cmp-sign ge = (refl, refl)
+cmp-sign eq = (refl, refl)
+cmp-sign ne = (refl, refl)
 
 alike-sign : (g : Sign) → signOf (alikeOp g) ≡ spellBetween (isSign g)
 unfolding signs alikeOp
@@ -132,20 +132,19 @@ module _ (ns : List ℕ) (k : ℕ) (σ : Choices) where
   test-empty (sized c a (count b)) h l x = absurd (omega (arith, test-op ns k (sized c a (count b)) x))
 
   pub test-number : (p : Test) → firstNumbered ≤ o → o < firstCounted → HoldsTest ns k p
-      → Shown (Holds ns i) (λ (a : Term). (counted a ++ cmpSignOf ((o - firstNumbered) % 6)) ++ digits (j % 100)) (testText σ p)
+      → Shown (Holds ns i) (λ (a : Term). (counted a ++ signOf o) ++ digits (j % 100)) (testText σ p)
   unfolding testText countText testOp HoldsTest
   test-number (member a b) h l x = absurd (omega (arith, test-op ns k (member a b) x))
   test-number (alike g a b) h l x = absurd (omega (arith, test-op ns k (alike g a b) x, alike-range g .1))
   test-number (empty g a) h l x = absurd (omega (arith, test-op ns k (empty g a) x, empty-range g .1))
   test-number (sized c a (number m)) h l x =
       let y = numbered-parts (x .1) (omega (arith, cmp-small c)) in
-      let q : (o - firstNumbered) % 6 ≡ cmpNumber c = rw (y .op) (omega (arith, cmp-small c)) in
       let u : j % 100 ≡ m = rw (y .right) (omega (arith, x .1 .few)) in
-      record { thing = a; held = left-at y a (x .2); written = rw (q, u, cmp-sign c) (sized-text a (spellCmp c) (digits m)) }
+      record { thing = a; held = left-at y a (x .2); written = rw (y .op, u, cmp-sign c .0) (sized-text a (spellCmp c) (digits m)) }
   test-number (sized c a (count b)) h l x = absurd (omega (arith, test-op ns k (sized c a (count b)) x))
 
   pub test-count : (p : Test) → firstCounted ≤ o → o < whenOp → HoldsTest ns k p
-      → Shown (AtBoth ns k σ (Holds ns) (Holds ns)) (λ (t : Term × Term). (counted (t .0) ++ cmpSignOf ((o - firstNumbered) % 6)) ++ counted (t .1)) (testText σ p)
+      → Shown (AtBoth ns k σ (Holds ns) (Holds ns)) (λ (t : Term × Term). (counted (t .0) ++ signOf o) ++ counted (t .1)) (testText σ p)
   unfolding testText countText testOp HoldsTest
   test-count (member a b) h l x = absurd (omega (arith, test-op ns k (member a b) x))
   test-count (alike g a b) h l x = absurd (omega (arith, test-op ns k (alike g a b) x, alike-range g .1))
@@ -153,8 +152,7 @@ module _ (ns : List ℕ) (k : ℕ) (σ : Choices) where
   test-count (sized c a (number m)) h l x = absurd (omega (arith, test-op ns k (sized c a (number m)) x, cmp-small c))
   test-count (sized c a (count b)) h l x =
       let y = both-parts (x .2) (omega (arith, cmp-small c)) in
-      let q : (o - firstNumbered) % 6 ≡ cmpNumber c = rw (y .op) (omega (arith, cmp-small c)) in
-      record { thing = (a, b); held = both-at y a b (x .3) (x .4); written = rw (q, cmp-sign c) (sized-text a (spellCmp c) (counted b)) }
+      record { thing = (a, b); held = both-at y a b (x .3) (x .4); written = rw (y .op, cmp-sign c .1) (sized-text a (spellCmp c) (counted b)) }
 
   -- Clauses and rules.
 

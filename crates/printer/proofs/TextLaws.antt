@@ -9,11 +9,11 @@ use lib.ListN.{length, getD}
 use Rattle.syntax.specs.Bytes.{Bytes, ascii}
 use Rattle.syntax.specs.Term.{Base, bU, bR, bOP, bOBJ, bP, bS, bCR, bCP, bCU, Fn, user, roles, roles*, sessions, permissions}
 use Rattle.syntax.specs.Term.{permissions*, object, operations, meet, join, Term, base, call, oe, ao, two, Term≟, Choices, digitFrom, digit}
-use Rattle.syntax.specs.Term.{isBase, isCall, isChoice, spell, oeText, aoText, text, calls, joins, opening, parting}
+use Rattle.syntax.specs.Term.{isBase, isCall, spell, oeText, aoText, text, calls, joins, opening, parting}
 use Rattle.syntax.specs.code.Arena.{baseOp, fnOp, twoOp, One, Holds, HoldsAll, Apart}
 use Rattle.syntax.specs.code.Reading.{Sought}
 use Rattle.syntax.specs.code.Nodes.{firstCall, oeOp, aoOp, firstPair, memberOp, opAt, leftAt, rightAt, opRoom}
-use Rattle.printer.specs.code.Signs.{signs, signOf, openOf}
+use Rattle.printer.specs.code.Signs.{signs, signOf, openOf, variable}
 use Rattle.printer.specs.code.Printed.{Printable}
 use Rattle.syntax.proofs.ArenaLaws.{base-small, fn-range, two-range, one-parts, both-parts, opOf, holds-op, holds-once, holds-one}
 
@@ -94,8 +94,8 @@ module _ (ns : List ℕ) (k : ℕ) (σ : Choices) where
   text-new (two p a b) h l d x = absurd (omega (arith, holds-op ns k (two p a b) x, two-range p .low))
 
   module _ (c : ℕ) (d : (a : Term) → Holds ns i a → digit σ a ≡ some c) where
-    pub text-choice : (t : Term) → o ≡ oeOp → Holds ns k t → spell isChoice ++ (c ∷ []) ≡ text σ t
-    unfolding text opOf Holds oeText
+    pub text-choice : (t : Term) → o ≡ oeOp → Holds ns k t → variable c ≡ text σ t
+    unfolding text opOf Holds oeText spell
     text-choice (base b) h x = absurd (omega (arith, holds-op ns k (base b) x, base-small b))
     text-choice (call f a) h x = absurd (omega (arith, holds-op ns k (call f a) x, fn-range f .high))
     text-choice (oe a) h x = rw (d a (one-holds a (x .1) (omega arith) (x .2)))

@@ -11,7 +11,6 @@ ghost use Rattle.syntax.specs.code.Arena.{Holds, HoldsTest, HoldsClause, HoldsR
 ghost use Rattle.printer.specs.code.Printed.{Prints, Printable, quantifier, quantifiersFrom, formulaIn, Any};
 ghost use Rattle.syntax.specs.code.Nodes.{memberOp, firstEmpty, firstNumbered, whenOp, opAt};
 use crate::names::put_bound;
-use crate::names::put_cmp;
 use crate::names::put_number;
 use crate::names::put_sign;
 use crate::nodes::left_at;
@@ -68,7 +67,7 @@ fn write_sized(nodes: &[u32], k: usize, vars: &[u32], out: &mut [u8]) -> usize
 {
     let op = op_at(nodes, k);
     let mut at = write_count(nodes, left_at(nodes, k), vars, out);
-    at += put_cmp(&mut out[at..], (op - FIRST_NUMBERED) % 6);
+    at += put_sign(&mut out[at..], op);
     let m = right_at(nodes, k);
     if op < FIRST_COUNTED {
         return at + put_number(&mut out[at..], m);

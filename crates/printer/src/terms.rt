@@ -12,9 +12,9 @@ ghost use Rattle.printer.specs.code.Printed.{Prints, Printable};
 ghost use Rattle.printer.specs.code.Signs.{signOf};
 ghost use Rattle.syntax.specs.code.Nodes.{firstCall, firstPair, memberOp, opAt};
 use crate::names::put_choice;
-use crate::names::put_digit;
 use crate::names::put_open;
 use crate::names::put_sign;
+use crate::names::put_without;
 use crate::nodes::left_at;
 use crate::nodes::op_at;
 use crate::nodes::right_at;
@@ -55,11 +55,11 @@ fn write_one(nodes: &[u32], k: usize, vars: &[u32], out: &mut [u8]) -> usize
     let op = op_at(nodes, k);
     let i = left_at(nodes, k);
     if op < OE {
-        return write_call(nodes, op, i, vars, out);
+        return write_closed(nodes, op, i, vars, out);
     }
     let d = seek(vars, vars.len(), i as u32);
     if d == vars.len() {
-        return write_call(nodes, op, i, vars, out);
+        return write_closed(nodes, op, i, vars, out);
     }
     if op == OE {
         return put_choice(out, d);
@@ -67,10 +67,10 @@ fn write_one(nodes: &[u32], k: usize, vars: &[u32], out: &mut [u8]) -> usize
     write_others(nodes, i, vars, d, out)
 }
 
-// A name, the term at node `i` and the closing bracket.
-fn write_call(nodes: &[u32], op: u32, i: usize, vars: &[u32], out: &mut [u8]) -> usize
+// A name or sign, the term at node `i` and the closing bracket.
+fn write_closed(nodes: &[u32], op: u32, i: usize, vars: &[u32], out: &mut [u8]) -> usize
     requires { ⌜ Printable (now nodes) i (now vars) ⌝ }
-    requires { ⌜ (firstCall ≤ op) × (op < firstPair) ⌝ }
+    requires { ⌜ op < memberOp ⌝ }
     ensures { λ r. ⌜ Prints (now (nodes .entry)) (now (vars .entry)) (Holds (now (nodes .entry)) i) (λ σ a. signOf op ++ (text σ a ++ ascii ")")) (now (out .entry)) (now (out .exit)) r ⌝ }
 {
     let mut at = put_sign(out, op);
@@ -86,9 +86,7 @@ fn write_others(nodes: &[u32], i: usize, vars: &[u32], d: usize, out: &mut [u8])
 {
     let mut at = put(out, b"(");
     at += write_term(nodes, i, vars, &mut out[at..]);
-    at += put(&mut out[at..], b"-{v");
-    at += put_digit(&mut out[at..], d);
-    at + put(&mut out[at..], b"})")
+    at + put_without(&mut out[at..], d)
 }
 
 // Two terms in brackets.
@@ -100,7 +98,5 @@ fn write_two(nodes: &[u32], k: usize, vars: &[u32], out: &mut [u8]) -> usize
     let op = op_at(nodes, k);
     let mut at = put_open(out, op);
     at += write_term(nodes, left_at(nodes, k), vars, &mut out[at..]);
-    at += put_sign(&mut out[at..], op);
-    at += write_term(nodes, right_at(nodes, k), vars, &mut out[at..]);
-    at + put(&mut out[at..], b")")
+    at + write_closed(nodes, op, right_at(nodes, k), vars, &mut out[at..])
 }

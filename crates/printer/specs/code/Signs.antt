@@ -1,7 +1,7 @@
 -- What is written for an operation: a name with its bracket, or the sign that stands between two things.
 -- Internal: contracts of entry points do not speak of it. Assumes nothing.
 use mathlib.Core.Bool.{cond}
-use mathlib.Core.List.{List, [], _∷_}
+use mathlib.Core.List.{List, [], _∷_, _++_}
 use Prim.Native.Nat.{ℕ}
 use lib.Dec.{eqb}
 use lib.ListN.{getD}
@@ -11,7 +11,11 @@ use Rattle.syntax.specs.Term.{isBase, isCall, isOE, isAO, calls, joins, operati
 use Rattle.syntax.specs.Rule.{is, isnt, isIn, isSign, spellBetween, lt, le, gt, ge, eq, ne, spellCmp}
 use Rattle.syntax.specs.code.Nodes.{firstPair}
 
--- By the operation's number; of those that make one term of two what parts the two.
+-- The comparisons of counts.
+unfoldable pub cmpSigns : List Bytes
+cmpSigns = spellCmp lt ∷ spellCmp le ∷ spellCmp gt ∷ spellCmp ge ∷ spellCmp eq ∷ spellCmp ne ∷ []
+
+-- By the operation's number; of those that make one term of two what parts the two. A count is compared with a number, and with a count.
 unfoldable pub signs : List Bytes
 signs =
     spell (isBase bU) ∷ spell (isBase bR) ∷ spell (isBase bOP) ∷ spell (isBase bOBJ) ∷ spell (isBase bP) ∷ spell (isBase bS)
@@ -19,17 +23,23 @@ signs =
     ∷ spell (isCall user) ∷ spell (isCall roles) ∷ spell (isCall roles*) ∷ spell (isCall sessions) ∷ spell (isCall permissions)
     ∷ spell (isCall permissions*) ∷ spell (isCall object) ∷ spell isOE ∷ spell isAO
     ∷ parting (calls operations) ∷ parting (joins meet) ∷ parting (joins join)
-    ∷ spellBetween isIn ∷ spellBetween (isSign is) ∷ spellBetween (isSign isnt) ∷ spellBetween (isSign is) ∷ spellBetween (isSign isnt) ∷ []
+    ∷ spellBetween isIn ∷ spellBetween (isSign is) ∷ spellBetween (isSign isnt) ∷ spellBetween (isSign is) ∷ spellBetween (isSign isnt)
+    ∷ (cmpSigns ++ cmpSigns)
 
 abbrev pub signOf : ℕ → Bytes
 signOf op = getD signs op []
 
-unfoldable pub cmpSigns : List Bytes
-cmpSigns = spellCmp lt ∷ spellCmp le ∷ spellCmp gt ∷ spellCmp ge ∷ spellCmp eq ∷ spellCmp ne ∷ []
-
-abbrev pub cmpSignOf : ℕ → Bytes
-cmpSignOf c = getD cmpSigns c []
-
 -- What stands before the first of two terms.
 abbrev pub openOf : ℕ → Bytes
 openOf op = cond (eqb op firstPair) (spell (opening (calls operations))) (spell (opening (joins meet)))
+
+-- What names a choice, by its digit: its variable, the beginning of its quantifier, and the end of a term without it.
+
+abbrev pub variable : ℕ → Bytes
+variable c = ascii "v" ++ (c ∷ [])
+
+abbrev pub bound : ℕ → Bytes
+bound c = ascii "[v" ++ (c ∷ ascii "@")
+
+abbrev pub without : ℕ → Bytes
+without c = ascii "-{v" ++ (c ∷ ascii "})")

@@ -16,20 +16,17 @@ left-at-requires c κs = search needs
 write-count-requires : tie.Need-write-count-requires
 write-count-requires c κs = ready-left (c .before .before .before .before .before .before .pre .0) (c .before .left-at .ensures) (omega (arith, c .before .before .before .before .before .before .pre)) .0
 
-sub-put-cmp : tie.Need-sub-put-cmp
-sub-put-cmp c = search needs
+sub-put-sign : tie.Need-sub-put-sign
+sub-put-sign c = search needs
 
-part-put-cmp-start : tie.Need-part-put-cmp-start
-part-put-cmp-start c = search needs
+part-put-sign-start : tie.Need-part-put-sign-start
+part-put-sign-start c = search needs
 
-part-put-cmp-end : tie.Need-part-put-cmp-end
-part-put-cmp-end c = search needs
+part-put-sign-end : tie.Need-part-put-sign-end
+part-put-sign-end c = search needs
 
-sub-put-cmp-2 : tie.Need-sub-put-cmp-2
-sub-put-cmp-2 c = search needs
-
-put-cmp-requires : tie.Need-put-cmp-requires
-put-cmp-requires c κs = search needs
+put-sign-requires : tie.Need-put-sign-requires
+put-sign-requires c κs = search needs
 
 add-at : tie.Need-add-at
 add-at c = search needs
@@ -58,7 +55,7 @@ same-length c = search needs
 returns : tie.Need-returns
 returns c =
     prints-number (c .before .before .before .before .before .before .before .before .before .before .before .before .before .before .before .before .before .before .before .pre .0) (c .before .before .before .before .before .before .before .before .before .before .before .before .before .before .before .op-at .ensures) (c .before .before .before .before .before .before .before .before .before .before .before .before .before .before .left-at .ensures) (c .before .before .before .before .before .right-at .ensures) (omega (arith, c .before .before .before .before .before .before .before .before .before .before .before .before .before .before .before .op-at .ensures, c .before .before .before .before .before .before .before .before .before .before .before .before .before .before .before .before .before .before .before .pre)) (c .before .before .before .before .if1 .taken)
-    (prints-put (prints-put (c .before .before .before .before .before .before .before .before .before .before .before .before .write-count .ensures) (c .before .before .before .before .before .before .before .before .put-cmp .ensures)) (c .before .before .put-number .ensures))
+    (prints-put (prints-put (c .before .before .before .before .before .before .before .before .before .before .before .before .write-count .ensures) (c .before .before .before .before .before .before .before .before .put-sign .ensures)) (c .before .before .put-number .ensures))
 
 sub-write-count : tie.Need-sub-write-count
 sub-write-count c = search needs
@@ -81,7 +78,7 @@ same-length-2 c = search needs
 returns-2 : tie.Need-returns-2
 returns-2 c =
     prints-count (c .before .before .before .before .before .before .before .before .before .before .before .before .before .before .before .before .before .before .before .pre .0) (c .before .before .before .before .before .before .before .before .before .before .before .before .before .before .before .op-at .ensures) (c .before .before .before .before .before .before .before .before .before .before .before .before .before .before .left-at .ensures) (c .before .before .before .before .before .right-at .ensures) (c .before .before .before .before .if1 .left) (omega (arith, c .before .before .before .before .before .before .before .before .before .before .before .before .before .before .before .op-at .ensures, c .before .before .before .before .before .before .before .before .before .before .before .before .before .before .before .before .before .before .before .pre))
-    (prints-then (prints-put (c .before .before .before .before .before .before .before .before .before .before .before .before .write-count .ensures) (c .before .before .before .before .before .before .before .before .put-cmp .ensures)) (c .before .before .write-count2 .ensures))
+    (prints-then (prints-put (c .before .before .before .before .before .before .before .before .before .before .before .before .write-count .ensures) (c .before .before .before .before .before .before .before .before .put-sign .ensures)) (c .before .before .write-count2 .ensures))
 
 pub write-sized-spec : {M : Type 1} → statement M
 write-sized-spec =
@@ -90,11 +87,10 @@ write-sized-spec =
     op-at-requires
     left-at-requires
     write-count-requires
-    sub-put-cmp
-    part-put-cmp-start
-    part-put-cmp-end
-    sub-put-cmp-2
-    put-cmp-requires
+    sub-put-sign
+    part-put-sign-start
+    part-put-sign-end
+    put-sign-requires
     add-at
     right-at-requires
     sub-put-number
