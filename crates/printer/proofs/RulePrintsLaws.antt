@@ -15,10 +15,10 @@ use Rattle.syntax.specs.code.Printing.{quantifiersAfter}
 use Rattle.syntax.specs.code.Arena.{Holds, HoldsTest, HoldsClause, HoldsRule}
 use Rattle.syntax.specs.code.Nodes.{memberOp, firstEmpty, firstNumbered, firstCounted, whenOp, alsoOp, opAt, leftAt, rightAt}
 use Rattle.printer.specs.code.Signs.{signOf, bound}
-use Rattle.printer.specs.code.Printed.{Prints, Printable, quantifier, quantifiersFrom, Any}
-use Rattle.printer.proofs.PrintedLaws.{puts-as, puts-then, room-then, room-none, puts-empty}
+use Rattle.printer.specs.code.Printed.{Puts, Prints, Printable, leftText, rightText, quantifier, quantifiersFrom, Any}
+use Rattle.printer.proofs.PrintedLaws.{puts-as, puts-then, puts-room, room-then, room-none, puts-empty}
 use Rattle.printer.proofs.PrintsLaws.{prints-as}
-use Rattle.printer.proofs.RuleTextLaws.{test-compared, test-empty, test-number, test-count, clause-plain, clause-when, rule-last}
+use Rattle.printer.proofs.RuleTextLaws.{test-text, left-term, left-count, right-term, right-empty, right-number, right-count, clause-plain, clause-when, rule-last}
 use Rattle.printer.proofs.RuleTextLaws.{rule-also, all-length, split, quantifiers-more}
 
 -- Of both terms.
@@ -30,29 +30,42 @@ counted σ a = ascii "|" ++ (text σ a ++ ascii "|")
 
 module _ {ns vs : List ℕ} {k : ℕ} (w : Printable ns k vs) {op : ℕ} (e : op ≡ opAt ns k) {old new : Bytes} {r : ℕ} where
   module _ {l : ℕ} (q : l ≡ leftAt ns k) where
-    pub prints-empty : firstEmpty ≤ op → op < firstNumbered → Prints ns vs (Holds ns l) (λ σ a. (text σ a ++ signOf op) ++ ascii "{}") old new r → Prints ns vs (HoldsTest ns k) testText old new r
-    prints-empty h g p = prints-as (λ σ t y x. test-empty ns k σ t (omega arith) (omega arith) x) (rw e at (rw q at p))
+    pub prints-left : op < firstNumbered → Prints ns vs (Holds ns l) text old new r → Prints ns vs (HoldsTest ns k) leftText old new r
+    prints-left h p = prints-as (λ σ t y x. left-term ns k σ t (omega arith) x) (rw q at p)
 
-    module _ {m : ℕ} (u : m ≡ rightAt ns k) where
-      pub prints-compared : memberOp ≤ op → op < firstEmpty → Prints ns vs (Both (Holds ns l) (Holds ns m)) (λ σ p. (text σ (p .0) ++ signOf op) ++ text σ (p .1)) old new r
-          → Prints ns vs (HoldsTest ns k) testText old new r
-      prints-compared h g p = prints-as (λ σ t y x. test-compared ns k σ t (omega arith) (omega arith) x) (rw e at (rw q at (rw u at p)))
+    pub prints-left-count : firstNumbered ≤ op → Prints ns vs (Holds ns l) counted old new r → Prints ns vs (HoldsTest ns k) leftText old new r
+    prints-left-count h p = prints-as (λ σ t y x. left-count ns k σ t (omega arith) x) (rw q at p)
 
-      pub prints-number : firstNumbered ≤ op → op < firstCounted → Prints ns vs (Holds ns l) (λ σ a. (counted σ a ++ signOf op) ++ digits (m % 100)) old new r
-          → Prints ns vs (HoldsTest ns k) testText old new r
-      prints-number h g p = prints-as (λ σ t y x. test-number ns k σ t (omega arith) (omega arith) x) (rw e at (rw q at (rw u at p)))
+  module _ {m : ℕ} (u : m ≡ rightAt ns k) where
+    pub prints-right : op < firstEmpty → Prints ns vs (Holds ns m) text old new r → Prints ns vs (HoldsTest ns k) rightText old new r
+    prints-right h p = prints-as (λ σ t y x. right-term ns k σ t (omega arith) x) (rw u at p)
 
-      pub prints-count : firstCounted ≤ op → op < whenOp → Prints ns vs (Both (Holds ns l) (Holds ns m)) (λ σ p. (counted σ (p .0) ++ signOf op) ++ counted σ (p .1)) old new r
-          → Prints ns vs (HoldsTest ns k) testText old new r
-      prints-count h g p = prints-as (λ σ t y x. test-count ns k σ t (omega arith) (omega arith) x) (rw e at (rw q at (rw u at p)))
+    pub prints-right-count : firstCounted ≤ op → Prints ns vs (Holds ns m) counted old new r → Prints ns vs (HoldsTest ns k) rightText old new r
+    prints-right-count h p = prints-as (λ σ t y x. right-count ns k σ t (omega arith) x) (rw u at p)
 
-      pub prints-when : op ≡ whenOp → Prints ns vs (Both (HoldsTest ns l) (HoldsTest ns m)) (λ σ p. (testText σ (p .0) ++ ascii "=>") ++ testText σ (p .1)) old new r
-          → Prints ns vs (HoldsClause ns k) clauseText old new r
-      prints-when h p = prints-as (λ σ t y x. clause-when ns k σ t (sym e ∙ h) x) (rw q at (rw u at p))
+    pub prints-right-number : firstNumbered ≤ op → op < firstCounted → Puts (digits (m % 100)) old new r → Prints ns vs (HoldsTest ns k) rightText old new r
+    prints-right-number h g p =
+        record {
+          room = puts-room p;
+          shows = λ σ t y x. puts-as (ap (λ (i : ℕ). digits (i % 100)) u ∙ right-number ns k σ t (omega arith) (omega arith) x) p;
+        }
 
-      pub prints-also : op ≡ alsoOp → Prints ns vs (Both (HoldsClause ns l) (HoldsRule ns m)) (λ σ p. (clauseText σ (p .0) ++ ascii "^") ++ ruleText σ (p .1)) old new r
-          → Prints ns vs (HoldsRule ns k) ruleText old new r
-      prints-also h p = prints-as (λ σ t y x. rule-also ns k σ t (sym e ∙ h) x) (rw q at (rw u at p))
+  pub prints-right-empty : firstEmpty ≤ op → op < firstNumbered → Puts (ascii "{}") old new r → Prints ns vs (HoldsTest ns k) rightText old new r
+  prints-right-empty h g p = record { room = puts-room p; shows = λ σ t y x. puts-as (right-empty ns k σ t (omega arith) (omega arith) x) p }
+
+  -- A test from its left, its sign and its right.
+  pub prints-test : Prints ns vs (Both (HoldsTest ns k) (HoldsTest ns k)) (λ σ p. (leftText σ (p .0) ++ signOf op) ++ rightText σ (p .1)) old new r
+      → Prints ns vs (HoldsTest ns k) testText old new r
+  prints-test p = prints-as (λ σ t y x. record { thing = (t, t); held = (x, x); written = test-text ns k σ t x }) (rw e at p)
+
+  module _ {l m : ℕ} (q : l ≡ leftAt ns k) (u : m ≡ rightAt ns k) where
+    pub prints-when : op ≡ whenOp → Prints ns vs (Both (HoldsTest ns l) (HoldsTest ns m)) (λ σ p. (testText σ (p .0) ++ ascii "=>") ++ testText σ (p .1)) old new r
+        → Prints ns vs (HoldsClause ns k) clauseText old new r
+    prints-when h p = prints-as (λ σ t y x. clause-when ns k σ t (sym e ∙ h) x) (rw q at (rw u at p))
+
+    pub prints-also : op ≡ alsoOp → Prints ns vs (Both (HoldsClause ns l) (HoldsRule ns m)) (λ σ p. (clauseText σ (p .0) ++ ascii "^") ++ ruleText σ (p .1)) old new r
+        → Prints ns vs (HoldsRule ns k) ruleText old new r
+    prints-also h p = prints-as (λ σ t y x. rule-also ns k σ t (sym e ∙ h) x) (rw q at (rw u at p))
 
   pub prints-plain : (op ≡ whenOp → ⊥) → Prints ns vs (HoldsTest ns k) testText old new r → Prints ns vs (HoldsClause ns k) clauseText old new r
   prints-plain h p = prints-as (λ σ t y x. clause-plain ns k σ t (λ z. h (e ∙ z)) x) p

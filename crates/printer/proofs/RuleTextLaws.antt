@@ -14,7 +14,7 @@ use Rattle.syntax.specs.code.Arena.{alikeOp, emptyOp, cmpNumber, Numbered, Hold
 use Rattle.syntax.specs.code.Arena.{HoldsRule, HoldsAll}
 use Rattle.syntax.specs.code.Nodes.{memberOp, firstAlike, firstEmpty, firstNumbered, firstCounted, whenOp, alsoOp, opAt, leftAt, rightAt, opRoom}
 use Rattle.printer.specs.code.Signs.{signs, signOf, cmpSigns}
-use Rattle.printer.specs.code.Printed.{quantifier, quantifiersFrom}
+use Rattle.printer.specs.code.Printed.{leftText, rightText, quantifier, quantifiersFrom}
 use Rattle.syntax.proofs.ArenaLaws.{Parts, parts, one-parts, both-parts}
 use Rattle.printer.proofs.TextLaws.{Shown, AtBoth}
 
@@ -101,58 +101,63 @@ module _ (ns : List ℕ) (k : ℕ) (σ : Choices) where
   sized-text : (a : Term) (u v : Bytes) → (counted a ++ u) ++ v ≡ ascii "|" ++ (text σ a ++ (ascii "|" ++ (u ++ v)))
   sized-text a u v = append-assoc (counted a) u v ∙ ap (λ (l : Bytes). ascii "|" ++ l) (append-assoc (text σ a) (ascii "|") (u ++ v))
 
-  module _ {p : ℕ} {l m : ℕ} (x : Parts (getD ns k 0) p l m) where
-    left-at : (a : Term) → Holds ns l a → Holds ns i a
-    left-at a y = rw (x .left) y
+  pub test-text : (p : Test) → HoldsTest ns k p → (leftText σ p ++ signOf o) ++ rightText σ p ≡ testText σ p
+  unfolding testText leftText rightText countText testOp signs
+  test-text (member a b) x = rw (test-op ns k (member a b) x) (append-assoc (text σ a) _ _)
+  test-text (alike g a b) x = rw (test-op ns k (alike g a b) x, alike-sign g) (append-assoc (text σ a) _ _)
+  test-text (empty g a) x = rw (test-op ns k (empty g a) x, empty-sign g) (append-assoc (text σ a) _ _)
+  test-text (sized c a (number m)) x = rw (test-op ns k (sized c a (number m)) x, cmp-sign c .0) (sized-text a (spellCmp c) (digits m))
+  test-text (sized c a (count b)) x = rw (test-op ns k (sized c a (count b)) x, cmp-sign c .1) (sized-text a (spellCmp c) (counted b))
 
-    both-at : (a b : Term) → Holds ns l a → Holds ns m b → AtBoth ns k σ (Holds ns) (Holds ns) (a, b)
-    both-at a b y z = (rw (x .left) y, rw (x .right) z)
+  -- What the test has on either side, by the operation.
 
-  pub test-compared : (p : Test) → memberOp ≤ o → o < firstEmpty → HoldsTest ns k p
-      → Shown (AtBoth ns k σ (Holds ns) (Holds ns)) (λ (t : Term × Term). (text σ (t .0) ++ signOf o) ++ text σ (t .1)) (testText σ p)
-  unfolding testText testOp HoldsTest signs
-  test-compared (member a b) h l x =
-      let y = both-parts (x .2) (omega arith) in
-      record { thing = (a, b); held = both-at y a b (x .3) (x .4); written = rw (y .op) (append-assoc (text σ a) _ _) }
-  test-compared (alike g a b) h l x =
-      let y = both-parts (x .2) (omega (arith, alike-range g .1)) in
-      record { thing = (a, b); held = both-at y a b (x .3) (x .4); written = rw (y .op, alike-sign g) (append-assoc (text σ a) _ _) }
-  test-compared (empty g a) h l x = absurd (omega (arith, test-op ns k (empty g a) x, empty-range g .0))
-  test-compared (sized c a (number m)) h l x = absurd (omega (arith, test-op ns k (sized c a (number m)) x))
-  test-compared (sized c a (count b)) h l x = absurd (omega (arith, test-op ns k (sized c a (count b)) x))
+  pub left-term : (p : Test) → o < firstNumbered → HoldsTest ns k p → Shown (Holds ns i) (text σ) (leftText σ p)
+  unfolding leftText testOp HoldsTest
+  left-term (member a b) h x = record { thing = a; held = rw (both-parts (x .2) (omega arith) .left) (x .3); written = refl }
+  left-term (alike g a b) h x = record { thing = a; held = rw (both-parts (x .2) (omega (arith, alike-range g .1)) .left) (x .3); written = refl }
+  left-term (empty g a) h x = record { thing = a; held = rw (one-parts (x .1) (omega (arith, empty-range g .1)) .left) (x .2); written = refl }
+  left-term (sized c a (number m)) h x = absurd (omega (arith, test-op ns k (sized c a (number m)) x))
+  left-term (sized c a (count b)) h x = absurd (omega (arith, test-op ns k (sized c a (count b)) x))
 
-  pub test-empty : (p : Test) → firstEmpty ≤ o → o < firstNumbered → HoldsTest ns k p → Shown (Holds ns i) (λ (a : Term). (text σ a ++ signOf o) ++ ascii "{}") (testText σ p)
-  unfolding testText testOp HoldsTest
-  test-empty (member a b) h l x = absurd (omega (arith, test-op ns k (member a b) x))
-  test-empty (alike g a b) h l x = absurd (omega (arith, test-op ns k (alike g a b) x, alike-range g .1))
-  test-empty (empty g a) h l x =
-      let y = one-parts (x .1) (omega (arith, empty-range g .1)) in
-      record { thing = a; held = left-at y a (x .2); written = rw (y .op, empty-sign g) (append-assoc (text σ a) _ _) }
-  test-empty (sized c a (number m)) h l x = absurd (omega (arith, test-op ns k (sized c a (number m)) x))
-  test-empty (sized c a (count b)) h l x = absurd (omega (arith, test-op ns k (sized c a (count b)) x))
+  pub left-count : (p : Test) → firstNumbered ≤ o → HoldsTest ns k p → Shown (Holds ns i) counted (leftText σ p)
+  unfolding leftText countText testOp HoldsTest
+  left-count (member a b) h x = absurd (omega (arith, test-op ns k (member a b) x))
+  left-count (alike g a b) h x = absurd (omega (arith, test-op ns k (alike g a b) x, alike-range g .1))
+  left-count (empty g a) h x = absurd (omega (arith, test-op ns k (empty g a) x, empty-range g .1))
+  left-count (sized c a (number m)) h x = record { thing = a; held = rw (numbered-parts (x .1) (omega (arith, cmp-small c)) .left) (x .2); written = refl }
+  left-count (sized c a (count b)) h x = record { thing = a; held = rw (both-parts (x .2) (omega (arith, cmp-small c)) .left) (x .3); written = refl }
 
-  pub test-number : (p : Test) → firstNumbered ≤ o → o < firstCounted → HoldsTest ns k p
-      → Shown (Holds ns i) (λ (a : Term). (counted a ++ signOf o) ++ digits (j % 100)) (testText σ p)
-  unfolding testText countText testOp HoldsTest
-  test-number (member a b) h l x = absurd (omega (arith, test-op ns k (member a b) x))
-  test-number (alike g a b) h l x = absurd (omega (arith, test-op ns k (alike g a b) x, alike-range g .1))
-  test-number (empty g a) h l x = absurd (omega (arith, test-op ns k (empty g a) x, empty-range g .1))
-  test-number (sized c a (number m)) h l x =
-      let y = numbered-parts (x .1) (omega (arith, cmp-small c)) in
-      let u : j % 100 ≡ m = rw (y .right) (omega (arith, x .1 .few)) in
-      record { thing = a; held = left-at y a (x .2); written = rw (y .op, u, cmp-sign c .0) (sized-text a (spellCmp c) (digits m)) }
-  test-number (sized c a (count b)) h l x = absurd (omega (arith, test-op ns k (sized c a (count b)) x))
+  pub right-term : (p : Test) → o < firstEmpty → HoldsTest ns k p → Shown (Holds ns j) (text σ) (rightText σ p)
+  unfolding rightText testOp HoldsTest
+  right-term (member a b) h x = record { thing = b; held = rw (both-parts (x .2) (omega arith) .right) (x .4); written = refl }
+  right-term (alike g a b) h x = record { thing = b; held = rw (both-parts (x .2) (omega (arith, alike-range g .1)) .right) (x .4); written = refl }
+  right-term (empty g a) h x = absurd (omega (arith, test-op ns k (empty g a) x, empty-range g .0))
+  right-term (sized c a (number m)) h x = absurd (omega (arith, test-op ns k (sized c a (number m)) x))
+  right-term (sized c a (count b)) h x = absurd (omega (arith, test-op ns k (sized c a (count b)) x))
 
-  pub test-count : (p : Test) → firstCounted ≤ o → o < whenOp → HoldsTest ns k p
-      → Shown (AtBoth ns k σ (Holds ns) (Holds ns)) (λ (t : Term × Term). (counted (t .0) ++ signOf o) ++ counted (t .1)) (testText σ p)
-  unfolding testText countText testOp HoldsTest
-  test-count (member a b) h l x = absurd (omega (arith, test-op ns k (member a b) x))
-  test-count (alike g a b) h l x = absurd (omega (arith, test-op ns k (alike g a b) x, alike-range g .1))
-  test-count (empty g a) h l x = absurd (omega (arith, test-op ns k (empty g a) x, empty-range g .1))
-  test-count (sized c a (number m)) h l x = absurd (omega (arith, test-op ns k (sized c a (number m)) x, cmp-small c))
-  test-count (sized c a (count b)) h l x =
-      let y = both-parts (x .2) (omega (arith, cmp-small c)) in
-      record { thing = (a, b); held = both-at y a b (x .3) (x .4); written = rw (y .op, cmp-sign c .1) (sized-text a (spellCmp c) (counted b)) }
+  pub right-empty : (p : Test) → firstEmpty ≤ o → o < firstNumbered → HoldsTest ns k p → ascii "{}" ≡ rightText σ p
+  unfolding rightText testOp
+  right-empty (member a b) h l x = absurd (omega (arith, test-op ns k (member a b) x))
+  right-empty (alike g a b) h l x = absurd (omega (arith, test-op ns k (alike g a b) x, alike-range g .1))
+  right-empty (empty g a) h l x = refl
+  right-empty (sized c a (number m)) h l x = absurd (omega (arith, test-op ns k (sized c a (number m)) x))
+  right-empty (sized c a (count b)) h l x = absurd (omega (arith, test-op ns k (sized c a (count b)) x))
+
+  pub right-number : (p : Test) → firstNumbered ≤ o → o < firstCounted → HoldsTest ns k p → digits (j % 100) ≡ rightText σ p
+  unfolding rightText countText testOp HoldsTest
+  right-number (member a b) h l x = absurd (omega (arith, test-op ns k (member a b) x))
+  right-number (alike g a b) h l x = absurd (omega (arith, test-op ns k (alike g a b) x, alike-range g .1))
+  right-number (empty g a) h l x = absurd (omega (arith, test-op ns k (empty g a) x, empty-range g .1))
+  right-number (sized c a (number m)) h l x = ap digits (rw (numbered-parts (x .1) (omega (arith, cmp-small c)) .right) (omega (arith, x .1 .few)))
+  right-number (sized c a (count b)) h l x = absurd (omega (arith, test-op ns k (sized c a (count b)) x))
+
+  pub right-count : (p : Test) → firstCounted ≤ o → HoldsTest ns k p → Shown (Holds ns j) counted (rightText σ p)
+  unfolding rightText countText testOp HoldsTest
+  right-count (member a b) h x = absurd (omega (arith, test-op ns k (member a b) x))
+  right-count (alike g a b) h x = absurd (omega (arith, test-op ns k (alike g a b) x, alike-range g .1))
+  right-count (empty g a) h x = absurd (omega (arith, test-op ns k (empty g a) x, empty-range g .1))
+  right-count (sized c a (number m)) h x = absurd (omega (arith, test-op ns k (sized c a (number m)) x, cmp-small c))
+  right-count (sized c a (count b)) h x = record { thing = b; held = rw (both-parts (x .2) (omega (arith, cmp-small c)) .right) (x .4); written = refl }
 
   -- Clauses and rules.
 

@@ -8,8 +8,8 @@ ghost use Rattle.syntax.specs.Bytes.{ascii};
 ghost use Rattle.syntax.specs.Term.{text};
 ghost use Rattle.syntax.specs.Rule.{testText, clauseText, ruleText};
 ghost use Rattle.syntax.specs.code.Arena.{Holds, HoldsTest, HoldsClause, HoldsRule};
-ghost use Rattle.printer.specs.code.Printed.{Prints, Printable, quantifier, quantifiersFrom, formulaIn, Any};
-ghost use Rattle.syntax.specs.code.Nodes.{memberOp, firstEmpty, firstNumbered, whenOp, opAt};
+ghost use Rattle.printer.specs.code.Printed.{Prints, Printable, leftText, rightText, quantifier, quantifiersFrom, formulaIn, Any};
+ghost use Rattle.syntax.specs.code.Nodes.{memberOp, whenOp, opAt};
 use crate::names::put_bound;
 use crate::names::put_number;
 use crate::names::put_sign;
@@ -25,30 +25,6 @@ use syntax::nodes::IS_EMPTY;
 use syntax::nodes::MEMBER;
 use syntax::nodes::WHEN;
 
-// Two terms with a sign between them.
-fn write_compared(nodes: &[u32], k: usize, vars: &[u32], out: &mut [u8]) -> usize
-    requires { ⌜ Printable (now nodes) k (now vars) ⌝ }
-    requires { ⌜ (memberOp ≤ opAt (now nodes) k) × (opAt (now nodes) k < firstEmpty) ⌝ }
-    ensures { λ r. ⌜ Prints (now (nodes .entry)) (now (vars .entry)) (HoldsTest (now (nodes .entry)) k) testText (now (out .entry)) (now (out .exit)) r ⌝ }
-{
-    let op = op_at(nodes, k);
-    let mut at = write_term(nodes, left_at(nodes, k), vars, out);
-    at += put_sign(&mut out[at..], op);
-    at + write_term(nodes, right_at(nodes, k), vars, &mut out[at..])
-}
-
-// A term compared with the empty set.
-fn write_empty(nodes: &[u32], k: usize, vars: &[u32], out: &mut [u8]) -> usize
-    requires { ⌜ Printable (now nodes) k (now vars) ⌝ }
-    requires { ⌜ (firstEmpty ≤ opAt (now nodes) k) × (opAt (now nodes) k < firstNumbered) ⌝ }
-    ensures { λ r. ⌜ Prints (now (nodes .entry)) (now (vars .entry)) (HoldsTest (now (nodes .entry)) k) testText (now (out .entry)) (now (out .exit)) r ⌝ }
-{
-    let op = op_at(nodes, k);
-    let mut at = write_term(nodes, left_at(nodes, k), vars, out);
-    at += put_sign(&mut out[at..], op);
-    at + put(&mut out[at..], b"{}")
-}
-
 // The count of a term.
 fn write_count(nodes: &[u32], i: usize, vars: &[u32], out: &mut [u8]) -> usize
     requires { ⌜ Printable (now nodes) i (now vars) ⌝ }
@@ -59,20 +35,37 @@ fn write_count(nodes: &[u32], i: usize, vars: &[u32], out: &mut [u8]) -> usize
     at + put(&mut out[at..], b"|")
 }
 
-// A count compared with a number or a count.
-fn write_sized(nodes: &[u32], k: usize, vars: &[u32], out: &mut [u8]) -> usize
+// What a test has left of its sign: a term, or its count.
+fn write_left(nodes: &[u32], k: usize, vars: &[u32], out: &mut [u8]) -> usize
     requires { ⌜ Printable (now nodes) k (now vars) ⌝ }
-    requires { ⌜ (firstNumbered ≤ opAt (now nodes) k) × (opAt (now nodes) k < whenOp) ⌝ }
-    ensures { λ r. ⌜ Prints (now (nodes .entry)) (now (vars .entry)) (HoldsTest (now (nodes .entry)) k) testText (now (out .entry)) (now (out .exit)) r ⌝ }
+    requires { ⌜ (memberOp ≤ opAt (now nodes) k) × (opAt (now nodes) k < whenOp) ⌝ }
+    ensures { λ r. ⌜ Prints (now (nodes .entry)) (now (vars .entry)) (HoldsTest (now (nodes .entry)) k) leftText (now (out .entry)) (now (out .exit)) r ⌝ }
+{
+    let i = left_at(nodes, k);
+    if op_at(nodes, k) < FIRST_NUMBERED {
+        return write_term(nodes, i, vars, out);
+    }
+    write_count(nodes, i, vars, out)
+}
+
+// What it has right of it: a term, the empty set, a number or a count.
+fn write_right(nodes: &[u32], k: usize, vars: &[u32], out: &mut [u8]) -> usize
+    requires { ⌜ Printable (now nodes) k (now vars) ⌝ }
+    requires { ⌜ (memberOp ≤ opAt (now nodes) k) × (opAt (now nodes) k < whenOp) ⌝ }
+    ensures { λ r. ⌜ Prints (now (nodes .entry)) (now (vars .entry)) (HoldsTest (now (nodes .entry)) k) rightText (now (out .entry)) (now (out .exit)) r ⌝ }
 {
     let op = op_at(nodes, k);
-    let mut at = write_count(nodes, left_at(nodes, k), vars, out);
-    at += put_sign(&mut out[at..], op);
     let m = right_at(nodes, k);
-    if op < FIRST_COUNTED {
-        return at + put_number(&mut out[at..], m);
+    if op < IS_EMPTY {
+        return write_term(nodes, m, vars, out);
     }
-    at + write_count(nodes, m, vars, &mut out[at..])
+    if op < FIRST_NUMBERED {
+        return put(out, b"{}");
+    }
+    if op < FIRST_COUNTED {
+        return put_number(out, m);
+    }
+    write_count(nodes, m, vars, out)
 }
 
 // The test at node `k`.
@@ -84,16 +77,12 @@ fn write_test(nodes: &[u32], k: usize, vars: &[u32], out: &mut [u8]) -> usize
     if op < MEMBER {
         return 0;
     }
-    if op < IS_EMPTY {
-        return write_compared(nodes, k, vars, out);
+    if op >= WHEN {
+        return 0;
     }
-    if op < FIRST_NUMBERED {
-        return write_empty(nodes, k, vars, out);
-    }
-    if op < WHEN {
-        return write_sized(nodes, k, vars, out);
-    }
-    0
+    let mut at = write_left(nodes, k, vars, out);
+    at += put_sign(&mut out[at..], op);
+    at + write_right(nodes, k, vars, &mut out[at..])
 }
 
 // The clause at node `k`: a test, or two with `=>` between them.

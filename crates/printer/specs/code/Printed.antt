@@ -6,7 +6,7 @@ use Prim.Native.Nat.{ℕ, _+_, _≤_, _<_, min}
 use lib.ListN.{length, take, drop, getD}
 use Rattle.syntax.specs.Bytes.{Bytes, ascii}
 use Rattle.syntax.specs.Term.{Term, Choices, text}
-use Rattle.syntax.specs.Rule.{Rule, ruleText}
+use Rattle.syntax.specs.Rule.{Test, member, alike, empty, sized, count, countText, Rule, ruleText}
 use Rattle.syntax.specs.code.Printing.{quantifiersAfter}
 use Rattle.syntax.specs.code.Arena.{Tidy, HoldsAll}
 
@@ -38,6 +38,20 @@ pub record Printable (ns : List ℕ) (k : ℕ) (vs : List ℕ) : Type 0 where
   pub node : k < n
   pub below : (i : ℕ) → i < length vs → getD vs i 0 < n
   pub few : length vs ≤ 8
+
+-- What a test has left of its sign, and right of it.
+
+unfoldable pub leftText : Choices → Test → Bytes
+leftText σ (member a b) = text σ a
+leftText σ (alike g a b) = text σ a
+leftText σ (empty g a) = text σ a
+leftText σ (sized c a k) = countText σ (count a)
+
+unfoldable pub rightText : Choices → Test → Bytes
+rightText σ (member a b) = text σ b
+rightText σ (alike g a b) = text σ b
+rightText σ (empty g a) = ascii "{}"
+rightText σ (sized c a k) = countText σ k
 
 -- A choice with its argument x after the choices σ, `[v1@X1]`.
 unfoldable pub quantifier : Choices → Term → Bytes
