@@ -1,8 +1,9 @@
 -- `conformance::main` is safe and ends. The invariant: the window lies in the buffer; the measure is the turns that are left.
 -- Assumes nothing.
-use Prim.Native.Nat.{_≤_}
+use mathlib.Core.Path.{sym}
+use Prim.Native.Nat.{ℕ, _≤_}
 use borrow.Author.Needs.{needs}
-use lib.ListN.{length}
+use lib.ListN.{length, length-replicate}
 use Rattle.conformance.proofs.main.Statement.{statement}
 use Rattle.conformance.proofs.main.Tie as tie
 
@@ -13,7 +14,7 @@ abbrev μ-loop : tie.MeasureT-loop
 μ-loop buffer₀ w₀ turns₀ buffer w turns = turns
 
 slice-aggregate-buffer : tie.Need-slice-aggregate-buffer Inv-loop μ-loop
-slice-aggregate-buffer c = search needs
+slice-aggregate-buffer c = sym (length-replicate {A = ℕ} 80001 0)
 
 loop-holds : tie.Need-loop-holds Inv-loop μ-loop
 loop-holds c = search needs

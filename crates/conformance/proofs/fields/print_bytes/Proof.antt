@@ -1,18 +1,22 @@
 -- `conformance::fields::print_bytes` is safe: what was written is a part of the text's bytes.
 -- Assumes nothing.
-use Rattle.texts.proofs.OverwrittenLaws.{part-length}
+use mathlib.Core.Path.{sym}
+use Prim.Native.Nat.{ℕ}
+use native.Mathlib.Omega.{arith}
+use lib.ListN.{length-replicate}
+use Rattle.texts.proofs.OverwrittenLaws.{part-length, written-length}
 use borrow.Author.Needs.{needs}
 use Rattle.conformance.proofs.fields.print_bytes.Statement.{statement}
 use Rattle.conformance.proofs.fields.print_bytes.Tie as tie
 
 slice-aggregate-write-bytes : tie.Need-slice-aggregate-write-bytes
-slice-aggregate-write-bytes c = search needs
+slice-aggregate-write-bytes c = sym (length-replicate {A = ℕ} 131073 0)
 
 write-bytes-requires : tie.Need-write-bytes-requires
 write-bytes-requires c κs = search needs
 
 array-share-prefix-text : tie.Need-array-share-prefix-text
-array-share-prefix-text c = search needs
+array-share-prefix-text c = omega (arith, c .before .write-bytes .ensures .count, c .before .write-bytes .ensures .fits, written-length (c .before .write-bytes .ensures))
 
 slice-aggregate-write-all : tie.Need-slice-aggregate-write-all
 slice-aggregate-write-all c = part-length (c .before .before .write-bytes .ensures)
