@@ -13,7 +13,7 @@ use lib.Seq.{take-append-le, drop-drop, take-nil, take-at}
 use borrow.Rule.Slice.PartAt.{part-to-end}
 use borrow.Rule.Slice.PartMut.{midOf, postOf, putMid, mid-len, same-len-mid}
 use Rattle.syntax.specs.Bytes.{Bytes}
-use Rattle.printer.specs.code.Printed.{Puts, Copied, Room}
+use Rattle.printer.specs.code.Printed.{Puts, Copied, Room, Adds}
 
 past : (l : Bytes) (i : ℕ) → length l ≤ i → drop i l ≡ []
 past l i h = drop-of-length-le l h
@@ -117,11 +117,6 @@ room-then {old} {mid} {rest} {r} {s} p q =
 pub room-none : (old : Bytes) → Room old old 0
 room-none old = record { within = omega arith; size = refl }
 
--- Nothing has room in an empty sheet.
-pub puts-none : (w old : Bytes) → length old ≡ 0 → Puts w old old 0
-puts-none w [] e = record { bytes = sym (drop-nil (length w)); count = omega arith }
-puts-none w (x ∷ old) e = absurd (omega arith)
-
 pub puts-empty : (old : Bytes) → Puts [] old old 0
 puts-empty old = record { bytes = rw (take-nil (length old)); count = omega arith }
 
@@ -136,3 +131,35 @@ puts-front {w} {old} {new} {r} p = go (decLt (length old) (length w))
     go (no h) =
         let e : take (length old) w ≡ w = take-all (length old) w (omega arith) in
         rw (p .bytes, e) (take-at w _ r (omega (arith, p .count)))
+
+-- One text behind another, from place to place.
+
+pub room-on : {old mid new : Bytes} {r s : ℕ} → Room old mid r → Room mid new s → Room old new s
+room-on p q = record { within = omega (arith, p .size, q .within); size = q .size ∙ p .size }
+
+pub adds-put : {w old mid : Bytes} {at r : ℕ} → at ≤ length old → Puts w (midOf at (length old - at) old) mid r → Adds w old (putMid at (length old - at) old mid) at (at + r)
+adds-put h p = record { room = room-then (record { within = h; size = refl }) (puts-room p); puts = λ u base q. puts-then q p }
+
+pub adds-as : {w v old new : Bytes} {at r : ℕ} → w ≡ v → Adds w old new at r → Adds v old new at r
+adds-as e p = rw e at p
+
+pub adds-then : {w v old mid new : Bytes} {at r s : ℕ} → Adds w old mid at r → Adds v mid new r s → Adds (w ++ v) old new at s
+adds-then {w} {v} p q = record { room = room-on (p .room) (q .room); puts = λ u base x. puts-as (append-assoc u w v) (q .puts (u ++ w) base (p .puts u base x)) }
+
+-- Nothing has room behind a full sheet.
+pub adds-none : (w old : Bytes) {at : ℕ} → at ≡ length old → Adds w old old at at
+adds-none w old {at} e =
+    record {
+      room = record { within = omega arith; size = refl };
+      puts = λ u base p.
+          let l : length old ≡ length base = puts-room p .size in
+          let h : length base ≤ length u = omega (arith, p .count) in
+          record {
+            bytes = p .bytes ∙ rw (take-append-le (length base) u w h, past base (length u) h, past base (length (u ++ w)) (rw length-append (omega arith)));
+            count = rw length-append (omega (arith, p .count));
+          };
+    }
+
+-- At the front of a sheet.
+pub adds-front : {w old new : Bytes} {r : ℕ} → Adds w old new 0 r → Puts w old new r
+adds-front {w} {old} p = p .puts [] old (puts-empty old)

@@ -1,10 +1,11 @@
 // The names and signs of the language, as fixed byte strings put into a sheet.
 // Each stands in its operation's row of a table.
 ghost use mathlib.Core.Path.{_≡_};
-ghost use Prim.Native.Nat.{_+_, _%_, _<_};
+ghost use Prim.Native.Nat.{_+_, _%_, _<_, _≤_};
+ghost use lib.ListN.{length};
 ghost use Rattle.syntax.specs.Rule.{digits};
 ghost use Rattle.syntax.specs.code.Nodes.{whenOp};
-ghost use Rattle.printer.specs.code.Printed.{Puts};
+ghost use Rattle.printer.specs.code.Printed.{Adds};
 ghost use Rattle.printer.specs.code.Signs.{signOf, openOf, variable, bound, without};
 use crate::sheet::put;
 use syntax::nodes::OPERATIONS;
@@ -94,62 +95,68 @@ const LENGTHS: [usize; 38] = [
 ];
 
 // The name or sign of an operation on terms or counts.
-pub fn put_sign(out: &mut [u8], op: u32) -> usize
+pub fn put_sign(out: &mut [u8], at: usize, op: u32) -> usize
     requires { ⌜ op < whenOp ⌝ }
-    ensures { λ r. ⌜ Puts (signOf op) (now (out .entry)) (now (out .exit)) r ⌝ }
+    requires { ⌜ at ≤ length (now out) ⌝ }
+    ensures { λ r. ⌜ Adds (signOf op) (now (out .entry)) (now (out .exit)) at r ⌝ }
 {
     let k = op as usize;
     let row = SIGNS[k];
     let n = LENGTHS[k];
-    put(out, &row[..n])
+    put(out, at, &row[..n])
 }
 
 // A number below 100 without leading zero; of a larger one its last two digits.
-pub fn put_number(out: &mut [u8], m: usize) -> usize
-    ensures { λ r. ⌜ Puts (digits (m % 100)) (now (out .entry)) (now (out .exit)) r ⌝ }
+pub fn put_number(out: &mut [u8], at: usize, m: usize) -> usize
+    requires { ⌜ at ≤ length (now out) ⌝ }
+    ensures { λ r. ⌜ Adds (digits (m % 100)) (now (out .entry)) (now (out .exit)) at r ⌝ }
 {
     let n = m % 100;
     if n < 10 {
         let one = [48 + n as u8];
-        return put(out, &one);
+        return put(out, at, &one);
     }
     let two = [48 + (n / 10) as u8, 48 + (n % 10) as u8];
-    put(out, &two)
+    put(out, at, &two)
 }
 
 // What opens a term of two terms.
-pub fn put_open(out: &mut [u8], op: u32) -> usize
-    ensures { λ r. ⌜ Puts (openOf op) (now (out .entry)) (now (out .exit)) r ⌝ }
+pub fn put_open(out: &mut [u8], at: usize, op: u32) -> usize
+    requires { ⌜ at ≤ length (now out) ⌝ }
+    ensures { λ r. ⌜ Adds (openOf op) (now (out .entry)) (now (out .exit)) at r ⌝ }
 {
     if op == OPERATIONS {
-        return put(out, b"operations(");
+        return put(out, at, b"operations(");
     }
-    put(out, b"(")
+    put(out, at, b"(")
 }
 
 // The variable of index `d`: v1 for the first.
-pub fn put_choice(out: &mut [u8], d: usize) -> usize
+pub fn put_choice(out: &mut [u8], at: usize, d: usize) -> usize
     requires { ⌜ d < 8 ⌝ }
-    ensures { λ r. ⌜ Puts (variable (49 + d)) (now (out .entry)) (now (out .exit)) r ⌝ }
+    requires { ⌜ at ≤ length (now out) ⌝ }
+    ensures { λ r. ⌜ Adds (variable (49 + d)) (now (out .entry)) (now (out .exit)) at r ⌝ }
 {
     let text = [b'v', b'1' + d as u8];
-    put(out, &text)
+    put(out, at, &text)
 }
 
 // The beginning of its quantifier.
-pub fn put_bound(out: &mut [u8], d: usize) -> usize
+pub fn put_bound(out: &mut [u8], at: usize, d: usize) -> usize
     requires { ⌜ d < 8 ⌝ }
-    ensures { λ r. ⌜ Puts (bound (49 + d)) (now (out .entry)) (now (out .exit)) r ⌝ }
+    requires { ⌜ at ≤ length (now out) ⌝ }
+    ensures { λ r. ⌜ Adds (bound (49 + d)) (now (out .entry)) (now (out .exit)) at r ⌝ }
 {
     let text = [b'[', b'v', b'1' + d as u8, b'@'];
-    put(out, &text)
+    put(out, at, &text)
 }
 
 // The end of a term without it.
-pub fn put_without(out: &mut [u8], d: usize) -> usize
+pub fn put_without(out: &mut [u8], at: usize, d: usize) -> usize
     requires { ⌜ d < 8 ⌝ }
-    ensures { λ r. ⌜ Puts (without (49 + d)) (now (out .entry)) (now (out .exit)) r ⌝ }
+    requires { ⌜ at ≤ length (now out) ⌝ }
+    ensures { λ r. ⌜ Adds (without (49 + d)) (now (out .entry)) (now (out .exit)) at r ⌝ }
 {
     let text = [b'-', b'{', b'v', b'1' + d as u8, b'}', b')'];
-    put(out, &text)
+    put(out, at, &text)
 }

@@ -1,8 +1,9 @@
-// Putting bytes at the front of a sheet.
+// Putting bytes into a sheet, as far as they fit.
 // Nothing here knows what the bytes say.
 ghost use mathlib.Core.Path.{_≡_};
-ghost use Prim.Native.Nat.{min};
-ghost use Rattle.printer.specs.code.Printed.{Puts};
+ghost use Prim.Native.Nat.{min, _≤_};
+ghost use lib.ListN.{length};
+ghost use Rattle.printer.specs.code.Printed.{Puts, Adds};
 
 fn least(a: usize, b: usize) -> usize
     ensures { λ r. ⌜ r ≡ min a b ⌝ }
@@ -10,8 +11,8 @@ fn least(a: usize, b: usize) -> usize
     if a < b { a } else { b }
 }
 
-// Copies `p` to the front of the sheet, as far as it fits.
-pub fn put(out: &mut [u8], p: &[u8]) -> usize
+// Copies `p` to the front of the sheet.
+fn copy(out: &mut [u8], p: &[u8]) -> usize
     ensures { λ r. ⌜ Puts (now (p .entry)) (now (out .entry)) (now (out .exit)) r ⌝ }
 {
     let n = least(p.len(), out.len());
@@ -21,4 +22,12 @@ pub fn put(out: &mut [u8], p: &[u8]) -> usize
         i += 1;
     }
     n
+}
+
+// Copies `p` to place `at` on, and answers the place behind it.
+pub fn put(out: &mut [u8], at: usize, p: &[u8]) -> usize
+    requires { ⌜ at ≤ length (now out) ⌝ }
+    ensures { λ r. ⌜ Adds (now (p .entry)) (now (out .entry)) (now (out .exit)) at r ⌝ }
+{
+    at + copy(&mut out[at..], p)
 }

@@ -26,6 +26,16 @@ pub record Room (old new : Bytes) (r : ℕ) : Type 0 where
   pub within : r ≤ length old
   pub size : length new ≡ length old
 
+-- From place at on the text w was put, up to place r: behind whatever text ends there.
+pub record Adds (w old new : Bytes) (at r : ℕ) : Type 0 where
+  pub room : Room old new r
+  pub puts : (u base : Bytes) → Puts u base old at → Puts (u ++ w) base new r
+
+-- The same of whatever the node holds, as it is shown with the choices whose nodes are vs.
+pub record Appends {A : Type 0} (ns vs : List ℕ) (holds : A → Type 0) (shown : Choices → A → Bytes) (old new : Bytes) (at r : ℕ) : Type 0 where
+  pub room : Room old new r
+  pub shows : (σ : Choices) (a : A) → HoldsAll ns vs σ → holds a → Adds (shown σ a) old new at r
+
 -- Whatever the node holds was put, as it is shown with the choices whose nodes are vs.
 pub record Prints {A : Type 0} (ns vs : List ℕ) (holds : A → Type 0) (shown : Choices → A → Bytes) (old new : Bytes) (r : ℕ) : Type 0 where
   pub room : Room old new r

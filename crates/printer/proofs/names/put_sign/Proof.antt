@@ -2,11 +2,11 @@
 -- Assumes nothing.
 use mathlib.Core.Path.{sym}
 use lib.Seq.{length-take-le}
-use borrow.Author.Needs.{needs}
 use Rattle.syntax.specs.Term.{spell, parting, spellMiddle}
 use Rattle.syntax.specs.Rule.{spellBetween, spellCmp}
 use Rattle.printer.specs.code.Signs.{signs, cmpSigns}
-use Rattle.printer.proofs.PrintedLaws.{row, row-room, row-text, puts-as}
+use Rattle.printer.proofs.PrintedLaws.{row, row-room, row-text, adds-as}
+use borrow.Author.Needs.{needs}
 use Rattle.printer.proofs.names.put_sign.Statement.{statement}
 use Rattle.printer.proofs.names.put_sign.Tie as tie
 
@@ -38,7 +38,18 @@ same-length c = search needs
 
 returns : tie.Need-returns
 unfolding row signs cmpSigns spell parting spellMiddle spellBetween spellCmp
-returns c = puts-as (row-text signs (c .before .before .before .before .before .before .before .args .op)) (c .before .before .put .ensures)
+returns c = adds-as (row-text signs (c .before .before .before .before .before .before .before .args .op)) (c .before .before .put .ensures)
 
 pub put-sign-spec : {M : Type 1} → statement M
-put-sign-spec = tie.close (tie.spec mul-row array-copy-out-row mul-n array-read-n array-share-prefix-row slice-aggregate-put put-requires same-length returns)
+put-sign-spec =
+    tie.close
+    (tie.spec
+    mul-row
+    array-copy-out-row
+    mul-n
+    array-read-n
+    array-share-prefix-row
+    slice-aggregate-put
+    put-requires
+    same-length
+    returns)

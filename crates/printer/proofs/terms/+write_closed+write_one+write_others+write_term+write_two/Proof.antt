@@ -1,9 +1,10 @@
 -- The writers of terms call each other on nodes below their own: three times the index falls, a helper one below its caller.
 -- Assumes nothing.
-use borrow.Author.Needs.{needs}
 use mathlib.Core.List.{append-assoc}
 use native.Mathlib.Omega.{arith}
-use Rattle.printer.proofs.PrintsLaws.{prints-as, prints-then, put-prints, prints-put, prints-full, prints-never, ready-size, ready-left, ready-right, term-leaf, term-call, term-new, term-choice, term-others, term-two, has-two, no-term, others-text}
+use borrow.Author.Needs.{needs}
+use Rattle.printer.proofs.PrintsLaws.{appends-as, appends-then, add-appends, appends-add, appends-full, appends-never, ready-size, ready-left, ready-right}
+use Rattle.printer.proofs.PrintsLaws.{term-leaf, term-call, term-new, term-choice, term-others, term-two, has-two, no-term, others-text}
 use Prim.Native.Nat.{ℕ, _<_, _+_, _*_}
 use borrow.Fn.Kinds.{In}
 use borrow.Fn.PlainCycle.{Measures, is, falls, and}
@@ -115,49 +116,25 @@ abbrev write-two-called : ℕ → write-two-lts.Claims
 write-two-called t = (op-at-reads.Asked, op-at-reads.Learnt, put-open-reads.Asked, put-open-reads.Learnt, left-at-reads.Asked, left-at-reads.Learnt, write-term-below t, write-term.Post, right-at-reads.Asked, right-at-reads.Learnt, write-closed-below t, write-closed.Post)
 
 write-closed-put-sign-requires : (t : ℕ) → write-closed-lts.Need-put-sign-requires (write-closed-called t) (write-closed-at t) write-closed.Post
-write-closed-put-sign-requires t c κs = omega (arith, c .before .before .before .before .pre)
-
-write-closed-sub-write-term : (t : ℕ) → write-closed-lts.Need-sub-write-term (write-closed-called t) (write-closed-at t) write-closed.Post
-write-closed-sub-write-term t c = search needs
-
-write-closed-part-write-term-start : (t : ℕ) → write-closed-lts.Need-part-write-term-start (write-closed-called t) (write-closed-at t) write-closed.Post
-write-closed-part-write-term-start t c = search needs
-
-write-closed-part-write-term-end : (t : ℕ) → write-closed-lts.Need-part-write-term-end (write-closed-called t) (write-closed-at t) write-closed.Post
-write-closed-part-write-term-end t c = search needs
+write-closed-put-sign-requires t c κs = (omega (arith, c .before .before .before .before .pre), c .before .before .before .before .pre .1 .1 .1)
 
 write-closed-write-term-requires : (t : ℕ) → write-closed-lts.Need-write-term-requires (write-closed-called t) (write-closed-at t) write-closed.Post
-write-closed-write-term-requires t c κs = (omega (arith, c .before .before .before .before .before .before .before .before .pre), c .before .before .before .before .before .before .before .before .pre .1 .0)
-
-write-closed-add-at : (t : ℕ) → write-closed-lts.Need-add-at (write-closed-called t) (write-closed-at t) write-closed.Post
-write-closed-add-at t c = search needs
-
-write-closed-sub-put : (t : ℕ) → write-closed-lts.Need-sub-put (write-closed-called t) (write-closed-at t) write-closed.Post
-write-closed-sub-put t c = search needs
-
-write-closed-part-put-start : (t : ℕ) → write-closed-lts.Need-part-put-start (write-closed-called t) (write-closed-at t) write-closed.Post
-write-closed-part-put-start t c = search needs
-
-write-closed-part-put-end : (t : ℕ) → write-closed-lts.Need-part-put-end (write-closed-called t) (write-closed-at t) write-closed.Post
-write-closed-part-put-end t c = search needs
+write-closed-write-term-requires t c κs = (omega (arith, c .before .before .before .before .before .before .before .before .pre), (c .before .before .before .before .before .before .before .before .pre .1 .0, omega (arith, c .before .before .before .put-sign .ensures .room)))
 
 write-closed-slice-aggregate-put : (t : ℕ) → write-closed-lts.Need-slice-aggregate-put (write-closed-called t) (write-closed-at t) write-closed.Post
 write-closed-slice-aggregate-put t c = search needs
 
 write-closed-put-requires : (t : ℕ) → write-closed-lts.Need-put-requires (write-closed-called t) (write-closed-at t) write-closed.Post
-write-closed-put-requires t c κs = search needs
-
-write-closed-add-result : (t : ℕ) → write-closed-lts.Need-add-result (write-closed-called t) (write-closed-at t) write-closed.Post
-write-closed-add-result t c = search needs
+write-closed-put-requires t c κs = omega (arith, c .before .before .before .before .write-term .ensures .room)
 
 write-closed-same-length : (t : ℕ) → write-closed-lts.Need-same-length (write-closed-called t) (write-closed-at t) write-closed.Post
 write-closed-same-length t c = search needs
 
 write-closed-returns : (t : ℕ) → write-closed-lts.Need-returns (write-closed-called t) (write-closed-at t) write-closed.Post
 write-closed-returns t c =
-    prints-as
+    appends-as
     (λ σ a y x. record { thing = a; held = x; written = simp append-assoc })
-    (prints-put (put-prints (c .before .before .before .before .before .before .before .before .before .before .before .put-sign .ensures) (c .before .before .before .before .before .before .before .write-term .ensures)) (c .before .before .put .ensures))
+    (appends-add (add-appends (c .before .before .before .before .before .before .before .before .before .before .before .put-sign .ensures) (c .before .before .before .before .before .before .before .write-term .ensures)) (c .before .before .put .ensures))
 
 write-one-op-at-requires : (t : ℕ) → write-one-lts.Need-op-at-requires (write-one-called t) (write-one-at t) write-one.Post
 write-one-op-at-requires t c κs = ready-size (c .before .before .before .pre .1 .0)
@@ -168,7 +145,7 @@ write-one-left-at-requires t c κs = ready-size (c .before .before .before .befo
 write-one-write-closed-requires : (t : ℕ) → write-one-lts.Need-write-closed-requires (write-one-called t) (write-one-at t) write-one.Post
 write-one-write-closed-requires t c κs =
     let z = ready-left (c .before .before .before .before .before .before .before .pre .1 .0) (c .before .before .left-at .ensures) (omega (arith, c .before .before .before .before .before .before .before .pre)) in
-    (omega (arith, c .before .before .before .before .before .before .before .pre, z .1), (z .0, omega (arith, c .before .before .before .op-at .ensures, c .before .before .before .before .before .before .before .pre)))
+    (omega (arith, c .before .before .before .before .before .before .before .pre, z .1), (z .0, (omega (arith, c .before .before .before .op-at .ensures, c .before .before .before .before .before .before .before .pre), c .before .before .before .before .before .before .before .pre .1 .1 .1)))
 
 write-one-same-length : (t : ℕ) → write-one-lts.Need-same-length (write-one-called t) (write-one-at t) write-one.Post
 write-one-same-length t c = search needs
@@ -185,7 +162,7 @@ write-one-seek-requires t c κs = search needs
 write-one-write-closed-requires-2 : (t : ℕ) → write-one-lts.Need-write-closed-requires-2 (write-one-called t) (write-one-at t) write-one.Post
 write-one-write-closed-requires-2 t c κs =
     let z = ready-left (c .before .before .before .before .before .before .before .before .before .pre .1 .0) (c .before .before .before .before .left-at .ensures) (omega (arith, c .before .before .before .before .before .before .before .before .before .pre)) in
-    (omega (arith, c .before .before .before .before .before .before .before .before .before .pre, z .1), (z .0, omega (arith, c .before .before .before .before .before .op-at .ensures, c .before .before .before .before .before .before .before .before .before .pre)))
+    (omega (arith, c .before .before .before .before .before .before .before .before .before .pre, z .1), (z .0, (omega (arith, c .before .before .before .before .before .op-at .ensures, c .before .before .before .before .before .before .before .before .before .pre), c .before .before .before .before .before .before .before .before .before .pre .1 .1 .1)))
 
 write-one-same-length-2 : (t : ℕ) → write-one-lts.Need-same-length-2 (write-one-called t) (write-one-at t) write-one.Post
 write-one-same-length-2 t c = search needs
@@ -194,7 +171,7 @@ write-one-returns-2 : (t : ℕ) → write-one-lts.Need-returns-2 (write-one-call
 write-one-returns-2 t c = term-new (c .before .before .before .before .before .before .before .before .before .before .before .before .pre .1 .0) (c .before .before .before .before .before .before .before .before .op-at .ensures) (c .before .before .before .before .before .before .before .left-at .ensures) (c .before .before .before .before .before .before .if1 .left) (c .before .before .before .before .before .seek .ensures) (omega (arith, c .before .before .before .before .before .before .before .before .op-at .ensures, c .before .before .before .before .before .before .before .before .before .before .before .before .pre)) (omega (arith, c .before .before .before .before .if2 .taken)) (c .before .before .write-closed2 .ensures)
 
 write-one-put-choice-requires : (t : ℕ) → write-one-lts.Need-put-choice-requires (write-one-called t) (write-one-at t) write-one.Post
-write-one-put-choice-requires t c κs = omega (arith, c .before .before .before .before .before .before .before .before .before .before .pre .1 .0 .few, c .before .before .before .seek .ensures .within, c .before .before .if2 .left)
+write-one-put-choice-requires t c κs = (omega (arith, c .before .before .before .before .before .before .before .before .before .before .pre .1 .0 .few, c .before .before .before .seek .ensures .within, c .before .before .if2 .left), c .before .before .before .before .before .before .before .before .before .before .pre .1 .1 .1)
 
 write-one-same-length-3 : (t : ℕ) → write-one-lts.Need-same-length-3 (write-one-called t) (write-one-at t) write-one.Post
 write-one-same-length-3 t c = search needs
@@ -205,7 +182,7 @@ write-one-returns-3 t c = term-choice (c .before .before .before .before .before
 write-one-write-others-requires : (t : ℕ) → write-one-lts.Need-write-others-requires (write-one-called t) (write-one-at t) write-one.Post
 write-one-write-others-requires t c κs =
     let z = ready-left (c .before .before .before .before .before .before .before .before .before .before .pre .1 .0) (c .before .before .before .before .before .left-at .ensures) (omega (arith, c .before .before .before .before .before .before .before .before .before .before .pre)) in
-    (omega (arith, c .before .before .before .before .before .before .before .before .before .before .pre, z .1), (z .0, omega (arith, c .before .before .before .before .before .before .before .before .before .before .pre .1 .0 .few, c .before .before .before .seek .ensures .within, c .before .before .if2 .left)))
+    (omega (arith, c .before .before .before .before .before .before .before .before .before .before .pre, z .1), (z .0, (omega (arith, c .before .before .before .before .before .before .before .before .before .before .pre .1 .0 .few, c .before .before .before .seek .ensures .within, c .before .before .if2 .left), c .before .before .before .before .before .before .before .before .before .before .pre .1 .1 .1)))
 
 write-one-same-length-4 : (t : ℕ) → write-one-lts.Need-same-length-4 (write-one-called t) (write-one-at t) write-one.Post
 write-one-same-length-4 t c = search needs
@@ -217,64 +194,40 @@ write-others-slice-aggregate-put : (t : ℕ) → write-others-lts.Need-slice-agg
 write-others-slice-aggregate-put t c = search needs
 
 write-others-put-requires : (t : ℕ) → write-others-lts.Need-put-requires (write-others-called t) (write-others-at t) write-others.Post
-write-others-put-requires t c κs = search needs
-
-write-others-sub-write-term : (t : ℕ) → write-others-lts.Need-sub-write-term (write-others-called t) (write-others-at t) write-others.Post
-write-others-sub-write-term t c = search needs
-
-write-others-part-write-term-start : (t : ℕ) → write-others-lts.Need-part-write-term-start (write-others-called t) (write-others-at t) write-others.Post
-write-others-part-write-term-start t c = search needs
-
-write-others-part-write-term-end : (t : ℕ) → write-others-lts.Need-part-write-term-end (write-others-called t) (write-others-at t) write-others.Post
-write-others-part-write-term-end t c = search needs
+write-others-put-requires t c κs = c .before .before .before .before .before .pre .1 .1 .1
 
 write-others-write-term-requires : (t : ℕ) → write-others-lts.Need-write-term-requires (write-others-called t) (write-others-at t) write-others.Post
-write-others-write-term-requires t c κs = (omega (arith, c .before .before .before .before .before .before .before .before .before .pre), c .before .before .before .before .before .before .before .before .before .pre .1 .0)
-
-write-others-add-at : (t : ℕ) → write-others-lts.Need-add-at (write-others-called t) (write-others-at t) write-others.Post
-write-others-add-at t c = search needs
-
-write-others-sub-put-without : (t : ℕ) → write-others-lts.Need-sub-put-without (write-others-called t) (write-others-at t) write-others.Post
-write-others-sub-put-without t c = search needs
-
-write-others-part-put-without-start : (t : ℕ) → write-others-lts.Need-part-put-without-start (write-others-called t) (write-others-at t) write-others.Post
-write-others-part-put-without-start t c = search needs
-
-write-others-part-put-without-end : (t : ℕ) → write-others-lts.Need-part-put-without-end (write-others-called t) (write-others-at t) write-others.Post
-write-others-part-put-without-end t c = search needs
+write-others-write-term-requires t c κs = (omega (arith, c .before .before .before .before .before .before .before .before .before .pre), (c .before .before .before .before .before .before .before .before .before .pre .1 .0, omega (arith, c .before .before .before .put .ensures .room)))
 
 write-others-put-without-requires : (t : ℕ) → write-others-lts.Need-put-without-requires (write-others-called t) (write-others-at t) write-others.Post
-write-others-put-without-requires t c κs = c .before .before .before .before .before .before .before .before .before .before .before .before .before .pre .1 .1
-
-write-others-add-result : (t : ℕ) → write-others-lts.Need-add-result (write-others-called t) (write-others-at t) write-others.Post
-write-others-add-result t c = search needs
+write-others-put-without-requires t c κs = (c .before .before .before .before .before .before .before .before .before .before .before .before .before .pre .1 .1 .0, omega (arith, c .before .before .before .write-term .ensures .room))
 
 write-others-same-length : (t : ℕ) → write-others-lts.Need-same-length (write-others-called t) (write-others-at t) write-others.Post
 write-others-same-length t c = search needs
 
 write-others-returns : (t : ℕ) → write-others-lts.Need-returns (write-others-called t) (write-others-at t) write-others.Post
 write-others-returns t c =
-    prints-as
+    appends-as
     (λ σ a y x. record { thing = a; held = x; written = others-text _ _ })
-    (prints-put (put-prints (c .before .before .before .before .before .before .before .before .before .before .put .ensures) (c .before .before .before .before .before .before .write-term .ensures)) (c .before .before .put-without .ensures))
+    (appends-add (add-appends (c .before .before .before .before .before .before .before .before .before .before .put .ensures) (c .before .before .before .before .before .before .write-term .ensures)) (c .before .before .put-without .ensures))
 
 write-term-returns : (t : ℕ) → write-term-lts.Need-returns (write-term-called t) (write-term-at t) write-term.Post
-write-term-returns t c = prints-full _ (c .if1 .taken)
+write-term-returns t c = appends-full _ (c .if1 .taken)
 
 write-term-op-at-requires : (t : ℕ) → write-term-lts.Need-op-at-requires (write-term-called t) (write-term-at t) write-term.Post
-write-term-op-at-requires t c κs = ready-size (c .before .before .before .before .pre .1)
+write-term-op-at-requires t c κs = ready-size (c .before .before .before .before .pre .1 .0)
 
 write-term-put-sign-requires : (t : ℕ) → write-term-lts.Need-put-sign-requires (write-term-called t) (write-term-at t) write-term.Post
-write-term-put-sign-requires t c κs = omega arith
+write-term-put-sign-requires t c κs = (omega arith, c .before .before .before .before .before .before .before .pre .1 .1)
 
 write-term-same-length : (t : ℕ) → write-term-lts.Need-same-length (write-term-called t) (write-term-at t) write-term.Post
 write-term-same-length t c = search needs
 
 write-term-returns-2 : (t : ℕ) → write-term-lts.Need-returns-2 (write-term-called t) (write-term-at t) write-term.Post
-write-term-returns-2 t c = term-leaf (c .before .before .before .before .before .before .before .before .before .before .pre .1) (c .before .before .before .before .before .op-at .ensures) (c .before .before .before .before .if2 .taken) (c .before .before .put-sign .ensures)
+write-term-returns-2 t c = term-leaf (c .before .before .before .before .before .before .before .before .before .before .pre .1 .0) (c .before .before .before .before .before .op-at .ensures) (c .before .before .before .before .if2 .taken) (c .before .before .put-sign .ensures)
 
 write-term-write-one-requires : (t : ℕ) → write-term-lts.Need-write-one-requires (write-term-called t) (write-term-at t) write-term.Post
-write-term-write-one-requires t c κs = (omega (arith, c .before .before .before .before .before .before .before .before .pre), (c .before .before .before .before .before .before .before .before .pre .1, (omega (arith, c .before .before .before .op-at .ensures, c .before .before .if2 .left), omega (arith, c .before .before .before .op-at .ensures, c .before .if3 .taken))))
+write-term-write-one-requires t c κs = (omega (arith, c .before .before .before .before .before .before .before .before .pre), (c .before .before .before .before .before .before .before .before .pre .1 .0, ((omega (arith, c .before .before .before .op-at .ensures, c .before .before .if2 .left), omega (arith, c .before .before .before .op-at .ensures, c .before .if3 .taken)), c .before .before .before .before .before .before .before .before .pre .1 .1)))
 
 write-term-same-length-2 : (t : ℕ) → write-term-lts.Need-same-length-2 (write-term-called t) (write-term-at t) write-term.Post
 write-term-same-length-2 t c = search needs
@@ -283,7 +236,7 @@ write-term-returns-3 : (t : ℕ) → write-term-lts.Need-returns-3 (write-term-c
 write-term-returns-3 t c = c .before .before .write-one .ensures
 
 write-term-write-two-requires : (t : ℕ) → write-term-lts.Need-write-two-requires (write-term-called t) (write-term-at t) write-term.Post
-write-term-write-two-requires t c κs = (omega (arith, c .before .before .before .before .before .before .before .before .before .pre), (c .before .before .before .before .before .before .before .before .before .pre .1, (omega (arith, c .before .before .before .before .op-at .ensures, c .before .before .if3 .left), omega (arith, c .before .before .before .before .op-at .ensures, c .before .if4 .taken))))
+write-term-write-two-requires t c κs = (omega (arith, c .before .before .before .before .before .before .before .before .before .pre), (c .before .before .before .before .before .before .before .before .before .pre .1 .0, ((omega (arith, c .before .before .before .before .op-at .ensures, c .before .before .if3 .left), omega (arith, c .before .before .before .before .op-at .ensures, c .before .if4 .taken)), c .before .before .before .before .before .before .before .before .before .pre .1 .1)))
 
 write-term-same-length-3 : (t : ℕ) → write-term-lts.Need-same-length-3 (write-term-called t) (write-term-at t) write-term.Post
 write-term-same-length-3 t c = search needs
@@ -292,53 +245,29 @@ write-term-returns-4 : (t : ℕ) → write-term-lts.Need-returns-4 (write-term-c
 write-term-returns-4 t c = c .before .before .write-two .ensures
 
 write-term-returns-5 : (t : ℕ) → write-term-lts.Need-returns-5 (write-term-called t) (write-term-at t) write-term.Post
-write-term-returns-5 t c = prints-never _ (λ u x. no-term _ _ u (omega (arith, c .before .before .before .op-at .ensures, c .if4 .left)) x)
+write-term-returns-5 t c = appends-never _ (c .before .before .before .before .before .before .before .before .pre .1 .1) (λ u x. no-term _ _ u (omega (arith, c .before .before .before .op-at .ensures, c .if4 .left)) x)
 
 write-two-op-at-requires : (t : ℕ) → write-two-lts.Need-op-at-requires (write-two-called t) (write-two-at t) write-two.Post
 write-two-op-at-requires t c κs = ready-size (c .before .before .before .pre .1 .0)
 
 write-two-put-open-requires : (t : ℕ) → write-two-lts.Need-put-open-requires (write-two-called t) (write-two-at t) write-two.Post
-write-two-put-open-requires t c κs = search needs
+write-two-put-open-requires t c κs = c .before .before .before .before .before .pre .1 .1 .1
 
 write-two-left-at-requires : (t : ℕ) → write-two-lts.Need-left-at-requires (write-two-called t) (write-two-at t) write-two.Post
 write-two-left-at-requires t c κs = ready-size (c .before .before .before .before .before .before .before .before .pre .1 .0)
 
-write-two-sub-write-term : (t : ℕ) → write-two-lts.Need-sub-write-term (write-two-called t) (write-two-at t) write-two.Post
-write-two-sub-write-term t c = search needs
-
-write-two-part-write-term-start : (t : ℕ) → write-two-lts.Need-part-write-term-start (write-two-called t) (write-two-at t) write-two.Post
-write-two-part-write-term-start t c = search needs
-
-write-two-part-write-term-end : (t : ℕ) → write-two-lts.Need-part-write-term-end (write-two-called t) (write-two-at t) write-two.Post
-write-two-part-write-term-end t c = search needs
-
 write-two-write-term-requires : (t : ℕ) → write-two-lts.Need-write-term-requires (write-two-called t) (write-two-at t) write-two.Post
 write-two-write-term-requires t c κs =
     let z = ready-left (c .before .before .before .before .before .before .before .before .before .before .pre .1 .0) (c .before .left-at .ensures) (omega (arith, c .before .before .before .before .before .before .before .before .before .before .pre)) in
-    (omega (arith, c .before .before .before .before .before .before .before .before .before .before .pre, z .1), z .0)
-
-write-two-add-at : (t : ℕ) → write-two-lts.Need-add-at (write-two-called t) (write-two-at t) write-two.Post
-write-two-add-at t c = search needs
+    (omega (arith, c .before .before .before .before .before .before .before .before .before .before .pre, z .1), (z .0, omega (arith, c .before .before .before .before .put-open .ensures .room)))
 
 write-two-right-at-requires : (t : ℕ) → write-two-lts.Need-right-at-requires (write-two-called t) (write-two-at t) write-two.Post
 write-two-right-at-requires t c κs = ready-size (c .before .before .before .before .before .before .before .before .before .before .before .before .before .pre .1 .0)
 
-write-two-sub-write-closed : (t : ℕ) → write-two-lts.Need-sub-write-closed (write-two-called t) (write-two-at t) write-two.Post
-write-two-sub-write-closed t c = search needs
-
-write-two-part-write-closed-start : (t : ℕ) → write-two-lts.Need-part-write-closed-start (write-two-called t) (write-two-at t) write-two.Post
-write-two-part-write-closed-start t c = search needs
-
-write-two-part-write-closed-end : (t : ℕ) → write-two-lts.Need-part-write-closed-end (write-two-called t) (write-two-at t) write-two.Post
-write-two-part-write-closed-end t c = search needs
-
 write-two-write-closed-requires : (t : ℕ) → write-two-lts.Need-write-closed-requires (write-two-called t) (write-two-at t) write-two.Post
 write-two-write-closed-requires t c κs =
-    let z = ready-right (c .before .before .before .before .before .before .before .before .before .before .before .before .before .before .before .pre .1 .0) (c .before .right-at .ensures) (has-two _ (c .before .before .before .before .before .before .before .before .before .before .before .before .before .before .before .pre .1 .1 .0) (omega (arith, c .before .before .before .before .before .before .before .before .before .before .before .before .before .before .before .pre))) in
-    (omega (arith, c .before .before .before .before .before .before .before .before .before .before .before .before .before .before .before .pre, z .1), (z .0, omega (arith, c .before .before .before .before .before .before .before .before .before .before .before .before .before .before .before .pre, c .before .before .before .before .before .before .before .before .before .before .before .op-at .ensures)))
-
-write-two-add-result : (t : ℕ) → write-two-lts.Need-add-result (write-two-called t) (write-two-at t) write-two.Post
-write-two-add-result t c = search needs
+    let z = ready-right (c .before .before .before .before .before .before .before .before .before .before .before .before .before .before .before .pre .1 .0) (c .before .right-at .ensures) (has-two _ (c .before .before .before .before .before .before .before .before .before .before .before .before .before .before .before .pre .1 .1 .0 .0) (omega (arith, c .before .before .before .before .before .before .before .before .before .before .before .before .before .before .before .pre))) in
+    (omega (arith, c .before .before .before .before .before .before .before .before .before .before .before .before .before .before .before .pre, z .1), (z .0, (omega (arith, c .before .before .before .before .before .before .before .before .before .before .before .before .before .before .before .pre, c .before .before .before .before .before .before .before .before .before .before .before .op-at .ensures), omega (arith, c .before .before .before .before .write-term .ensures .room))))
 
 write-two-same-length : (t : ℕ) → write-two-lts.Need-same-length (write-two-called t) (write-two-at t) write-two.Post
 write-two-same-length t c = search needs
@@ -346,7 +275,7 @@ write-two-same-length t c = search needs
 write-two-returns : (t : ℕ) → write-two-lts.Need-returns (write-two-called t) (write-two-at t) write-two.Post
 write-two-returns t c =
     term-two (c .before .before .before .before .before .before .before .before .before .before .before .before .before .before .before .before .before .before .pre .1 .0) (c .before .before .before .before .before .before .before .before .before .before .before .before .before .before .op-at .ensures) (c .before .before .before .before .before .before .before .before .before .left-at .ensures) (c .before .before .before .before .right-at .ensures) (omega (arith, c .before .before .before .before .before .before .before .before .before .before .before .before .before .before .op-at .ensures, c .before .before .before .before .before .before .before .before .before .before .before .before .before .before .before .before .before .before .pre)) (omega (arith, c .before .before .before .before .before .before .before .before .before .before .before .before .before .before .op-at .ensures, c .before .before .before .before .before .before .before .before .before .before .before .before .before .before .before .before .before .before .pre))
-    (prints-then (put-prints (c .before .before .before .before .before .before .before .before .before .before .before .before .put-open .ensures) (c .before .before .before .before .before .before .before .write-term .ensures)) (c .before .before .write-closed .ensures))
+    (appends-then (add-appends (c .before .before .before .before .before .before .before .before .before .before .before .before .put-open .ensures) (c .before .before .before .before .before .before .before .write-term .ensures)) (c .before .before .write-closed .ensures))
 
 pub +write-closed+write-one+write-others+write-term+write-two-spec : {M : Type 1} → statement M
 +write-closed+write-one+write-others+write-term+write-two-spec =
@@ -360,17 +289,9 @@ pub +write-closed+write-one+write-others+write-term+write-two-spec : {M : Type 1
     (write-closed-at t)
     write-closed.Post
     (write-closed-put-sign-requires t)
-    (write-closed-sub-write-term t)
-    (write-closed-part-write-term-start t)
-    (write-closed-part-write-term-end t)
     (write-closed-write-term-requires t)
-    (write-closed-add-at t)
-    (write-closed-sub-put t)
-    (write-closed-part-put-start t)
-    (write-closed-part-put-end t)
     (write-closed-slice-aggregate-put t)
     (write-closed-put-requires t)
-    (write-closed-add-result t)
     (write-closed-same-length t)
     (write-closed-returns t))
     (λ t. write-one-lts.spec (write-one-called t)
@@ -397,16 +318,8 @@ pub +write-closed+write-one+write-others+write-term+write-two-spec : {M : Type 1
     write-others.Post
     (write-others-slice-aggregate-put t)
     (write-others-put-requires t)
-    (write-others-sub-write-term t)
-    (write-others-part-write-term-start t)
-    (write-others-part-write-term-end t)
     (write-others-write-term-requires t)
-    (write-others-add-at t)
-    (write-others-sub-put-without t)
-    (write-others-part-put-without-start t)
-    (write-others-part-put-without-end t)
     (write-others-put-without-requires t)
-    (write-others-add-result t)
     (write-others-same-length t)
     (write-others-returns t))
     (λ t. write-term-lts.spec (write-term-called t)
@@ -430,16 +343,8 @@ pub +write-closed+write-one+write-others+write-term+write-two-spec : {M : Type 1
     (write-two-op-at-requires t)
     (write-two-put-open-requires t)
     (write-two-left-at-requires t)
-    (write-two-sub-write-term t)
-    (write-two-part-write-term-start t)
-    (write-two-part-write-term-end t)
     (write-two-write-term-requires t)
-    (write-two-add-at t)
     (write-two-right-at-requires t)
-    (write-two-sub-write-closed t)
-    (write-two-part-write-closed-start t)
-    (write-two-part-write-closed-end t)
     (write-two-write-closed-requires t)
-    (write-two-add-result t)
     (write-two-same-length t)
     (write-two-returns t)
