@@ -9,11 +9,11 @@ use lib.ListN.{length, getD}
 use Rattle.syntax.specs.Bytes.{Bytes, ascii}
 use Rattle.syntax.specs.Term.{Base, bU, bR, bOP, bOBJ, bP, bS, bCR, bCP, bCU, Fn, user, roles, roles*, sessions, permissions}
 use Rattle.syntax.specs.Term.{permissions*, object, operations, meet, join, Term, base, call, oe, ao, two, Term≟, Choices, digitFrom, digit}
-use Rattle.syntax.specs.Term.{isBase, isCall, spell, oeText, aoText, text, calls, joins, opening, parting}
+use Rattle.syntax.specs.Term.{isBase, isCall, spell, oeText, aoText, text, calls, joins, parting}
 use Rattle.syntax.specs.code.Arena.{baseOp, fnOp, twoOp, One, Holds, HoldsAll, Apart}
 use Rattle.syntax.specs.code.Reading.{Sought}
 use Rattle.syntax.specs.code.Nodes.{firstCall, oeOp, aoOp, firstPair, memberOp, opAt, leftAt, rightAt, opRoom}
-use Rattle.printer.specs.code.Signs.{signs, signOf, openOf, variable}
+use Rattle.printer.specs.code.Signs.{signs, signOf, cmpSigns, openings, openOf, variable}
 use Rattle.printer.specs.code.Printed.{Printable}
 use Rattle.syntax.proofs.ArenaLaws.{base-small, fn-range, two-range, one-parts, both-parts, opOf, holds-op, holds-once, holds-one}
 
@@ -120,7 +120,7 @@ module _ (ns : List ℕ) (k : ℕ) (σ : Choices) where
   paired p = openOf o ++ (text σ (p .0) ++ (signOf o ++ (text σ (p .1) ++ ascii ")")))
 
   pub text-two : (t : Term) → firstPair ≤ o → o < memberOp → Holds ns k t → Shown (AtBoth (Holds ns) (Holds ns)) paired (text σ t)
-  unfolding text opening parting opOf Holds signs twoOp
+  unfolding text parting opOf Holds signs cmpSigns openings twoOp
   text-two (base b) h l x = absurd (omega (arith, holds-op ns k (base b) x, base-small b))
   text-two (call f a) h l x = absurd (omega (arith, holds-op ns k (call f a) x, fn-range f .high))
   text-two (oe a) h l x = absurd (omega (arith, holds-op ns k (oe a) x))

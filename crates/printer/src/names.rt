@@ -4,14 +4,18 @@ ghost use mathlib.Core.Path.{_≡_};
 ghost use Prim.Native.Nat.{_+_, _%_, _<_, _≤_};
 ghost use lib.ListN.{length};
 ghost use Rattle.syntax.specs.Rule.{digits};
-ghost use Rattle.syntax.specs.code.Nodes.{whenOp};
+ghost use Rattle.syntax.specs.code.Nodes.{firstPair, memberOp};
 ghost use Rattle.printer.specs.code.Printed.{Adds};
-ghost use Rattle.printer.specs.code.Signs.{signOf, openOf, variable, bound, without};
+ghost use Rattle.printer.specs.code.Signs.{signOf, signsEnd, openOf, variable, bound, without};
 use crate::sheet::put;
-use syntax::nodes::OPERATIONS;
+use syntax::nodes::FIRST_PAIR;
+use syntax::nodes::WHEN;
 
-// The names and signs of the operations below `=>`, by their numbers, each in a row of 13 bytes.
-const SIGNS: [[u8; 13]; 38] = [
+// Behind the signs of the operations below `=>` stands what opens a term of two, from the first such operation on.
+const OPENINGS: u32 = WHEN;
+
+// The names and signs of the operations, by their numbers, each in a row of 13 bytes.
+const SIGNS: [[u8; 13]; 41] = [
     *b"U            ",
     *b"R            ",
     *b"OP           ",
@@ -50,10 +54,13 @@ const SIGNS: [[u8; 13]; 38] = [
     *b">=           ",
     *b"=            ",
     *b"!=           ",
+    *b"operations(  ",
+    *b"(            ",
+    *b"(            ",
 ];
 
 // How many bytes of its row each is.
-const LENGTHS: [usize; 38] = [
+const LENGTHS: [usize; 41] = [
     1,
     1,
     2,
@@ -92,11 +99,14 @@ const LENGTHS: [usize; 38] = [
     2,
     1,
     2,
+    11,
+    1,
+    1,
 ];
 
 // The name or sign of an operation on terms or counts.
 pub fn put_sign(out: &mut [u8], at: usize, op: u32) -> usize
-    requires { ⌜ op < whenOp ⌝ }
+    requires { ⌜ op < signsEnd ⌝ }
     requires { ⌜ at ≤ length (now out) ⌝ }
     ensures { λ r. ⌜ Adds (signOf op) (now (out .entry)) (now (out .exit)) at r ⌝ }
 {
@@ -122,13 +132,11 @@ pub fn put_number(out: &mut [u8], at: usize, m: usize) -> usize
 
 // What opens a term of two terms.
 pub fn put_open(out: &mut [u8], at: usize, op: u32) -> usize
+    requires { ⌜ (firstPair ≤ op) × (op < memberOp) ⌝ }
     requires { ⌜ at ≤ length (now out) ⌝ }
     ensures { λ r. ⌜ Adds (openOf op) (now (out .entry)) (now (out .exit)) at r ⌝ }
 {
-    if op == OPERATIONS {
-        return put(out, at, b"operations(");
-    }
-    put(out, at, b"(")
+    put_sign(out, at, op - FIRST_PAIR + OPENINGS)
 }
 
 // The variable of index `d`: v1 for the first.

@@ -2,9 +2,9 @@
 -- Assumes nothing.
 use mathlib.Core.Path.{sym}
 use lib.Seq.{length-take-le}
-use Rattle.syntax.specs.Term.{spell, parting, spellMiddle}
+use Rattle.syntax.specs.Term.{spell, opening, parting, spellMiddle}
 use Rattle.syntax.specs.Rule.{spellBetween, spellCmp}
-use Rattle.printer.specs.code.Signs.{signs, cmpSigns}
+use Rattle.printer.specs.code.Signs.{signs, cmpSigns, openings}
 use Rattle.printer.proofs.PrintedLaws.{row, row-room, row-text, adds-as}
 use borrow.Author.Needs.{needs}
 use Rattle.printer.proofs.names.put_sign.Statement.{statement}
@@ -23,11 +23,11 @@ array-read-n : tie.Need-array-read-n
 array-read-n c = search needs
 
 array-share-prefix-row : tie.Need-array-share-prefix-row
-unfolding row signs cmpSigns spell parting spellMiddle spellBetween spellCmp
+unfolding row signs cmpSigns openings opening spell parting spellMiddle spellBetween spellCmp
 array-share-prefix-row c = row-room signs (c .before .before .before .args .op)
 
 slice-aggregate-put : tie.Need-slice-aggregate-put
-unfolding row signs cmpSigns spell parting spellMiddle spellBetween spellCmp
+unfolding row signs cmpSigns openings opening spell parting spellMiddle spellBetween spellCmp
 slice-aggregate-put c = sym (length-take-le _ _ (row-room signs (c .before .before .before .before .args .op)))
 
 put-requires : tie.Need-put-requires
@@ -37,7 +37,7 @@ same-length : tie.Need-same-length
 same-length c = search needs
 
 returns : tie.Need-returns
-unfolding row signs cmpSigns spell parting spellMiddle spellBetween spellCmp
+unfolding row signs cmpSigns openings opening spell parting spellMiddle spellBetween spellCmp
 returns c = adds-as (row-text signs (c .before .before .before .before .before .before .before .args .op)) (c .before .before .put .ensures)
 
 pub put-sign-spec : {M : Type 1} → statement M

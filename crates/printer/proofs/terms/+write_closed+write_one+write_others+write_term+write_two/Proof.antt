@@ -251,7 +251,7 @@ write-two-op-at-requires : (t : ℕ) → write-two-lts.Need-op-at-requires (writ
 write-two-op-at-requires t c κs = ready-size (c .before .before .before .pre .1 .0)
 
 write-two-put-open-requires : (t : ℕ) → write-two-lts.Need-put-open-requires (write-two-called t) (write-two-at t) write-two.Post
-write-two-put-open-requires t c κs = c .before .before .before .before .before .pre .1 .1 .1
+write-two-put-open-requires t c κs = ((omega (arith, c .before .before .before .before .before .pre, c .before .op-at .ensures), omega (arith, c .before .before .before .before .before .pre, c .before .op-at .ensures)), c .before .before .before .before .before .pre .1 .1 .1)
 
 write-two-left-at-requires : (t : ℕ) → write-two-lts.Need-left-at-requires (write-two-called t) (write-two-at t) write-two.Post
 write-two-left-at-requires t c κs = ready-size (c .before .before .before .before .before .before .before .before .pre .1 .0)
