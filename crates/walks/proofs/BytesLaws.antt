@@ -8,7 +8,7 @@ use native.Mathlib.Nat.{mod-lt, add-zero}
 use native.Mathlib.Omega.{arith}
 use lib.Dec.{eqb, lit<}
 use lib.ListN.{length, getD, set, length-set, List·getD-eq-default}
-use lib.Pow.{pow-pos, shr-shr, shl-shr, low}
+use lib.Pow.{pow-pos, shr-shr, shl-shr, shl-exact, low}
 use lib.Seq.{getD-set-same, getD-set-other, ext-getD}
 use borrow.Author.Tests.{eq-eqb, ne-eqb, lt-ltb}
 use Rattle.words.specs.Words.{has, allOf, meetOf, joinOf, lessOf}
@@ -171,3 +171,17 @@ masks-out n word mask z m u i l k h = go (ℕ-discrete u n)
     go : Dec (u ≡ n) → has mask (8 * u + i) ≡ true
     go (yes e) = absurd (true≢false (sym h ∙ ap (has word) e ∙ z))
     go (no ne) = m u i (omega arith) k h
+
+-- ---- as the code shifts: in a word of 64 bits nothing is lost
+
+pub byte-shift : (v x : ℕ) → v < 8 → x < 256 → x * 2 ^ (8 * v) % 2 ^ 64 ≡ x * 2 ^ (8 * v)
+byte-shift v x lv lx = shl-exact {a = x} 8 (8 * v) 64 lx (omega arith)
+
+pub put-word : (w v x cleared r : ℕ) → v < 8 → x < 256 → cleared ≡ lessOf w (255 * 2 ^ (8 * v) % 2 ^ 64) → r ≡ joinOf cleared (x * 2 ^ (8 * v) % 2 ^ 64)
+    → choiceOf r ≡ set (choiceOf w) v x
+put-word w v x cleared r lv lx e f =
+    ap choiceOf (f ∙ ap₂ joinOf (e ∙ ap (lessOf w) (byte-shift v 255 lv (lit< tt))) (byte-shift v x lv lx)) ∙ choice-put w v x lv lx
+
+-- one turn of the loop that joins a mask
+pub masks-next : (n word mask r : ℕ) → n < 8 → MasksTo n word mask → r ≡ joinOf mask (255 * 2 ^ (8 * n) % 2 ^ 64) → MasksTo (n + 1) word r
+masks-next n word mask r l m e = rw (e, byte-shift n 255 l (lit< tt)) (masks-in n word mask l m)

@@ -7,6 +7,8 @@ ghost use Rattle.walks.specs.Order.{count, isSmall, isOnce, isFree, isAf
 ghost use Rattle.walks.specs.Share.{shareOf};
 ghost use Rattle.walks.specs.code.Tally.{Joined};
 
+pub mod kept;
+
 // What judging carries up: full and breaking choices, and the first breaking one (255 where there is none).
 pub struct Tally {
     pub full: u64,

@@ -1,7 +1,7 @@
 -- Counts that are kept, each with the choice that it was counted under, as flat lists of numbers.
 -- Internal: contracts of entry points do not speak of it. Assumes nothing.
 use mathlib.Core.Path.{_≡_}
-use mathlib.Core.Bool.{true}
+use mathlib.Core.Bool.{Bool, true}
 use mathlib.Core.List.{List, [], _∷_}
 use Prim.Native.Nat.{ℕ, zero, suc, _+_, _*_, _/_, _%_, _^_, _<_}
 use lib.ListN.{length, getD, set, drop}
@@ -50,6 +50,10 @@ pub record KeptRight (s : Sets) (K : Clauses) (levels order contexts kept : List
   pub right : (k : ℕ) → k < 1024 → (getD kept (3 * k) 0 ≡ unwritten → ⊥)
       → (c : List ℕ) → length c ≡ 8 → Alike (getD contexts (k / 64) 0) (choiceOf (getD kept (3 * k + 2) 0)) c
       → Counted s K levels order (k / 512) (k / 64 % 8) c (getD kept (3 * k) 0) (getD kept (3 * k + 1) 0)
+
+-- r says only of a written entry, with that key, that there is one.
+abbrev pub Hit : List ℕ → ℕ → ℕ → Bool → Type 0
+Hit kept k key r = r ≡ true → (getD kept (3 * k) 0 ≡ unwritten → ⊥) × (getD kept (3 * k + 2) 0 ≡ key)
 
 -- An entry is written.
 abbrev pub written : List ℕ → ℕ → ℕ → ℕ → ℕ → List ℕ

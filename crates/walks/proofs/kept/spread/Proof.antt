@@ -1,0 +1,67 @@
+-- `walks::kept::spread` meets its contract. The invariant: the mask has the bytes of the variables below u.
+-- Assumes nothing.
+use mathlib.Core.Path.{sym, _∙_}
+use mathlib.Core.Logic.{⊎-elim}
+use Prim.Native.Nat.{_-_, _≤_}
+use native.Mathlib.Omega.{arith}
+use borrow.Author.Needs.{needs}
+use Rattle.walks.specs.code.Kept.{MasksTo}
+use Rattle.walks.proofs.BytesLaws.{masks-start, masks-next, masks-out}
+use borrow.Author.Needs.{needs}
+use Rattle.walks.proofs.kept.spread.Statement.{statement}
+use Rattle.walks.proofs.kept.spread.Tie as tie
+
+abbrev Inv-loop : tie.InvT-loop
+Inv-loop word mask₀ u₀ mask u = (u ≤ 8) × MasksTo u word mask
+
+abbrev μ-loop : tie.MeasureT-loop
+μ-loop word mask₀ u₀ mask u = 8 - u
+
+loop-holds : tie.Need-loop-holds Inv-loop μ-loop
+loop-holds c = (omega arith, masks-start _)
+
+contains-requires : tie.Need-contains-requires Inv-loop μ-loop
+contains-requires c κs = omega arith
+
+mul-join : tie.Need-mul-join Inv-loop μ-loop
+mul-join c = omega arith
+
+shl-join : tie.Need-shl-join Inv-loop μ-loop
+shl-join c = omega arith
+
+join-requires : tie.Need-join-requires Inv-loop μ-loop
+join-requires c κs = search needs
+
+add-u : tie.Need-add-u Inv-loop μ-loop
+add-u c = omega arith
+
+loop-less : tie.Need-loop-less Inv-loop μ-loop
+loop-less c = omega arith
+
+loop-again : tie.Need-loop-again Inv-loop μ-loop
+loop-again c = (
+  omega arith,
+  ⊎-elim
+      (λ w. masks-next _ _ _ _ (c .before .before .loop-test .taken) (c .before .before .before .loop .inv .1) (w .2 ∙ w .1 .ensures))
+      (λ w. rw (w .1) (masks-out _ _ _ (sym (c .before .contains .ensures) ∙ w .0 .left) (c .before .before .before .loop .inv .1)))
+      (c .if1 .came),
+)
+
+returns : tie.Need-returns Inv-loop μ-loop
+returns c = λ u i l. c .before .loop .inv .1 u i (omega arith)
+
+pub spread-spec : {M : Type 1} → statement M
+spread-spec =
+    tie.close
+    (tie.spec
+    Inv-loop
+    μ-loop
+    loop-holds
+    contains-requires
+    mul-join
+    shl-join
+    join-requires
+    add-u
+    loop-less
+    loop-again
+    returns)

@@ -1,0 +1,88 @@
+// A choice in one word, a byte for each variable, and counts that are kept with the choice that they were counted under.
+ghost use mathlib.Core.Path.{_≡_};
+ghost use Prim.Native.Nat.{_+_, _*_, _<_};
+ghost use lib.ListN.{length, getD, set};
+ghost use Rattle.walks.specs.code.Kept.{choiceOf, Masks, written, Hit};
+
+// The word of no choice: each byte is 255. A slot whose full count is this was not written: no count is as large.
+pub const NOTHING: u64 = 18446744073709551615;
+
+const UNWRITTEN: u64 = NOTHING;
+
+const BITS: usize = 8;
+
+const BYTE: u64 = 255;
+
+// How many numbers an entry has: full, breaking, the choice.
+const ENTRY: usize = 3;
+
+pub struct Counts {
+    pub full: u64,
+    pub breaking: u64,
+}
+
+// The item of the variable v.
+pub fn byte(choice: u64, v: usize) -> usize
+    requires { ⌜ v < 8 ⌝ }
+    ensures { λ r. ⌜ r ≡ getD (choiceOf choice) v 0 ⌝ }
+{
+    ((choice >> (BITS * v)) % (BYTE + 1)) as usize
+}
+
+// The choice with x put at the variable v.
+pub fn put(choice: u64, v: usize, x: usize) -> u64
+    requires { ⌜ (v < 8) × (x < 256) ⌝ }
+    ensures { λ r. ⌜ choiceOf r ≡ set (choiceOf choice) v x ⌝ }
+{
+    let at = BITS * v;
+    words::join(words::less(choice, BYTE << at), (x as u64) << at)
+}
+
+// All the bits of the bytes of those variables.
+pub fn spread(word: u64) -> u64
+    ensures { λ r. ⌜ Masks word r ⌝ }
+{
+    let mut mask = 0;
+    let mut u = 0;
+    while u < 8 {
+        if words::contains(word, u) {
+            mask = words::join(mask, BYTE << (BITS * u));
+        }
+        u += 1;
+    }
+    mask
+}
+
+// Whether the slot was written, under that key.
+pub fn hit(kept: &[u64], slot: usize, key: u64) -> bool
+    requires { ⌜ (slot < 1024) × (length (now kept) ≡ 3072) ⌝ }
+    ensures { λ r. ⌜ Hit (now (kept .entry)) slot key r ⌝ }
+{
+    let at = ENTRY * slot;
+    if kept[at] == UNWRITTEN {
+        return false;
+    }
+    kept[at + 2] == key
+}
+
+// What the slot has.
+pub fn taken(kept: &[u64], slot: usize) -> Counts
+    requires { ⌜ (slot < 1024) × (length (now kept) ≡ 3072) ⌝ }
+    ensures { λ r. ⌜ (r .full ≡ getD (now (kept .entry)) (3 * slot) 0) × (r .breaking ≡ getD (now (kept .entry)) (3 * slot + 1) 0) ⌝ }
+{
+    let at = ENTRY * slot;
+    let full = kept[at];
+    let breaking = kept[at + 1];
+    Counts { full, breaking }
+}
+
+// An entry is written.
+pub fn keep(kept: &mut [u64], slot: usize, counts: Counts, key: u64)
+    requires { ⌜ (slot < 1024) × (length (now kept) ≡ 3072) ⌝ }
+    ensures { λ _. ⌜ now (kept .exit) ≡ written (now (kept .entry)) slot (counts .full) (counts .breaking) key ⌝ }
+{
+    let at = ENTRY * slot;
+    kept[at] = counts.full;
+    kept[at + 1] = counts.breaking;
+    kept[at + 2] = key;
+}
