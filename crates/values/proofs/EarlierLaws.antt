@@ -1,7 +1,7 @@
 -- The set of a rule's variable names only earlier variables of the rule.
 -- Assumes nothing.
-use mathlib.Core.Path.{_≡_, refl, ap, sym, _∙_}
-use mathlib.Core.Bool.{Bool, true, false, _||_, true≢false}
+use mathlib.Core.Path.{_≡_, ap, sym, _∙_}
+use mathlib.Core.Bool.{true, true≢false}
 use mathlib.Core.List.{[], _∷_, _++_, append-assoc}
 use mathlib.Core.Option.{some}
 use Prim.Native.Nat.{ℕ, zero, suc, _+_, _<_}
@@ -14,11 +14,8 @@ use Rattle.syntax.specs.Rule.{Rule, ruleVars}
 use Rattle.syntax.proofs.Closed.{Known, Ordered, rule-ordered}
 use Rattle.values.specs.Values.{variableOf}
 use Rattle.values.specs.Sets.{namesIn, names}
+use Rattle.values.proofs.ReadsLaws.{or-case}
 use Rattle.values.proofs.VariableLaws.{variable-digit, variable-more}
-
-or-case : {C : Type 0} (a b : Bool) → (a || b) ≡ true → (a ≡ true → C) → (b ≡ true → C) → C
-or-case true b e f g = f refl
-or-case false b e f g = g e
 
 -- A term whose choices are all among σ names only variables of σ.
 module _ (σ ys : Choices) (u : ℕ) where

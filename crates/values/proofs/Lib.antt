@@ -5,6 +5,8 @@ pub mod EarlierLaws
 pub mod NodeLaws
 pub mod ValueLaws
 pub mod TruthLaws
+pub mod ClausesLaws
+pub mod ScopeLaws
 pub mod InsideLaws
 pub mod BoundLaws
 pub mod NamesLaws

@@ -22,6 +22,10 @@ pub or-right : (a b : Bool) → b ≡ true → (a || b) ≡ true
 or-right true b e = refl
 or-right false b e = e
 
+pub or-case : {C : Type 0} (a b : Bool) → (a || b) ≡ true → (a ≡ true → C) → (b ≡ true → C) → C
+or-case true b e f g = f refl
+or-case false b e f g = g e
+
 -- Two choices that agree in the variables that t names.
 abbrev Agree : Choices → Term → List ℕ → List ℕ → Type 0
 Agree σ t c d = (u : ℕ) → namesIn σ t u ≡ true → getD c u 0 ≡ getD d u 0

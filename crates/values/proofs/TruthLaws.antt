@@ -1,40 +1,45 @@
 -- Whether a node's test, clause or rule is true, by the number of its operation and what is below it.
 -- Assumes nothing.
 use mathlib.Core.Path.{_≡_, refl, sym, ap, _∙_}
-use mathlib.Core.Bool.{Bool, true, false, not}
+use mathlib.Core.Bool.{Bool, true, false, not, _||_, _&&_, true≢false}
 use mathlib.Core.List.{List}
 use Prim.Native.Nat.{ℕ, _+_, _-_, _<_, _≤_}
 use native.Mathlib.Omega.{arith}
-use lib.Dec.{eqb}
+use lib.Dec.{eqb, leb, ltb}
+use borrow.Author.Tests.{lt-ltb, le-leb}
 use lib.ListN.{getD}
 use Rattle.words.specs.Words.{meetOf, sizeOf}
 use Rattle.tables.specs.Tables.{Tables}
 use Rattle.syntax.specs.Term.{Term, Choices}
 use Rattle.syntax.specs.Rule.{Cmp, lt, le, gt, ge, eq, ne, Sign, is, isnt, number, count, Test, member, alike, empty, sized}
 use Rattle.syntax.specs.Rule.{Clause, plain, when, Rule, last, also}
-use Rattle.syntax.specs.code.Arena.{alikeOp, emptyOp, cmpNumber, Numbered, Holds, HoldsTest, HoldsClause, HoldsRule}
-use Rattle.syntax.specs.code.Nodes.{memberOp, firstAlike, firstEmpty, firstNumbered, firstCounted, whenOp, alsoOp, opAt, leftAt, rightAt, opRoom}
-use Rattle.syntax.proofs.ArenaLaws.{Parts, parts, one-parts, both-parts}
+use Rattle.syntax.specs.code.Arena.{alikeOp, emptyOp, cmpNumber, Numbered, Holds, HoldsTest, HoldsClause, HoldsRule, hasTwo, Low, Down, Tidy}
+use Rattle.syntax.specs.code.Nodes.{firstPair, memberOp, firstAlike, firstEmpty, firstNumbered, firstCounted, whenOp, alsoOp, opAt, leftAt, rightAt, opRoom, operationOf, leftOf, rightOf}
+use Rattle.syntax.proofs.ArenaLaws.{Parts, parts, one-parts, both-parts, holds-one}
 use Rattle.values.specs.Values.{value}
 use Rattle.values.specs.Truth.{compared, signed, countValue, testTrue, clauseTrue, ruleTrue}
+use Rattle.values.specs.Sets.{namesIn}
 use Rattle.values.specs.code.Nodes.{cmpAt, relatedAt, emptyAt}
+use Rattle.values.specs.code.Cache.{ValuedIn}
+use Rattle.values.proofs.ReadsLaws.{or-left, or-right}
+use Rattle.values.specs.code.Clauses.{testNames, clauseNames, TestNode, ClauseNodes, TestsAt}
 
 -- The numbers of the tests.
 pub record Within (low o high : ℕ) : Type 0 where
   pub least : low ≤ o
   pub most : o < high
 
-alike-range : (g : Sign) → Within firstAlike (alikeOp g) firstEmpty
+pub alike-range : (g : Sign) → Within firstAlike (alikeOp g) firstEmpty
 unfolding alikeOp
 alike-range is = record { least = omega arith; most = omega arith }
 alike-range isnt = record { least = omega arith; most = omega arith }
 
-empty-range : (g : Sign) → Within firstEmpty (emptyOp g) firstNumbered
+pub empty-range : (g : Sign) → Within firstEmpty (emptyOp g) firstNumbered
 unfolding emptyOp
 empty-range is = record { least = omega arith; most = omega arith }
 empty-range isnt = record { least = omega arith; most = omega arith }
 
-cmp-small : (d : Cmp) → cmpNumber d < 6
+pub cmp-small : (d : Cmp) → cmpNumber d < 6
 unfolding cmpNumber
 cmp-small lt = omega arith
 cmp-small le = omega arith
@@ -70,17 +75,17 @@ not-not : (b : Bool) → not (not b) ≡ b
 not-not true = refl
 not-not false = refl
 
-numbered-parts : {ns : List ℕ} {k o i m : ℕ} → Numbered ns k o i m → o < opRoom → Parts (getD ns k 0) o i m
+pub numbered-parts : {ns : List ℕ} {k o i m : ℕ} → Numbered ns k o i m → o < opRoom → Parts (getD ns k 0) o i m
 numbered-parts {ns} {k} {o} {i} {m} x h = parts (getD ns k 0) o i m (x .node) h (x .small)
 
-opOfTest : Test → ℕ
+unfoldable pub opOfTest : Test → ℕ
 opOfTest (member a b) = memberOp
 opOfTest (alike g a b) = alikeOp g
 opOfTest (empty g a) = emptyOp g
 opOfTest (sized d a (number m)) = firstNumbered + cmpNumber d
 opOfTest (sized d a (count b)) = firstCounted + cmpNumber d
 
-test-op : (ns : List ℕ) (k : ℕ) (p : Test) → HoldsTest ns k p → opAt ns k ≡ opOfTest p
+pub test-op : (ns : List ℕ) (k : ℕ) (p : Test) → HoldsTest ns k p → opAt ns k ≡ opOfTest p
 unfolding HoldsTest opOfTest
 test-op ns k (member a b) x = both-parts (x .2) (omega arith) .op
 test-op ns k (alike g a b) x = both-parts (x .2) (omega (arith, alike-range g .most)) .op
@@ -174,31 +179,12 @@ module _ (ns : List ℕ) (k : ℕ) where
         let o : opAt ns k - firstCounted ≡ cmpNumber d = omega (arith, q .op) in
         e ∙ rw (o, cmp-at d, v, w)
 
-    -- A clause is a test where its number is not 38;
-    pub clause-test : (q : Clause) → HoldsClause ns k q → (r : Bool) → (opAt ns k ≡ whenOp → ⊥)
-        → ((p : Test) → HoldsTest ns k p → r ≡ testTrue T σ c p) → r ≡ clauseTrue T σ c q
-    unfolding HoldsClause clauseTrue
-    clause-test (plain p) x r h ih = ih p x
-    clause-test (when p q) x r h ih = absurd (h (both-parts (x .2) (omega arith) .op))
-
-    -- where it is, a is its first test, and r the second where a is true.
-    pub clause-when : (q : Clause) → HoldsClause ns k q → (a : Bool) → opAt ns k ≡ whenOp
-        → ((p : Test) → HoldsTest ns (leftAt ns k) p → a ≡ testTrue T σ c p)
-        → ((r : Bool) → a ≡ true → ((p : Test) → HoldsTest ns (rightAt ns k) p → r ≡ testTrue T σ c p) → r ≡ clauseTrue T σ c q)
-        × (a ≡ false → true ≡ clauseTrue T σ c q)
-    unfolding HoldsClause clauseTrue
-    clause-when (plain p) x a h ih = absurd (omega (arith, test-range p x .most))
-    clause-when (when p q) x a h ih =
-        let y = both-parts (x .2) (omega arith) in
-        let f : a ≡ testTrue T σ c p = ih p (rw (y .left) (x .3)) in
-        (λ r e jh. jh q (rw (y .right) (x .4)) ∙ rw (← f, e) (sym (not-not (testTrue T σ c q))), λ e. rw (← f, e))
-
     clause-small : (q : Clause) → HoldsClause ns k q → opAt ns k < alsoOp
     unfolding HoldsClause
     clause-small (plain p) x = omega (arith, test-range p x .most)
     clause-small (when p q) x = omega (arith, both-parts (x .2) (omega arith) .op)
 
-    -- The same of rules, with 39.
+    -- A rule is a clause where its number is not that of `^`; where it is, a is its first clause, and r the rest where a is true.
     pub rule-clause : (ρ : Rule) → HoldsRule ns k ρ → (r : Bool) → (opAt ns k ≡ alsoOp → ⊥)
         → ((q : Clause) → HoldsClause ns k q → r ≡ clauseTrue T σ c q) → r ≡ ruleTrue T σ c ρ
     unfolding HoldsRule ruleTrue
@@ -215,3 +201,165 @@ module _ (ns : List ℕ) (k : ℕ) where
         let y = both-parts (x .2) (omega arith) in
         let f : a ≡ clauseTrue T σ c q = ih q (rw (y .left) (x .3)) in
         (λ r e jh. jh ρ (rw (y .right) (x .4)) ∙ rw (← f, e), λ e. rw (← f, e))
+
+-- ---- a test by the number of its node, where the cache has the values of its terms
+
+-- What stands below a node with two below it.
+pub low-two : {v n : ℕ} → Low v n → firstPair ≤ operationOf v → operationOf v < firstEmpty → rightOf v < n
+unfolding hasTwo
+low-two {v} {n} l h m = l .right (rw (le-leb firstPair (operationOf v) h, lt-ltb (operationOf v) firstEmpty m))
+
+pub low-two₂ : {v n : ℕ} → Low v n → firstCounted ≤ operationOf v → rightOf v < n
+unfolding hasTwo
+low-two₂ {v} {n} l h =
+    l .right (or-right (leb firstPair (operationOf v) && ltb (operationOf v) firstEmpty) (leb firstCounted (operationOf v)) (le-leb firstCounted (operationOf v) h))
+
+-- A test names what its terms name: that at its left, and where it has two that at its right.
+module _ (ns : List ℕ) (σ : Choices) (k : ℕ) where
+  names-left : (p : Test) → HoldsTest ns k p → (b : Term) → Holds ns (leftAt ns k) b → (u : ℕ) → namesIn σ b u ≡ true → testNames σ p u ≡ true
+  unfolding HoldsTest testNames
+  names-left (member s t) x b y u e =
+      let z : Holds ns (leftAt ns k) s = rw (both-parts (x .2) (omega arith) .left) (x .3) in
+      or-left (namesIn σ s u) (namesIn σ t u) (rw (← holds-one ns (leftAt ns k) b s y z) e)
+  names-left (alike g s t) x b y u e =
+      let z : Holds ns (leftAt ns k) s = rw (both-parts (x .2) (omega (arith, alike-range g .most)) .left) (x .3) in
+      or-left (namesIn σ s u) (namesIn σ t u) (rw (← holds-one ns (leftAt ns k) b s y z) e)
+  names-left (empty g s) x b y u e =
+      let z : Holds ns (leftAt ns k) s = rw (one-parts (x .1) (omega (arith, empty-range g .most)) .left) (x .2) in
+      rw (← holds-one ns (leftAt ns k) b s y z) e
+  names-left (sized d s (number m)) x b y u e =
+      let z : Holds ns (leftAt ns k) s = rw (numbered-parts (x .1) (omega (arith, cmp-small d)) .left) (x .2) in
+      rw (← holds-one ns (leftAt ns k) b s y z) e
+  names-left (sized d s (count t)) x b y u e =
+      let z : Holds ns (leftAt ns k) s = rw (both-parts (x .2) (omega (arith, cmp-small d)) .left) (x .3) in
+      or-left (namesIn σ s u) (namesIn σ t u) (rw (← holds-one ns (leftAt ns k) b s y z) e)
+
+  names-right : (p : Test) → HoldsTest ns k p → (firstEmpty ≤ opAt ns k → firstCounted ≤ opAt ns k) → (b : Term) → Holds ns (rightAt ns k) b
+      → (u : ℕ) → namesIn σ b u ≡ true → testNames σ p u ≡ true
+  unfolding HoldsTest testNames opOfTest
+  names-right (member s t) x h b y u e =
+      let z : Holds ns (rightAt ns k) t = rw (both-parts (x .2) (omega arith) .right) (x .4) in
+      or-right (namesIn σ s u) (namesIn σ t u) (rw (← holds-one ns (rightAt ns k) b t y z) e)
+  names-right (alike g s t) x h b y u e =
+      let z : Holds ns (rightAt ns k) t = rw (both-parts (x .2) (omega (arith, alike-range g .most)) .right) (x .4) in
+      or-right (namesIn σ s u) (namesIn σ t u) (rw (← holds-one ns (rightAt ns k) b t y z) e)
+  names-right (empty g s) x h b y u e =
+      let q = test-op ns k (empty g s) x in
+      let r = empty-range g in
+      absurd (omega (arith, h (omega arith)))
+  names-right (sized d s (number m)) x h b y u e =
+      let q = test-op ns k (sized d s (number m)) x in
+      let r = cmp-small d in
+      absurd (omega (arith, h (omega arith)))
+  names-right (sized d s (count t)) x h b y u e =
+      let z : Holds ns (rightAt ns k) t = rw (both-parts (x .2) (omega (arith, cmp-small d)) .right) (x .4) in
+      or-right (namesIn σ s u) (namesIn σ t u) (rw (← holds-one ns (rightAt ns k) b t y z) e)
+
+module _ {ns : List ℕ} {n v : ℕ} {p : Test} (x : TestNode ns n v p) (op left right : ℕ) (eo : op ≡ operationOf v) (el : left ≡ leftOf v) (er : right ≡ rightOf v) where
+  pub op-is : opAt ns (x .at) ≡ op
+  op-is = ap operationOf (x .node) ∙ sym eo
+
+  pub of-range : Within memberOp op whenOp
+  of-range = let r = test-range ns (x .at) p (x .holds) in record { least = omega (arith, op-is, r .least); most = omega (arith, op-is, r .most) }
+
+  module _ (T : Tables) (σ : Choices) (c cache : List ℕ) (K : ValuedIn ns n cache T σ c (testNames σ p)) where
+    left-is : leftAt ns (x .at) ≡ left
+    left-is = ap leftOf (x .node) ∙ sym el
+
+    right-is : rightAt ns (x .at) ≡ right
+    right-is = ap rightOf (x .node) ∙ sym er
+
+    left-value : (s : Term) → Holds ns (leftAt ns (x .at)) s → getD cache left 0 ≡ value T σ c s
+    left-value s y =
+        let r = of-range in
+        K left (rw el (x .low .left (omega (arith, eo)))) s (rw left-is at y) (names-left ns σ (x .at) p (x .holds) s y)
+
+    right-value : right < n → (firstEmpty ≤ op → firstCounted ≤ op) → (s : Term) → Holds ns (rightAt ns (x .at)) s → getD cache right 0 ≡ value T σ c s
+    right-value l h s y =
+        K right l s (rw right-is at y) (names-right ns σ (x .at) p (x .holds) (λ m. omega (arith, op-is, h (omega (arith, op-is)))) s y)
+
+    pub of-related : (r : Bool) → op < firstEmpty → r ≡ relatedAt op (getD cache left 0) (getD cache right 0) → r ≡ testTrue T σ c p
+    of-related r m e =
+        let o = of-range in
+        test-related ns (x .at) T σ c p (x .holds) (getD cache left 0) (getD cache right 0) r (omega (arith, op-is)) left-value
+        (right-value (rw er (low-two (x .low) (omega (arith, eo)) (omega (arith, eo)))) (λ h. omega arith))
+        (rw op-is e)
+
+    pub of-empty : (r : Bool) → firstEmpty ≤ op → op < firstNumbered → r ≡ emptyAt op (getD cache left 0) → r ≡ testTrue T σ c p
+    of-empty r l m e = test-empty ns (x .at) T σ c p (x .holds) (getD cache left 0) r (omega (arith, op-is)) (omega (arith, op-is)) left-value (rw op-is e)
+
+    pub of-number : (y : ℕ) (r : Bool) → firstNumbered ≤ op → op < firstCounted → y ≡ sizeOf (getD cache left 0)
+        → r ≡ compared (cmpAt (op - firstNumbered)) y right → r ≡ testTrue T σ c p
+    of-number y r l m f e =
+        test-number ns (x .at) T σ c p (x .holds) (getD cache left 0) y r (omega (arith, op-is)) (omega (arith, op-is)) left-value f (rw (op-is, right-is) e)
+
+    pub of-count : (y z : ℕ) (r : Bool) → firstCounted ≤ op → y ≡ sizeOf (getD cache left 0) → z ≡ sizeOf (getD cache right 0)
+        → r ≡ compared (cmpAt (op - firstCounted)) y z → r ≡ testTrue T σ c p
+    of-count y z r l f g e =
+        test-count ns (x .at) T σ c p (x .holds) (getD cache left 0) (getD cache right 0) y z r (omega (arith, op-is)) left-value
+        (right-value (rw er (low-two₂ (x .low) (omega (arith, eo)))) (λ h. l)) f g (rw op-is e)
+
+-- ---- a clause by the nodes of its tests
+
+-- No test has the number 0.
+pub no-test : {ns : List ℕ} {n : ℕ} {p : Test} → TestNode ns n 0 p → ⊥
+no-test x = let r = of-range x 0 0 0 refl refl refl in omega (arith, r .least)
+
+module _ {ns : List ℕ} {n first second : ℕ} (T : Tables) (σ : Choices) (c cache : List ℕ) where
+  -- One test is the clause;
+  pub of-one : (q : Clause) → ClauseNodes ns n first second q → second ≡ 0 → (r : Bool)
+      → ((p : Test) → TestNode ns n first p → ValuedIn ns n cache T σ c (testNames σ p) → r ≡ testTrue T σ c p)
+      → ValuedIn ns n cache T σ c (clauseNames σ q) → r ≡ clauseTrue T σ c q
+  unfolding ClauseNodes clauseTrue clauseNames
+  of-one (plain p) x z r ih K = ih p (x .0) K
+  of-one (when p q) x z r ih K = absurd (no-test (rw z at (x .1)))
+
+  -- of two, a is the first, and r the second where a is true.
+  pub of-two : (q : Clause) → ClauseNodes ns n first second q → (second ≡ 0 → ⊥) → (a : Bool)
+      → ((p : Test) → TestNode ns n first p → ValuedIn ns n cache T σ c (testNames σ p) → a ≡ testTrue T σ c p)
+      → ValuedIn ns n cache T σ c (clauseNames σ q)
+      → ((r : Bool) → a ≡ true → ((p : Test) → TestNode ns n second p → ValuedIn ns n cache T σ c (testNames σ p) → r ≡ testTrue T σ c p) → r ≡ clauseTrue T σ c q)
+      × (a ≡ false → true ≡ clauseTrue T σ c q)
+  unfolding ClauseNodes clauseTrue clauseNames
+  of-two (plain p) x z a ih K = absurd (z (x .1))
+  of-two (when p q) x z a ih K =
+      let f : a ≡ testTrue T σ c p = ih p (x .0) (λ i l s y h. K i l s y (λ u e. or-left (testNames σ p u) (testNames σ q u) (h u e))) in (
+        λ r e jh.
+            jh q (x .1) (λ i l s y h. K i l s y (λ u e. or-right (testNames σ p u) (testNames σ q u) (h u e)))
+            ∙ rw (← f, e) (sym (not-not (testTrue T σ c q))),
+        λ e. rw (← f, e),
+      )
+
+-- ---- the tests of the clause of a node
+
+pub low-more : {v k n : ℕ} → Low v k → k ≤ n → Low v n
+low-more l h = record { op = l .op; left = λ m. omega (arith, l .left m); right = λ m. omega (arith, l .right m) }
+
+module _ {ns : List ℕ} {n : ℕ} (d : Tidy ns n) where
+  low-at : (k : ℕ) → k < n → Low (getD ns k 0) n
+  unfolding Down
+  low-at k h = low-more (d .down k h) (omega arith)
+
+  low-none : Low 0 n
+  unfolding hasTwo
+  low-none = record { op = omega arith; left = λ m. absurd (omega arith); right = λ m. absurd (true≢false (sym m)) }
+
+  pub tests-one : (k : ℕ) → k < n → (opAt ns k ≡ whenOp → ⊥) → TestsAt ns n k (getD ns k 0) 0
+  unfolding ClauseNodes HoldsClause
+  tests-one k h o = record { low = low-at k h; low₂ = low-none; tests = go }
+    where
+      go : (q : Clause) → HoldsClause ns k q → ClauseNodes ns n (getD ns k 0) 0 q
+      go (plain p) x = (record { at = k; node = refl; low = low-at k h; holds = x }, refl)
+      go (when p q) x = absurd (o (both-parts (x .2) (omega arith) .op))
+
+  pub tests-two : (k i j : ℕ) → k < n → opAt ns k ≡ whenOp → i ≡ leftAt ns k → j ≡ rightAt ns k → i < n → j < n → TestsAt ns n k (getD ns i 0) (getD ns j 0)
+  unfolding ClauseNodes HoldsClause
+  tests-two k i j h o el er li lj = record { low = low-at i li; low₂ = low-at j lj; tests = go }
+    where
+      go : (q : Clause) → HoldsClause ns k q → ClauseNodes ns n (getD ns i 0) (getD ns j 0) q
+      go (plain p) x = absurd (omega (arith, test-range ns k p x .most))
+      go (when p q) x =
+          let y = both-parts (x .2) (omega arith) in (
+            record { at = i; node = refl; low = low-at i li; holds = rw (el, y .left) (x .3) },
+            record { at = j; node = refl; low = low-at j lj; holds = rw (er, y .right) (x .4) },
+          )

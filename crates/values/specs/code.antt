@@ -1,4 +1,5 @@
 -- What only the code needs: nobody has to believe these definitions to read what the entry points promise.
 pub mod Cache
+pub mod Clauses
 pub mod Levels
 pub mod Nodes

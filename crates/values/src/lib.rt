@@ -4,5 +4,6 @@ mod calls;
 mod items;
 pub mod levels;
 pub mod names;
+pub mod scopes;
 pub mod terms;
 pub mod truth;

@@ -1,21 +1,20 @@
-// Whether a node's rule is true, where a cache has the values of the terms.
+// Whether a rule is true, where a cache has the values of the terms: by the numbers of the nodes of its tests.
 use crate::items;
+use syntax::nodes;
 use syntax::nodes::ALSO;
 use syntax::nodes::FIRST_COUNTED;
 use syntax::nodes::FIRST_NUMBERED;
-use syntax::nodes::INDEX_ROOM;
 use syntax::nodes::IS;
 use syntax::nodes::IS_EMPTY;
 use syntax::nodes::MEMBER;
-use syntax::nodes::OP_ROOM;
-use syntax::nodes::RIGHT_UNIT;
 use syntax::nodes::WHEN;
 ghost use mathlib.Core.Path.{_≡_};
 ghost use Prim.Native.Nat.{_<_, _≤_};
 ghost use lib.ListN.{length};
-ghost use Rattle.syntax.specs.code.Arena.{Tidy};
+ghost use Rattle.syntax.specs.code.Arena.{Low, Tidy};
 ghost use Rattle.values.specs.code.Nodes.{relatedAt, emptyAt};
-ghost use Rattle.values.specs.code.Cache.{TestAt, ClauseAt, TruthAt};
+ghost use Rattle.values.specs.code.Cache.{TestOf, ClauseOf, TruthAt};
+ghost use Rattle.values.specs.code.Clauses.{TestsAt};
 
 // `@`, `=` and `!=` of two values. An element is in a set where they have an item in common.
 fn related(op: u32, a: u64, b: u64) -> bool
@@ -37,20 +36,19 @@ fn empty(op: u32, a: u64) -> bool
     if op == IS_EMPTY { a == 0 } else { a != 0 }
 }
 
-fn test(nodes: &[u32], n: usize, cache: &[u64], k: usize) -> bool
-    requires { ⌜ Tidy (now nodes) n × (k < n) × (n ≤ length (now cache)) ⌝ }
-    ensures { λ r. ⌜ TestAt (now (nodes .entry)) n (now (cache .entry)) k r ⌝ }
+fn test(node: u32, cache: &[u64]) -> bool
+    requires { ⌜ Low node (length (now cache)) ⌝ }
+    ensures { λ r. ⌜ TestOf node (now (cache .entry)) r ⌝ }
 {
-    let node = nodes[k];
-    let op = node % OP_ROOM;
+    let op = nodes::operation(node);
     if op < MEMBER {
         return false;
     }
     if WHEN <= op {
         return false;
     }
-    let left = (node / OP_ROOM % INDEX_ROOM) as usize;
-    let right = (node / RIGHT_UNIT) as usize;
+    let left = nodes::left(node) as usize;
+    let right = nodes::right(node) as usize;
     let a = cache[left];
     if op < IS_EMPTY {
         return related(op, a, cache[right]);
@@ -66,21 +64,44 @@ fn test(nodes: &[u32], n: usize, cache: &[u64], k: usize) -> bool
     items::compare((op - FIRST_COUNTED) as usize, x, y)
 }
 
+// A clause of the two tests, or of the first where the second is 0, which is no test.
 // `=>` is false only where its first test is true and its second false.
-fn clause(nodes: &[u32], n: usize, cache: &[u64], k: usize) -> bool
-    requires { ⌜ Tidy (now nodes) n × (k < n) × (n ≤ length (now cache)) ⌝ }
-    ensures { λ r. ⌜ ClauseAt (now (nodes .entry)) n (now (cache .entry)) k r ⌝ }
+pub fn clause(first: u32, second: u32, cache: &[u64]) -> bool
+    requires { ⌜ Low first (length (now cache)) × Low second (length (now cache)) ⌝ }
+    ensures { λ r. ⌜ ClauseOf first second (now (cache .entry)) r ⌝ }
 {
-    let node = nodes[k];
-    if node % OP_ROOM != WHEN {
-        return test(nodes, n, cache, k);
+    if second == 0 {
+        return test(first, cache);
     }
-    let left = (node / OP_ROOM % INDEX_ROOM) as usize;
-    let right = (node / RIGHT_UNIT) as usize;
-    if test(nodes, n, cache, left) {
-        return test(nodes, n, cache, right);
+    if test(first, cache) {
+        return test(second, cache);
     }
     true
+}
+
+// The nodes of a clause's tests, the second 0 where there is one test.
+pub struct Tests {
+    pub first: u32,
+    pub second: u32,
+}
+
+// The tests of the clause of node k.
+pub fn tests_at(nodes: &[u32], n: usize, k: usize) -> Tests
+    requires { ⌜ Tidy (now nodes) n × (k < n) ⌝ }
+    ensures { λ r. ⌜ TestsAt (now (nodes .entry)) n k (r .first) (r .second) ⌝ }
+{
+    let node = nodes[k];
+    if nodes::operation(node) != WHEN {
+        return Tests {
+            first: node,
+            second: 0,
+        };
+    }
+    let left = nodes::left(node) as usize;
+    let right = nodes::right(node) as usize;
+    let first = nodes[left];
+    let second = nodes[right];
+    Tests { first, second }
 }
 
 // `^` means and: clause by clause, to the first that is false.
@@ -89,13 +110,15 @@ pub fn truth(nodes: &[u32], n: usize, cache: &[u64], k: usize) -> bool
     ensures { λ r. ⌜ TruthAt (now (nodes .entry)) n (now (cache .entry)) k r ⌝ }
 {
     let mut at = k;
-    while nodes[at] % OP_ROOM == ALSO {
-        let left = (nodes[at] / OP_ROOM % INDEX_ROOM) as usize;
-        if clause(nodes, n, cache, left) {
-            at = (nodes[at] / RIGHT_UNIT) as usize;
+    while nodes::operation(nodes[at]) == ALSO {
+        let left = nodes::left(nodes[at]) as usize;
+        let tests = tests_at(nodes, n, left);
+        if clause(tests.first, tests.second, cache) {
+            at = nodes::right(nodes[at]) as usize;
         } else {
             return false;
         }
     }
-    clause(nodes, n, cache, at)
+    let tests = tests_at(nodes, n, at);
+    clause(tests.first, tests.second, cache)
 }

@@ -1,11 +1,13 @@
 -- `values::truth::truth` meets its contract. The invariant: what is true at the node reached is true at the first.
 -- Assumes nothing.
+use borrow.Author.Needs.{needs}
+use mathlib.Core.Path.{sym, _∙_}
 use mathlib.Core.Bool.{Bool}
 use native.Mathlib.Omega.{arith}
 use Prim.Native.Nat.{_<_}
 use Rattle.values.specs.code.Cache.{TruthAt}
 use Rattle.values.proofs.NodeLaws.{left-in, right-in₂, right-below₂}
-use Rattle.values.proofs.TruthLaws.{rule-clause, rule-also}
+use Rattle.values.proofs.TruthLaws.{rule-clause, rule-also, low-more}
 use Rattle.values.proofs.truth.truth.Statement.{statement}
 use Rattle.values.proofs.truth.truth.Tie as tie
 
@@ -18,51 +20,70 @@ abbrev μ-loop : tie.MeasureT-loop
 loop-holds : tie.Need-loop-holds Inv-loop μ-loop
 loop-holds c = (c .before .before .pre .1, λ r h. h)
 
-mul-if1 : tie.Need-mul-if1 Inv-loop μ-loop
-mul-if1 c = omega (arith, c .loop .inv .0, c .before .before .before .pre .0 .fits, c .before .before .before .pre .0 .size)
+mul-operation : tie.Need-mul-operation Inv-loop μ-loop
+mul-operation c = omega (arith, c .loop .inv .0, c .before .before .before .pre .0 .fits, c .before .before .before .pre .0 .size)
 
-shared-slice-read-if1 : tie.Need-shared-slice-read-if1 Inv-loop μ-loop
-shared-slice-read-if1 c = omega (arith, c .before .loop .inv .0, c .before .before .before .before .pre .0 .fits)
+shared-slice-read-operation : tie.Need-shared-slice-read-operation Inv-loop μ-loop
+shared-slice-read-operation c = omega (arith, c .before .loop .inv .0, c .before .before .before .before .pre .0 .fits)
+
+operation-requires : tie.Need-operation-requires Inv-loop μ-loop
+operation-requires c κs = search needs
 
 mul-left : tie.Need-mul-left Inv-loop μ-loop
-mul-left c = omega (arith, c .before .before .loop .inv .0, c .before .before .before .before .before .pre .0 .fits, c .before .before .before .before .before .pre .0 .size)
+mul-left c = omega (arith, c .before .before .before .loop .inv .0, c .before .before .before .before .before .before .pre .0 .fits, c .before .before .before .before .before .before .pre .0 .size)
 
 shared-slice-read-left : tie.Need-shared-slice-read-left Inv-loop μ-loop
-shared-slice-read-left c = omega (arith, c .before .before .before .loop .inv .0, c .before .before .before .before .before .before .pre .0 .fits)
+shared-slice-read-left c = omega (arith, c .before .before .before .before .loop .inv .0, c .before .before .before .before .before .before .before .pre .0 .fits)
+
+left-requires : tie.Need-left-requires Inv-loop μ-loop
+left-requires c κs = search needs
 
 cast-left : tie.Need-cast-left Inv-loop μ-loop
 cast-left c = omega arith
 
+tests-at-requires : tie.Need-tests-at-requires Inv-loop μ-loop
+tests-at-requires c κs = (c .before .before .before .before .before .before .before .before .pre .0, omega (arith, left-in (c .before .before .before .before .before .before .before .before .pre .0) (c .before .before .before .before .before .loop .inv .0) (omega (arith, c .before .before .before .operation .ensures, c .before .before .if1 .taken)), c .left .ensures))
+
 clause-requires : tie.Need-clause-requires Inv-loop μ-loop
-clause-requires c κs = let P = c .before .before .before .before .before .before .pre in (P .0, left-in (P .0) (c .before .before .before .loop .inv .0) (omega (arith, c .before .if1 .taken)), P .2)
+clause-requires c κs = (low-more (c .tests-at .ensures .low) (c .before .before .before .before .before .before .before .before .before .pre .2), low-more (c .tests-at .ensures .low₂) (c .before .before .before .before .before .before .before .before .before .pre .2))
 
-mul-at : tie.Need-mul-at Inv-loop μ-loop
-mul-at c = omega (arith, c .before .before .before .before .before .loop .inv .0, c .before .before .before .before .before .before .before .before .pre .0 .fits, c .before .before .before .before .before .before .before .before .pre .0 .size)
+mul-right : tie.Need-mul-right Inv-loop μ-loop
+mul-right c = omega (arith, c .before .before .before .before .before .before .before .before .loop .inv .0, c .before .before .before .before .before .before .before .before .before .before .before .pre .0 .fits, c .before .before .before .before .before .before .before .before .before .before .before .pre .0 .size)
 
-shared-slice-read-at : tie.Need-shared-slice-read-at Inv-loop μ-loop
-shared-slice-read-at c = omega (arith, c .before .before .before .before .before .before .loop .inv .0, c .before .before .before .before .before .before .before .before .before .pre .0 .fits)
+shared-slice-read-right : tie.Need-shared-slice-read-right Inv-loop μ-loop
+shared-slice-read-right c = omega (arith, c .before .before .before .before .before .before .before .before .before .loop .inv .0, c .before .before .before .before .before .before .before .before .before .before .before .before .pre .0 .fits)
+
+right-requires : tie.Need-right-requires Inv-loop μ-loop
+right-requires c κs = search needs
 
 cast-at : tie.Need-cast-at Inv-loop μ-loop
-cast-at c = omega (arith, c .shared-slice-known5 .given (c .before .before .before .before .before .before .loop .at))
+cast-at c = omega arith
 
 loop-less : tie.Need-loop-less Inv-loop μ-loop
-loop-less c = right-below₂ (c .before .before .before .before .before .before .before .before .before .pre .0) (c .before .before .before .before .before .before .loop .inv .0) (omega (arith, c .before .before .before .before .if1 .taken))
+loop-less c = omega (arith, right-below₂ (c .before .before .before .before .before .before .before .before .before .before .before .before .before .pre .0) (c .before .before .before .before .before .before .before .before .before .before .loop .inv .0) (omega (arith, c .before .before .before .before .before .before .before .before .operation .ensures, c .before .before .before .before .before .before .before .if1 .taken)), c .right .ensures)
 
 loop-again : tie.Need-loop-again Inv-loop μ-loop
 loop-again c = (
-  right-in₂ (c .before .before .before .before .before .before .before .before .before .pre .0) (c .before .before .before .before .before .before .loop .inv .0) (omega (arith, c .before .before .before .before .if1 .taken)),
-  λ r h. c .before .before .before .before .before .before .loop .inv .1 r
-      (λ T σ d K ρ x. rule-also (c .before .before .before .before .before .before .before .before .before .args .nodes .now) (c .before .before .before .before .before .before .loop .at) T σ d ρ x (c .before .before .clause .result) (c .before .before .before .before .if1 .taken) (c .before .before .clause .ensures T σ d K) .0 r (c .before .if2 .taken) (h T σ d K)),
+  omega (arith, right-in₂ (c .before .before .before .before .before .before .before .before .before .before .before .before .before .pre .0) (c .before .before .before .before .before .before .before .before .before .before .loop .inv .0) (omega (arith, c .before .before .before .before .before .before .before .before .operation .ensures, c .before .before .before .before .before .before .before .if1 .taken)), c .right .ensures),
+  λ r h. c .before .before .before .before .before .before .before .before .before .before .loop .inv .1 r
+      (λ T σ d K ρ x. rule-also (c .before .before .before .before .before .before .before .before .before .before .before .before .before .args .nodes .now) (c .before .before .before .before .before .before .before .before .before .before .loop .at) T σ d ρ x (c .before .before .before .clause .result) (sym (c .before .before .before .before .before .before .before .before .operation .ensures) ∙ c .before .before .before .before .before .before .before .if1 .taken)
+      (λ q y. c .before .before .before .clause .ensures _ _ q (c .before .before .before .before .tests-at .ensures .tests q (rw (c .before .before .before .before .before .left .ensures) y)) T σ d (λ i l a z o. K i l a z)) .0 r (c .before .before .if2 .taken)
+      (λ π y. h T σ d K π (rw (c .right .ensures) y))),
 )
 
 returns : tie.Need-returns Inv-loop μ-loop
-returns c = c .before .before .before .before .before .loop .inv .1 _ (λ T σ d K ρ x. rule-also (c .before .before .before .before .before .before .before .before .args .nodes .now) (c .before .before .before .before .before .loop .at) T σ d ρ x (c .before .clause .result) (c .before .before .before .if1 .taken) (c .before .clause .ensures T σ d K) .1 (c .if2 .left))
+returns c = c .before .before .before .before .before .before .before .before .loop .inv .1 _ (λ T σ d K ρ x. rule-also (c .before .before .before .before .before .before .before .before .before .before .before .args .nodes .now) (c .before .before .before .before .before .before .before .before .loop .at) T σ d ρ x (c .before .clause .result) (sym (c .before .before .before .before .before .before .operation .ensures) ∙ c .before .before .before .before .before .if1 .taken)
+    (λ q y. c .before .clause .ensures _ _ q (c .before .before .tests-at .ensures .tests q (rw (c .before .before .before .left .ensures) y)) T σ d (λ i l a z o. K i l a z)) .1 (c .if2 .left))
+
+tests-at-requires-2 : tie.Need-tests-at-requires-2 Inv-loop μ-loop
+tests-at-requires-2 c κs = (c .before .before .before .before .before .before .pre .0, c .before .before .before .loop .inv .0)
 
 clause-requires-2 : tie.Need-clause-requires-2 Inv-loop μ-loop
-clause-requires-2 c κs = (c .before .before .before .before .before .pre .0, c .before .before .loop .inv .0, c .before .before .before .before .before .pre .2)
+clause-requires-2 c κs = (low-more (c .tests-at2 .ensures .low) (c .before .before .before .before .before .before .before .pre .2), low-more (c .tests-at2 .ensures .low₂) (c .before .before .before .before .before .before .before .pre .2))
 
 returns-2 : tie.Need-returns-2 Inv-loop μ-loop
-returns-2 c = c .before .before .before .loop .inv .1 _ (λ T σ d K ρ x. rule-clause (c .before .before .before .before .before .before .args .nodes .now) (c .before .before .before .loop .at) T σ d ρ x (c .clause2 .result) (c .before .if1 .left) (c .clause2 .ensures T σ d K))
+returns-2 c = c .before .before .before .before .before .loop .inv .1 _ (λ T σ d K ρ x. rule-clause (c .before .before .before .before .before .before .before .before .args .nodes .now) (c .before .before .before .before .before .loop .at) T σ d ρ x (c .clause2 .result) (λ e. c .before .before .if1 .left (c .before .before .before .operation .ensures ∙ e))
+    (λ q y. c .clause2 .ensures _ _ q (c .before .tests-at2 .ensures .tests q y) T σ d (λ i l a z o. K i l a z)))
 
 pub truth-spec : {M : Type 1} → statement M
 truth-spec =
@@ -71,17 +92,22 @@ truth-spec =
     Inv-loop
     μ-loop
     loop-holds
-    mul-if1
-    shared-slice-read-if1
+    mul-operation
+    shared-slice-read-operation
+    operation-requires
     mul-left
     shared-slice-read-left
+    left-requires
     cast-left
+    tests-at-requires
     clause-requires
-    mul-at
-    shared-slice-read-at
+    mul-right
+    shared-slice-read-right
+    right-requires
     cast-at
     loop-less
     loop-again
     returns
+    tests-at-requires-2
     clause-requires-2
     returns-2)
