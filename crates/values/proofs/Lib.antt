@@ -14,4 +14,5 @@ pub mod ItemLaws
 pub mod LevelLaws
 pub mod ChainLaws
 pub mod SettleLaws
+pub mod PlanLaws
 pub mod NamingLaws

@@ -335,18 +335,18 @@ module _ {ns : List ℕ} {n first second : ℕ} (T : Tables) (σ : Choices) (c c
 pub low-more : {v k n : ℕ} → Low v k → k ≤ n → Low v n
 low-more l h = record { op = l .op; left = λ m. omega (arith, l .left m); right = λ m. omega (arith, l .right m) }
 
+pub low-none : (n : ℕ) → Low 0 n
+unfolding hasTwo
+low-none n = record { op = omega arith; left = λ m. absurd (omega arith); right = λ m. absurd (true≢false (sym m)) }
+
 module _ {ns : List ℕ} {n : ℕ} (d : Tidy ns n) where
   low-at : (k : ℕ) → k < n → Low (getD ns k 0) n
   unfolding Down
   low-at k h = low-more (d .down k h) (omega arith)
 
-  low-none : Low 0 n
-  unfolding hasTwo
-  low-none = record { op = omega arith; left = λ m. absurd (omega arith); right = λ m. absurd (true≢false (sym m)) }
-
   pub tests-one : (k : ℕ) → k < n → (opAt ns k ≡ whenOp → ⊥) → TestsAt ns n k (getD ns k 0) 0
   unfolding ClauseNodes HoldsClause
-  tests-one k h o = record { low = low-at k h; low₂ = low-none; tests = go }
+  tests-one k h o = record { low = low-at k h; low₂ = low-none n; tests = go }
     where
       go : (q : Clause) → HoldsClause ns k q → ClauseNodes ns n (getD ns k 0) 0 q
       go (plain p) x = (record { at = k; node = refl; low = low-at k h; holds = x }, refl)

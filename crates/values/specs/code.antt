@@ -3,3 +3,4 @@ pub mod Cache
 pub mod Clauses
 pub mod Levels
 pub mod Nodes
+pub mod Plan

@@ -14,7 +14,7 @@ ghost use Rattle.values.specs.code.Levels.{Level, Levels, levelCount, Ch
 pub const LEVELS: usize = CHOICES_LIMIT + 1;
 
 // How many variables of the order stand up to the last one that the word has.
-fn level(word: u64, order: &[u8]) -> u8
+pub fn level(word: u64, order: &[u8]) -> u8
     requires { ⌜ (length (now order) ≤ choicesLimit) × ((i : ℕ) → i < length (now order) → getD (now order) i 0 < 64) ⌝ }
     ensures { λ r. ⌜ Level (now (order .entry)) (has word) r ⌝ }
 {

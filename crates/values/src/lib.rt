@@ -4,6 +4,7 @@ mod calls;
 mod items;
 pub mod levels;
 pub mod names;
+pub mod plan;
 pub mod scopes;
 pub mod terms;
 pub mod truth;

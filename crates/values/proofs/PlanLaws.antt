@@ -1,0 +1,121 @@
+-- Evaluating by a plan: the value of a node by its word, the test of a level's clauses, and that nothing outside the slices is read.
+-- Assumes nothing.
+use mathlib.Core.Path.{_≡_, refl, sym, ap, _∙_}
+use mathlib.Core.Bool.{Bool, true, false, not, _&&_, true≢false}
+use mathlib.Core.List.{List, []}
+use Prim.Native.Nat.{ℕ, _+_, _<_, _≤_}
+use native.Mathlib.Omega.{arith}
+use borrow.Author.Tests.{eq-eqb, ne-eqb}
+use lib.ListN.{length, getD}
+use Rattle.words.specs.Words.{itemOf, lessOf}
+use Rattle.tables.specs.Tables.{Tables}
+use Rattle.syntax.specs.Term.{Term, Choices}
+use Rattle.syntax.specs.Rule.{Clause, plain, when, Rule, ruleVars}
+use Rattle.syntax.specs.code.Arena.{Holds, hasTwo, Low, Down, Tidy}
+use Rattle.syntax.specs.code.Nodes.{firstCall, oeOp, aoOp, firstPair, memberOp, opAt, leftAt, rightAt, operationOf, leftOf, rightOf}
+use Rattle.rules.specs.Kind.{baseKind}
+use Rattle.rules.specs.code.Numbers.{kindsFit, kindOf}
+use Rattle.walks.specs.code.Clauses.{levelIs, falseTo}
+use Rattle.walks.proofs.ClauseLaws.{test-start, test-in, test-out}
+use Rattle.values.specs.Items.{kindItems}
+use Rattle.values.specs.Values.{value, callValue, oneValue, twoValue}
+use Rattle.values.specs.Truth.{clauseTrue}
+use Rattle.values.specs.code.Nodes.{baseAt, fnAt, pairAt, World}
+use Rattle.values.specs.code.Cache.{Fed}
+use Rattle.values.specs.code.Clauses.{clauseAt, ClauseNodes}
+use Rattle.values.specs.code.Plan.{nodeIn, kindIn, variableIn, nextIn, firstIn, secondIn, planLength, planRoom, nodesAt, clausesAt, clausesFrom, Step, Runs, NodesIn, ClausesIn, falseAt}
+use Rattle.values.proofs.NodeLaws.{term-small}
+use Rattle.values.proofs.ValueLaws.{value-base, value-one, value-call, value-others, value-two}
+use Rattle.values.proofs.TruthLaws.{low-more, low-none}
+use Rattle.values.proofs.ClausesLaws.{clausesOf}
+
+-- ---- the value of a node by its word
+
+module _ {ts ns : List ℕ} {n : ℕ} {ks vs next : List ℕ} {k w : ℕ} {T : Tables} {σ : Choices} (d : Tidy ns n) (long : n ≤ length ks) (h : k < n)
+    (S : Step ns ks vs next k w) (W : World ts ns n ks vs T σ) (c : List ℕ) (t : Term) (x : Holds ns k t) (op : ℕ) (eo : op ≡ operationOf (nodeIn w)) where
+  op-is : opAt ns k ≡ op
+  op-is = ap operationOf (sym (S .node)) ∙ sym eo
+
+  pub step-small : op < memberOp
+  step-small = omega (arith, op-is, term-small ns k t x)
+
+  pub step-base : (r : ℕ) → op < firstCall → r ≡ kindItems T (baseKind (baseAt op)) → r ≡ value T σ c t
+  step-base r m e = value-base d long W c k h t x (omega (arith, op-is)) (rw op-is e)
+
+  pub step-one : (i r : ℕ) → op ≡ oeOp → i ≡ getD c (variableIn w) 0 → (kindIn w < kindsFit → r ≡ oneValue T (kindOf (kindIn w)) i) → r ≡ value T σ c t
+  step-one i r m f g =
+      let o : firstCall ≤ opAt ns k = omega (arith, op-is) in
+      value-one d long W c k h t x (variableIn w) i r (op-is ∙ m) (S .variable o) f (rw (S .kind o) at g)
+
+  module _ (cache : List ℕ) (F : Fed T σ c ns cache k) (left : ℕ) (el : left ≡ leftOf (nodeIn w)) where
+    left-is : leftAt ns k ≡ left
+    left-is = ap leftOf (sym (S .node)) ∙ sym el
+
+    pub step-call : (r : ℕ) → firstCall ≤ op → op < oeOp → (kindIn w < kindsFit → r ≡ callValue T (fnAt op) (kindOf (kindIn w)) (getD cache left 0)) → r ≡ value T σ c t
+    step-call r m m′ g =
+        let o : firstCall ≤ opAt ns k = omega (arith, op-is) in
+        value-call d long W c k h t x (getD cache (leftAt ns k) 0) r o (omega (arith, op-is)) (F .left o (λ e. omega (arith, op-is)))
+        (rw op-is (rw (sym left-is) at (rw (S .kind o) at g)))
+
+    pub step-others : (i j r : ℕ) → op ≡ aoOp → i ≡ getD c (variableIn w) 0 → j ≡ itemOf i → r ≡ lessOf (getD cache left 0) j → r ≡ value T σ c t
+    step-others i j r m f g s =
+        let o : firstCall ≤ opAt ns k = omega (arith, op-is) in
+        value-others d long W c k h t x (getD cache (leftAt ns k) 0) (variableIn w) i j r (op-is ∙ m) (F .left o (λ e. omega (arith, op-is))) (S .variable o) f g
+        (rw left-is s)
+
+    pub step-two : (right r : ℕ) → right ≡ rightOf (nodeIn w) → firstPair ≤ op → r ≡ twoValue T (pairAt op) (getD cache left 0) (getD cache right 0) → r ≡ value T σ c t
+    step-two right r er m g =
+        let right-is : rightAt ns k ≡ right = ap rightOf (sym (S .node)) ∙ sym er in
+        let o : firstPair ≤ opAt ns k = omega (arith, op-is) in
+        value-two d long W c k h t x (getD cache (leftAt ns k) 0) (getD cache (rightAt ns k) 0) r o (F .left (omega arith) (λ e. omega (arith, op-is))) (F .right o)
+        (rw (left-is, right-is, op-is) g)
+
+-- ---- the test of a level's clauses, one by one
+
+module _ (T : Tables) (ρ : Rule) (levels : List ℕ) (d : ℕ) (c : List ℕ) where
+  pub holds-start : falseAt T ρ levels d c 0 ≡ not true
+  unfolding falseTo
+  holds-start = test-start (clausesOf T ρ) (levelIs levels d) c
+
+  -- a clause of the level, which holds or not; and one of another level
+  module _ (i : ℕ) (all : Bool) (q : falseAt T ρ levels d c i ≡ not all) where
+    one-more : (t : Bool) → getD levels i 0 ≡ d → t ≡ clauseTrue T (ruleVars [] ρ) c (clauseAt ρ i) → falseAt T ρ levels d c (i + 1) ≡ not (all && t)
+    unfolding falseTo
+    one-more t e f = test-in (clausesOf T ρ) (levelIs levels d) c i all t (eq-eqb (getD levels i 0) d e) f q
+
+    pub holds-true : (t : Bool) → getD levels i 0 ≡ d → t ≡ clauseTrue T (ruleVars [] ρ) c (clauseAt ρ i) → t ≡ true → falseAt T ρ levels d c (i + 1) ≡ not all
+    holds-true t e f s = one-more t e f ∙ ap not (ap (λ (b : Bool). all && b) s ∙ and-yes all)
+      where
+        and-yes : (a : Bool) → (a && true) ≡ a
+        and-yes true = refl
+        and-yes false = refl
+
+    pub holds-false : (t : Bool) → getD levels i 0 ≡ d → t ≡ clauseTrue T (ruleVars [] ρ) c (clauseAt ρ i) → t ≡ false → falseAt T ρ levels d c (i + 1) ≡ not false
+    holds-false t e f s = one-more t e f ∙ ap not (ap (λ (b : Bool). all && b) s ∙ and-no all)
+      where
+        and-no : (a : Bool) → (a && false) ≡ false
+        and-no true = refl
+        and-no false = refl
+
+    pub holds-out : (getD levels i 0 ≡ d → ⊥) → falseAt T ρ levels d c (i + 1) ≡ not all
+    unfolding falseTo
+    holds-out e = test-out (clausesOf T ρ) (levelIs levels d) c i all (ne-eqb (getD levels i 0) d e) q
+
+-- ---- what is in a plan keeps evaluating within its slices
+
+clause-low : (ns : List ℕ) (n first second : ℕ) (q : Clause) → ClauseNodes ns n first second q → Low first n × Low second n
+unfolding ClauseNodes
+clause-low ns n first second (plain p) x = (x .0 .low, rw (x .1) (low-none n))
+clause-low ns n first second (when p q) x = (x .0 .low, x .1 .low)
+
+pub runs : {plan ns : List ℕ} {n : ℕ} {ks vs levels : List ℕ} {ρ : Rule} → length plan ≡ planLength → n ≤ planRoom → NodesIn plan ns n ks vs levels → ClausesIn plan ns n ρ → Runs plan
+unfolding Down
+runs {plan} {ns} {n} {ρ = ρ} long small N C = record {
+  long = long;
+  fewNodes = omega (arith, N .many);
+  nodes = λ k l. let m : k < n = omega (arith, N .many) in rw (N .each k m .node) (low-more (N .tidy .down k m) (omega arith));
+  up = λ k l. let m : k < n = omega (arith, N .many) in omega (arith, N .each k m .goes, N .linked .each k m .start);
+  fewClauses = omega (arith, C .many, C .few);
+  firsts = λ i l. low-more (clause-low ns n _ _ (clauseAt ρ i) (C .each i (omega (arith, C .many))) .0) small;
+  seconds = λ i l. low-more (clause-low ns n _ _ (clauseAt ρ i) (C .each i (omega (arith, C .many))) .1) small;
+}
