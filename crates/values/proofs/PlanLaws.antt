@@ -25,7 +25,7 @@ use Rattle.values.specs.code.Cache.{Fed}
 use Rattle.values.specs.code.Clauses.{clauseAt, ClauseNodes}
 use Rattle.values.specs.code.Plan.{nodeIn, kindIn, variableIn, nextIn, firstIn, secondIn, planLength, planRoom, nodesAt, clausesAt, clausesFrom, Step, Runs, NodesIn, ClausesIn, falseAt}
 use Rattle.values.proofs.NodeLaws.{term-small}
-use Rattle.values.proofs.ValueLaws.{value-base, value-one, value-call, value-others, value-two}
+use Rattle.values.proofs.ValueLaws.{fed-left, fed-right, value-base, value-one, value-call, value-others, value-two}
 use Rattle.values.proofs.TruthLaws.{low-more, low-none}
 use Rattle.values.proofs.ClausesLaws.{clausesOf}
 
@@ -33,42 +33,40 @@ use Rattle.values.proofs.ClausesLaws.{clausesOf}
 
 module _ {ts ns : List ℕ} {n : ℕ} {ks vs next : List ℕ} {k w : ℕ} {T : Tables} {σ : Choices} (d : Tidy ns n) (long : n ≤ length ks) (h : k < n)
     (S : Step ns ks vs next k w) (W : World ts ns n ks vs T σ) (c : List ℕ) (t : Term) (x : Holds ns k t) (op : ℕ) (eo : op ≡ operationOf (nodeIn w)) where
-  op-is : opAt ns k ≡ op
-  op-is = ap operationOf (sym (S .node)) ∙ sym eo
+  op-is : op ≡ opAt ns k
+  op-is = eo ∙ ap operationOf (S .node)
 
   pub step-small : op < memberOp
   step-small = omega (arith, op-is, term-small ns k t x)
 
   pub step-base : (r : ℕ) → op < firstCall → r ≡ kindItems T (baseKind (baseAt op)) → r ≡ value T σ c t
-  step-base r m e = value-base d long W c k h t x (omega (arith, op-is)) (rw op-is e)
+  step-base r m e = value-base d long W c k h t x op-is m e
 
   pub step-one : (i r : ℕ) → op ≡ oeOp → i ≡ getD c (variableIn w) 0 → (kindIn w < kindsFit → r ≡ oneValue T (kindOf (kindIn w)) i) → r ≡ value T σ c t
   step-one i r m f g =
       let o : firstCall ≤ opAt ns k = omega (arith, op-is) in
-      value-one d long W c k h t x (variableIn w) i r (op-is ∙ m) (S .variable o) f (rw (S .kind o) at g)
+      value-one d long W c k h t x op-is refl i r m (rw (S .variable o) at f) (rw (S .kind o) at g)
 
   module _ (cache : List ℕ) (F : Fed T σ c ns cache k) (left : ℕ) (el : left ≡ leftOf (nodeIn w)) where
-    left-is : leftAt ns k ≡ left
-    left-is = ap leftOf (sym (S .node)) ∙ sym el
+    left-is : left ≡ leftAt ns k
+    left-is = el ∙ ap leftOf (S .node)
 
     pub step-call : (r : ℕ) → firstCall ≤ op → op < oeOp → (kindIn w < kindsFit → r ≡ callValue T (fnAt op) (kindOf (kindIn w)) (getD cache left 0)) → r ≡ value T σ c t
     step-call r m m′ g =
         let o : firstCall ≤ opAt ns k = omega (arith, op-is) in
-        value-call d long W c k h t x (getD cache (leftAt ns k) 0) r o (omega (arith, op-is)) (F .left o (λ e. omega (arith, op-is)))
-        (rw op-is (rw (sym left-is) at (rw (S .kind o) at g)))
+        value-call d long W c k h t x op-is left-is (getD cache left 0) r m m′ (fed-left F op-is left-is m (λ e. omega arith)) (rw (S .kind o, ← left-is) at g)
 
     pub step-others : (i j r : ℕ) → op ≡ aoOp → i ≡ getD c (variableIn w) 0 → j ≡ itemOf i → r ≡ lessOf (getD cache left 0) j → r ≡ value T σ c t
     step-others i j r m f g s =
         let o : firstCall ≤ opAt ns k = omega (arith, op-is) in
-        value-others d long W c k h t x (getD cache (leftAt ns k) 0) (variableIn w) i j r (op-is ∙ m) (F .left o (λ e. omega (arith, op-is))) (S .variable o) f g
-        (rw left-is s)
+        value-others d long W c k h t x op-is left-is (getD cache left 0) i j r m (fed-left F op-is left-is (omega arith) (λ e. omega arith))
+        (rw (S .variable o, ← left-is) at f) g s
 
     pub step-two : (right r : ℕ) → right ≡ rightOf (nodeIn w) → firstPair ≤ op → r ≡ twoValue T (pairAt op) (getD cache left 0) (getD cache right 0) → r ≡ value T σ c t
     step-two right r er m g =
-        let right-is : rightAt ns k ≡ right = ap rightOf (sym (S .node)) ∙ sym er in
-        let o : firstPair ≤ opAt ns k = omega (arith, op-is) in
-        value-two d long W c k h t x (getD cache (leftAt ns k) 0) (getD cache (rightAt ns k) 0) r o (F .left (omega arith) (λ e. omega (arith, op-is))) (F .right o)
-        (rw (left-is, right-is, op-is) g)
+        let right-is : right ≡ rightAt ns k = er ∙ ap rightOf (S .node) in
+        value-two d long W c k h t x op-is left-is right-is (getD cache left 0) (getD cache right 0) r m
+        (fed-left F op-is left-is (omega arith) (λ e. omega arith)) (fed-right F op-is right-is m) g
 
 -- ---- the test of a level's clauses, one by one
 

@@ -12,6 +12,7 @@ ghost use mathlib.Core.Path.{_≡_};
 ghost use Prim.Native.Nat.{_<_};
 ghost use lib.ListN.{length, getD};
 ghost use Rattle.syntax.specs.code.Arena.{Low};
+ghost use Rattle.tables.specs.code.Layout.{Whole};
 ghost use Rattle.walks.specs.code.Kept.{choiceOf};
 ghost use Rattle.values.specs.code.Plan.{stepOf, nodeIn, planRoom, Runs, StepOf, SettlesBy, HoldsOf};
 
@@ -56,7 +57,7 @@ fn chosen(choice: u64, u: usize) -> usize
 
 // The value of a node from those right below it, which the cache has.
 fn step(t: &[u64], word: u64, choice: u64, cache: &[u64]) -> u64
-    requires { ⌜ (length (now t) ≡ 704) × Low (nodeIn word) (length (now cache)) ⌝ }
+    requires { ⌜ Whole (now t) × Low (nodeIn word) (length (now cache)) ⌝ }
     ensures { λ r. ⌜ StepOf (now (t .entry)) word choice (now (cache .entry)) r ⌝ }
 {
     let node = (word % NODE_ROOM) as u32;
@@ -86,7 +87,7 @@ fn step(t: &[u64], word: u64, choice: u64, cache: &[u64]) -> u64
 
 // Evaluates the nodes of a level: the cache has one level more.
 pub fn settle(t: &[u64], plan: &[u64], choice: u64, cache: &mut [u64], level: usize)
-    requires { ⌜ (length (now t) ≡ 704) × Runs (now plan) × (length (now cache) ≡ planRoom) × (level < 9) ⌝ }
+    requires { ⌜ Whole (now t) × Runs (now plan) × (length (now cache) ≡ planRoom) × (level < 9) ⌝ }
     ensures { λ _. ⌜ SettlesBy (now (t .entry)) (now (plan .entry)) choice level (now (cache .entry)) (now (cache .exit)) ⌝ }
 {
     let n = plan[NODE_COUNT] as usize;

@@ -12,6 +12,7 @@ use walks::kept::Counts;
 ghost use mathlib.Core.Path.{_≡_};
 ghost use Prim.Native.Nat.{_<_};
 ghost use lib.ListN.{length};
+ghost use Rattle.tables.specs.code.Layout.{Whole};
 ghost use Rattle.values.specs.code.Plan.{planRoom, planLength, Runs};
 ghost use Rattle.verdicts.specs.code.Counting.{SlotOf, Enters, Standing, Counts as Counted};
 
@@ -36,7 +37,7 @@ fn enter(
     choice: u64,
     cache: &mut [u64],
 ) -> usize
-    requires { ⌜ (length (now t) ≡ 704) × Runs (now plan) × (length (now cache) ≡ planRoom) × (level < 9) × (mode < 2) ⌝ }
+    requires { ⌜ Whole (now t) × Runs (now plan) × (length (now cache) ≡ planRoom) × (level < 9) × (mode < 2) ⌝ }
     ensures { λ r. ⌜ Enters (now (t .entry)) (now (plan .entry)) mode level choice (now (cache .entry)) (now (cache .exit)) r ⌝ }
 {
     settle(t, plan, choice, cache, level);

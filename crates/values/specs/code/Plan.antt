@@ -13,7 +13,7 @@ use Rattle.syntax.specs.code.Nodes.{firstCall, opAt, leftAt}
 use Rattle.walks.specs.code.Clauses.{levelIs}
 use Rattle.walks.specs.code.Kept.{choiceOf}
 use Rattle.values.specs.Truth.{clauseTrue}
-use Rattle.values.specs.code.Nodes.{placeIn}
+use Rattle.rules.specs.code.Variables.{placeIn}
 use Rattle.values.specs.code.Levels.{Levels, Following, Linked}
 use Rattle.values.specs.code.Cache.{StepAt, Stored, ValuedIn}
 use Rattle.values.specs.code.Clauses.{clauseCount, clauseAt, clauseNames, ClauseNodes}

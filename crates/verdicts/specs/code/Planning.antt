@@ -7,6 +7,7 @@ use Prim.Native.Nat.{ℕ, _+_, _*_, _<_, _≤_}
 use lib.ListN.{length, getD, drop}
 use Rattle.words.specs.Words.{has}
 use Rattle.tables.specs.Tables.{Tables}
+use Rattle.tables.specs.code.Layout.{Whole}
 use Rattle.syntax.specs.Rule.{Rule, ruleVars}
 use Rattle.walks.specs.Meaning.{After}
 use Rattle.walks.specs.code.Clauses.{Levelled}
@@ -59,7 +60,7 @@ pub record Turns (plan : List ℕ) (y : Layout) : Type 0 where
 -- All that the plan holds.
 pub record Planned (ts plan : List ℕ) (y : Layout) (T : Tables) (ρ : Rule) : Type 0 where
   pub world : World ts (y .nodes) (y .n) (y .kinds) (y .vars) T (ruleVars [] ρ)
-  pub whole : length ts ≡ 704
+  pub whole : Whole ts
   pub long : length plan ≡ planLength
   pub small : y .n ≤ planRoom
   pub nodes : NodesIn plan (y .nodes) (y .n) (y .kinds) (y .vars) (y .levels)
