@@ -20,6 +20,9 @@ use rules::lengths::formula_length;
 use rules::lengths::lengths;
 use syntax::Whole;
 
+// No formula has more bytes, so that its tree has no more nodes.
+const FORMULA_LIMIT: usize = 4096;
+
 // Whether two texts are equal byte for byte.
 fn alike(a: &[u8], b: &[u8]) -> bool
     ensures { λ r. ⌜ r ≡ same (now (a .entry)) (now (b .entry)) ⌝ }
@@ -65,7 +68,7 @@ fn rule_length(nodes: &[u32], n: usize, root: usize) -> u32
     ensures { λ r. ⌜ ((ρ : Rule) → HoldsRule (now (nodes .entry)) root ρ → r ≡ capped (length (ruleText [] ρ))) ⌝ }
 {
     let none = [0u32; 1];
-    let mut lens = [0u32; 4096];
+    let mut lens = [0u32; FORMULA_LIMIT];
     lengths(nodes, n, &none[..0], &mut lens);
     lens[root]
 }
@@ -76,13 +79,13 @@ fn rule_length(nodes: &[u32], n: usize, root: usize) -> u32
 pub fn rebuild(formula: &[u8], out: &mut [u8]) -> Written
     ensures { λ r. ⌜ RebuildAnswers (now (formula .entry)) (now (out .entry)) (now (out .exit)) r ⌝ }
 {
-    if formula.len() > 4096 {
+    if formula.len() > FORMULA_LIMIT {
         return Written::Refused(Refusal::NoRulesFormula);
     }
     if rules::depth::too_deep(formula) {
         return Written::Refused(Refusal::NoRulesFormula);
     }
-    let mut nodes = [0u32; 4096];
+    let mut nodes = [0u32; FORMULA_LIMIT];
     let Whole::Root { node, n } = syntax::formula(formula, &mut nodes) else {
         return Written::Refused(Refusal::NoRulesFormula);
     };
@@ -92,7 +95,7 @@ pub fn rebuild(formula: &[u8], out: &mut [u8]) -> Written
     let none = [0u32; 1];
     let mut text = [0u8; 256];
     let l = write_rule(&nodes, node, &none[..0], &mut text);
-    let mut sheet = [0u8; 4096];
+    let mut sheet = [0u8; FORMULA_LIMIT];
     let Written::Wrote(m) = reduce(&text[..l], &mut sheet) else {
         return Written::Refused(Refusal::NoRulesFormula);
     };
