@@ -103,6 +103,7 @@ mul-two c = search needs
 shared-slice-read-two : tie.Need-shared-slice-read-two
 shared-slice-read-two c =
     let P = c .before .before .before .before .before .before .before .before .before .before .before .before .before .before .before .before .before .pre in
+    let in-left = left-below (P .0 .tidy) (P .0 .below) (c .before .before .before .before .before .before .before .before .before .operation .ensures) (c .before .before .before .before .before .before .left .ensures) (c .before .before .before .before .before .before .before .before .if1 .left) in
     let low : firstPair ≤ c .before .before .before .before .before .before .before .before .before .operation .result = omega (arith, c .before .before .before .before .before .if3 .left, c .before .before .before .if4 .left, c .before .before .if5 .left) in
     let high : c .before .before .before .before .before .before .before .before .before .operation .result < firstEmpty = omega (arith, c .before .before .before .before .before .before .before .if2 .left) in
     omega (arith, right-below (P .0 .tidy) (P .0 .below) (c .before .before .before .before .before .before .before .before .before .operation .ensures) (c .before .right .ensures) (two-low _ low high), P .0 .below, P .1)
