@@ -4,6 +4,11 @@ use libc::STDOUT_FILENO;
 ghost use Prim.Native.Nat.{_≤_};
 ghost use lib.ListN.{length};
 
+// An output before it is lent: whatever a call does not write still holds a5.
+pub fn untouched() -> [u8; 65536] {
+    [0xa5; 65536]
+}
+
 pub fn reduce(rule: &[u8], output: &mut [u8])
     requires { ⌜ length (now output) ≤ 65536 ⌝ }
 {

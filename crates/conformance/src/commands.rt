@@ -5,6 +5,7 @@ use crate::fields::is_command;
 use crate::fields::print_bytes;
 use crate::fields::read_bytes;
 use crate::fields::read_length;
+use crate::fields::room;
 use answers::Written;
 use libc::STDOUT_FILENO;
 use rules::Checked;
@@ -14,11 +15,15 @@ ghost use lib.ListN.{length};
 
 // Every command has bytes in its first field.
 pub fn answer(line: &[u8], long: bool) {
-    if long || 80000 < line.len() {
+    if long {
         unknown();
         return;
     }
-    let mut first = [0u8; 40000];
+    if 80000 < line.len() {
+        unknown();
+        return;
+    }
+    let mut first = room();
     let f = read_bytes(line, 1, &mut first);
     if !f.good {
         unknown();
@@ -79,7 +84,7 @@ fn rule(rule: &[u8]) {
 
 // `reduce R LEN`, or back, `rebuild F LEN`: the tracker's number and the lent output, which held a5 throughout.
 fn formula(line: &[u8], text: &[u8], back: bool) {
-    let mut output = [0xa5u8; 65536];
+    let mut output = calls::untouched();
     let l = read_length(line, 2, &output);
     if !l.good {
         unknown();
@@ -97,8 +102,8 @@ fn formula(line: &[u8], text: &[u8], back: bool) {
 fn judge(line: &[u8], tables: &[u8])
     requires { ⌜ length (now line) ≤ 80000 ⌝ }
 {
-    let mut rule = [0u8; 40000];
-    let mut order = [0u8; 40000];
+    let mut rule = room();
+    let mut order = room();
     let r = read_bytes(line, 2, &mut rule);
     let o = read_bytes(line, 3, &mut order);
     if !r.good || !o.good {
@@ -111,7 +116,7 @@ fn judge(line: &[u8], tables: &[u8])
 }
 
 fn verdict(line: &[u8], tables: &[u8], rule: &[u8], order: &[u8]) {
-    let mut output = [0xa5u8; 65536];
+    let mut output = calls::untouched();
     let l = read_length(line, 4, &output);
     if !l.good {
         unknown();
@@ -125,7 +130,7 @@ fn verdict(line: &[u8], tables: &[u8], rule: &[u8], order: &[u8]) {
 fn sheet(line: &[u8], tables: &[u8])
     requires { ⌜ length (now line) ≤ 80000 ⌝ }
 {
-    let mut rules = [0u8; 40000];
+    let mut rules = room();
     let r = read_bytes(line, 2, &mut rules);
     if !r.good {
         unknown();

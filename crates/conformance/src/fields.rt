@@ -4,6 +4,7 @@ use libc::STDOUT_FILENO;
 use protocol::Taken;
 use texts::Span;
 ghost use Rattle.io.specs.Counts.{Counts};
+ghost use mathlib.Core.Path.{_≡_};
 ghost use Prim.Native.Nat.{_≤_, _*_};
 ghost use lib.ListN.{length};
 
@@ -25,6 +26,14 @@ pub fn is_command(line: &[u8], name: &[u8], count: usize) -> bool {
 pub struct Field {
     pub good: bool,
     pub n: usize,
+}
+
+// Room for the bytes of a field: a line of 80,000 bytes has no more. To find the length of an array that is written out
+// the prover walks every byte, and of one that a call returns it does not.
+pub fn room() -> [u8; 40000]
+    ensures { λ r. ⌜ length r ≡ 40000 ⌝ }
+{
+    [0; 40000]
 }
 
 pub fn read_bytes(line: &[u8], k: usize, out: &mut [u8]) -> Field
