@@ -1,4 +1,4 @@
-// Putting bytes into a sheet, as far as they fit.
+// Putting bytes into a sheet, as far as they fit: what `answers::lend` writes is all of a text or nothing.
 // Nothing here knows what the bytes say.
 ghost use mathlib.Core.Path.{_≡_};
 ghost use Prim.Native.Nat.{min, _≤_};
