@@ -3,6 +3,7 @@ pub mod OutcomeLaws
 pub mod VerdictLaws
 pub mod WalkingLaws
 pub mod CountingLaws
+pub mod DescendLaws
 pub mod RulingLaws
 pub mod SheetLaws
 pub mod LoadedLaws

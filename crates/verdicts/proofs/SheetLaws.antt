@@ -5,7 +5,7 @@ use mathlib.Core.List.{List, [], _∷_, _++_, append-assoc, append-nil}
 use Prim.Native.Nat.{ℕ, suc, _+_, _-_, _/_, _%_, _<_, _≤_}
 use native.Mathlib.Nat.{add-zero}
 use native.Mathlib.Omega.{arith}
-use lib.ListN.{length, set, length-set, length-append}
+use lib.ListN.{length, set, length-set, length-append, drop-of-length-le}
 use lib.Seq.{append-snoc}
 use borrow.Rule.Slice.PartMut.{midOf, putMid}
 use Rattle.tables.specs.Bytes.{lowestFirst}
@@ -51,6 +51,11 @@ unfolding lowestFirst
 word-all W e =
     let is : W .text ++ [] ≡ lowestFirst 8 _ = rw e at (W .all) in
     rw (sym (append-nil (W .text)) ∙ is) at (W .behind)
+
+-- They are all there is where there was room for them alone.
+pub word-alone : (w : ℕ) {mid new : List ℕ} → length mid ≡ 8 → Behind 0 (lowestFirst 8 w) mid new → new ≡ lowestFirst 8 w
+unfolding lowestFirst
+word-alone w {mid} e b = b [] mid (none-written mid) .bytes ∙ rw (drop-of-length-le mid {i = 8} (omega arith), append-nil (lowestFirst 8 w))
 
 -- The five parts one behind the other are the verdict's bytes.
 pub all-written : {old d₁ d₂ d₃ : List ℕ} {n : ℕ} (word : ℕ) (v : Verdict) → 26 ≤ length old → length (v .first) ≡ 8

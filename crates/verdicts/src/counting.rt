@@ -5,16 +5,19 @@ use crate::planning::ORDER;
 use crate::planning::PICKS;
 use crate::planning::SETS;
 use crate::planning::VARIABLE_COUNT;
+use crate::sheet::bytes;
 use values::plan::holds;
 use values::plan::settle;
+use walks::Tally;
 use walks::kept;
 use walks::kept::Counts;
 ghost use mathlib.Core.Path.{_≡_};
 ghost use Prim.Native.Nat.{_<_};
-ghost use lib.ListN.{length};
+ghost use lib.ListN.{length, getD};
 ghost use Rattle.tables.specs.code.Layout.{Whole};
 ghost use Rattle.values.specs.code.Plan.{planRoom, planLength, Runs};
-ghost use Rattle.verdicts.specs.code.Counting.{SlotOf, Enters, Standing, Counts as Counted};
+ghost use Rattle.verdicts.specs.code.Planning.{variablesAt};
+ghost use Rattle.verdicts.specs.code.Counting.{SlotOf, Enters, Standing, Counts as Counted, Finds, noChoice, Descends, Ready, WalksBy};
 
 // The slot of a choice: 64 for each mode and depth, by the item of the latest variable of the context.
 fn slot(plan: &[u64], at: usize, choice: u64) -> usize
@@ -117,4 +120,77 @@ fn items(
         breaking += sum.breaking;
     }
     Counts { full, breaking }
+}
+
+// The smallest item of the next variable below which something breaks. What was counted before is mostly kept still.
+fn least(
+    t: &[u64],
+    plan: &[u64],
+    mode: usize,
+    left: usize,
+    choice: u64,
+    cache: &mut [u64],
+    kept: &mut [u64],
+) -> usize
+    requires { ⌜ Standing (now t) (now plan) mode left choice (now cache) (now kept) × (0 < left) ⌝ }
+    ensures { λ r. ⌜ Finds (now (t .entry)) (now (plan .entry)) mode left choice (now (cache .entry)) (now (kept .entry)) (now (cache .exit)) (now (kept .exit)) r ⌝ }
+{
+    let d = plan[VARIABLE_COUNT] as usize - left;
+    let v = plan[ORDER + d] as usize;
+    let mut rest = cache[plan[SETS + d] as usize];
+    while rest != 0 {
+        let x = words::lowest(rest);
+        rest = words::less(rest, words::item(x));
+        let chosen = kept::put(choice, v, x);
+        let next = enter(t, plan, mode, d + 1, chosen, cache);
+        let sum = below(t, plan, next, left - 1, chosen, cache, kept);
+        if sum.breaking != 0 {
+            return x;
+        }
+    }
+    0
+}
+
+// The first breaking choice, variable by variable along the order.
+fn descend(t: &[u64], plan: &[u64], mode: usize, cache: &mut [u64], kept: &mut [u64]) -> u64
+    requires { ⌜ Standing (now t) (now plan) mode (getD (now plan) variablesAt 0) noChoice (now cache) (now kept) ⌝ }
+    ensures { λ r. ⌜ Descends (now (t .entry)) (now (plan .entry)) mode (now (cache .entry)) (now (kept .entry)) r ⌝ }
+{
+    let count = plan[VARIABLE_COUNT] as usize;
+    let mut choice = kept::NOTHING;
+    let mut at = mode;
+    let mut left = count;
+    while 0 < left {
+        let x = least(t, plan, at, left, choice, cache, kept);
+        let d = count - left;
+        choice = kept::put(choice, plan[ORDER + d] as usize, x);
+        at = enter(t, plan, at, d + 1, choice, cache);
+        left -= 1;
+    }
+    choice
+}
+
+// Judging along the plan's order, from nothing chosen.
+pub fn whole(t: &[u64], plan: &[u64]) -> Tally
+    requires { ⌜ Ready (now t) (now plan) ⌝ }
+    ensures { λ r. ⌜ WalksBy (now (t .entry)) (now (plan .entry)) r ⌝ }
+{
+    let mut cache = [0u64; 256];
+    let mut kept = [kept::NOTHING; 3072];
+    let mode = enter(t, plan, 1, 0, kept::NOTHING, &mut cache);
+    let count = plan[VARIABLE_COUNT] as usize;
+    let sum = below(t, plan, mode, count, kept::NOTHING, &mut cache, &mut kept);
+    if sum.breaking == 0 {
+        return Tally {
+            full: sum.full,
+            breaking: 0,
+            first: [255u8; 8],
+        };
+    }
+    let first = bytes(descend(t, plan, mode, &mut cache, &mut kept));
+    Tally {
+        full: sum.full,
+        breaking: sum.breaking,
+        first,
+    }
 }

@@ -7,10 +7,15 @@ use Prim.Native.Nat.{ℕ, _+_, _*_, _-_, _<_, _≤_}
 use lib.ListN.{length, getD, drop}
 use Rattle.tables.specs.Tables.{Tables}
 use Rattle.syntax.specs.Rule.{Rule, ruleVars}
-use Rattle.walks.specs.code.Clauses.{falseIn, levelIs, modeOf}
+use Rattle.walks.specs.Choices.{nothingChosen}
+use Rattle.walks.specs.Walk.{walk}
+use Rattle.walks.specs.declared.Tally.{Tally}
+use Rattle.walks.specs.code.Clauses.{breaksAny, falseIn, levelIs, ModeIs, weightOf, modeOf}
 use Rattle.walks.specs.code.Kept.{choiceOf, Counted}
-use Rattle.walks.specs.code.Turning.{Turning}
-use Rattle.values.specs.Sets.{inSet}
+use Rattle.walks.specs.code.Summed.{Least}
+use Rattle.walks.specs.code.Tally.{Walked}
+use Rattle.walks.specs.code.Turning.{Turning, belowAt, Descending}
+use Rattle.values.specs.Sets.{inSet, breaks}
 use Rattle.values.specs.code.Plan.{planRoom, levelsFrom}
 use Rattle.values.proofs.ClausesLaws.{clausesOf}
 use Rattle.verdicts.specs.code.Planning.{variablesAt, setsFrom, Layout, Planned, Caches, Keeps}
@@ -69,3 +74,41 @@ pub record Stays (ts plan : List ℕ) (left choice : ℕ) (cache kept cache′ k
 abbrev pub Counts : List ℕ → List ℕ → ℕ → ℕ → ℕ → List ℕ → List ℕ → List ℕ → List ℕ → ℕ → ℕ → Type 0
 Counts ts plan mode left choice cache kept cache′ kept′ full breaking =
     Stays ts plan left choice cache kept cache′ kept′ (λ y T ρ. CountedAt plan y T ρ mode (depthOf plan left) choice full breaking)
+
+-- r is the least item of the next variable, whose set is w, below which something breaks, where something does.
+abbrev pub LeastAt : List ℕ → Layout → Tables → Rule → ℕ → ℕ → ℕ → ℕ → ℕ → Type 0
+LeastAt plan y T ρ mode d choice w r =
+    0 < walk 64 (inSet T (ruleVars [] ρ)) (weightOf (clausesOf T ρ) (drop levelsFrom plan) mode (d + 1)) (drop d (y .order)) (choiceOf choice)
+    → Least w (belowAt (inSet T (ruleVars [] ρ)) (weightOf (clausesOf T ρ) (drop levelsFrom plan) mode (d + 1)) (y .order) d (choiceOf choice)) r
+
+abbrev pub Finds : List ℕ → List ℕ → ℕ → ℕ → ℕ → List ℕ → List ℕ → List ℕ → List ℕ → ℕ → Type 0
+Finds ts plan mode left choice cache kept cache′ kept′ r =
+    (r < 64) × Stays ts plan left choice cache kept cache′ kept′
+    (λ y T ρ. LeastAt plan y T ρ mode (depthOf plan left) choice (getD cache (getD plan (setsFrom + depthOf plan left) 0) 0) r)
+
+-- The word of no choice.
+abbrev pub noChoice : ℕ
+noChoice = 18446744073709551615
+
+-- The first breaking choice has the first d of its items in the choice, and the mode is right.
+pub record Nearer (plan : List ℕ) (y : Layout) (T : Tables) (ρ : Rule) (mode d choice : ℕ) : Type 0 where
+  pub modes : ModeIs (clausesOf T ρ) (drop levelsFrom plan) mode (d + 1) (choiceOf choice)
+  pub descending : Descending (inSet T (ruleVars [] ρ)) (breaksAny (clausesOf T ρ)) (y .order) (choiceOf noChoice) d (choiceOf choice)
+
+-- r is the first breaking choice, where there is one.
+abbrev pub Descends : List ℕ → List ℕ → ℕ → List ℕ → List ℕ → ℕ → Type 0
+Descends ts plan mode cache kept r =
+    (y : Layout) (T : Tables) (ρ : Rule) → Planned ts plan y T ρ → Caches ts y noChoice cache 1 → Keeps plan y T ρ kept → Nearer plan y T ρ mode 0 noChoice
+    → Descending (inSet T (ruleVars [] ρ)) (breaksAny (clausesOf T ρ)) (y .order) (choiceOf noChoice) (length (y .order)) (choiceOf r)
+
+-- The plan holds something.
+pub record Ready (ts plan : List ℕ) : Type 0 where
+  pub layout : Layout
+  pub tables : Tables
+  pub rule : Rule
+  pub planned : Planned ts plan layout tables rule
+
+-- Whatever it holds, r is what the walk along the order gives, from nothing chosen.
+abbrev pub WalksBy : List ℕ → List ℕ → Tally → Type 0
+WalksBy ts plan r =
+    (y : Layout) (T : Tables) (ρ : Rule) → Planned ts plan y T ρ → Walked (inSet T (ruleVars [] ρ)) (breaks T (ruleVars [] ρ) ρ) (y .order) nothingChosen r
