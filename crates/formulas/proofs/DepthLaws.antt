@@ -11,8 +11,8 @@ use lib.Dec.{eqb, ltb}
 use borrow.Author.Tests.{ne-eqb, lt-ltb, le-ltb, ltb-false}
 use Rattle.syntax.specs.Bytes.{Bytes, ascii}
 use Rattle.syntax.specs.Term.{Base, bU, bR, bOP, bOBJ, bP, bS, bCR, bCP, bCU, Fn, user, roles, roles*, sessions, permissions, permissions*, object, operations}
-use Rattle.syntax.specs.Term.{meet, join, Pair, calls, joins, Term, base, call, oe, ao, two, Choices, digitFrom, digit, isBase, isCall, isOE, isAO, isBracket, isChoice}
-use Rattle.syntax.specs.Term.{isCall2, spell, isOp, isLess, spellMiddle, opening, parting, oeText, aoText, text}
+use Rattle.syntax.specs.Term.{meet, join, Pair, calls, joins, Term, base, call, oe, ao, two, Choices, digitFrom, digit, isBase, isCall, isOE, isAO, isBracket}
+use Rattle.syntax.specs.Term.{spell, spellMiddle, opening, parting, oeText, aoText, text}
 use Rattle.syntax.specs.Rule.{Cmp, lt, le, gt, ge, eq, ne, spellCmp, is, isnt, Between, isIn, isSign, spellBetween, Count, number, count, Test, member, alike, empty, sized}
 use Rattle.syntax.specs.Rule.{Clause, plain, when, Rule, last, also, digits, countText, testText, clauseText, ruleText, ruleVars, quantifiers, formulaWith, formula}
 use Rattle.syntax.proofs.TermLaws.{digit-high}

@@ -41,9 +41,6 @@ use Rattle.formulas.proofs.RebuildLaws.{rule-accepted, rule-formula, ru
 use Rattle.formulas.proofs.DepthLaws.{formula-shallow}
 use Rattle.formulas.proofs.WrittenLaws.{answers-refusal, answers-wrote, answers-refused}
 
-pub answers-as : {a b : Answer} (n : ℕ) {old new : Bytes} {w : Written} → a ≡ b → Answers (lent n b) old new w → Answers (lent n a) old new w
-answers-as n e p = rw e p
-
 -- Rule to formula.
 
 module _ {s ns ks vs : List ℕ} {o : Checked} {n root count : ℕ} (p : Parses s ns ks vs o n root count) where

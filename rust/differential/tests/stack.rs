@@ -1,5 +1,5 @@
 //! Inputs that are meant to hurt cost little: on the stack that the crate states, and in little
-//! time. `cargo run --release -p differential --bin stack` says how much stack is needed.
+//! time. `cargo run --release -p differential --bin stack` says how much stack each takes.
 
 use std::thread;
 use std::time::{Duration, Instant};
