@@ -1,7 +1,7 @@
 -- The writers of tests, clauses, rules and quantifiers, by the operation of their node.
 -- Assumes nothing.
 use mathlib.Core.Path.{_≡_, ap, sym, _∙_}
-use mathlib.Core.List.{List, [], _∷_, _++_, append-assoc}
+use mathlib.Core.List.{List, _∷_, _++_, append-assoc}
 use Prim.Native.Nat.{ℕ, _+_, _-_, _%_, _≤_, _<_}
 use native.Mathlib.Omega.{arith}
 use native.Mathlib.Numerals.{add-one}
@@ -13,7 +13,7 @@ use Rattle.syntax.specs.Term.{Term, Choices, text}
 use Rattle.syntax.specs.Rule.{digits, testText, clauseText, ruleText}
 use Rattle.syntax.specs.code.Printing.{quantifiersAfter}
 use Rattle.syntax.specs.code.Arena.{Holds, HoldsTest, HoldsClause, HoldsRule}
-use Rattle.syntax.specs.code.Nodes.{memberOp, firstEmpty, firstNumbered, firstCounted, whenOp, alsoOp, opAt, leftAt, rightAt}
+use Rattle.syntax.specs.code.Nodes.{firstEmpty, firstNumbered, firstCounted, whenOp, alsoOp, opAt, leftAt, rightAt}
 use Rattle.printer.specs.code.Signs.{signOf, bound}
 use Rattle.printer.specs.code.Printed.{Adds, Prints, Appends, Printable, leftText, rightText, quantifier, quantifiersFrom, formulaIn, Any}
 use Rattle.printer.proofs.PrintedLaws.{puts-as, puts-then, room-then, room-on, room-none, puts-empty, adds-then}

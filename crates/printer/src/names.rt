@@ -1,6 +1,5 @@
 // The names and signs of the language, as fixed byte strings put into a sheet.
 // Each stands in its operation's row of a table.
-ghost use mathlib.Core.Path.{_≡_};
 ghost use Prim.Native.Nat.{_+_, _%_, _<_, _≤_};
 ghost use lib.ListN.{length};
 ghost use Rattle.syntax.specs.Rule.{digits};

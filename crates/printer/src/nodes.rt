@@ -2,7 +2,7 @@
 // Nothing here knows what the operations mean.
 ghost use mathlib.Core.Path.{_≡_};
 ghost use Prim.Native.Nat.{_<_};
-ghost use lib.ListN.{length, getD};
+ghost use lib.ListN.{length};
 ghost use Rattle.syntax.specs.code.Nodes.{opAt, leftAt, rightAt};
 use syntax::nodes::left;
 use syntax::nodes::operation;

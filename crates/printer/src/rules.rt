@@ -1,6 +1,5 @@
 // The writers of tests, clauses, rules and formulas.
 // A rule's text is written with no choices, a formula with those of its rule.
-ghost use mathlib.Core.Path.{_≡_};
 ghost use mathlib.Core.List.{_++_};
 ghost use Prim.Native.Nat.{_<_, _≤_};
 ghost use lib.ListN.{length, getD, take};

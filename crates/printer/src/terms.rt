@@ -1,10 +1,9 @@
 // The writer of terms. A node stands above the nodes of its own terms, so the index is what falls.
 // With no choices known it writes a rule's text, with the rule's own choices its formula's.
-ghost use mathlib.Core.Path.{_≡_};
 ghost use mathlib.Core.List.{_++_};
 ghost use mathlib.Core.Option.{some};
 ghost use Prim.Native.Nat.{_+_, _<_, _≤_};
-ghost use lib.ListN.{length, getD};
+ghost use lib.ListN.{length};
 ghost use Rattle.syntax.specs.Bytes.{ascii};
 ghost use Rattle.syntax.specs.Term.{text, aoText};
 ghost use Rattle.syntax.specs.code.Arena.{Holds};
