@@ -9,6 +9,7 @@ use crate::fields::room;
 use answers::Written;
 use libc::STDOUT_FILENO;
 use rules::Checked;
+use sheets::LINE_ROOM;
 use tables::Outcome;
 ghost use Prim.Native.Nat.{_≤_};
 ghost use lib.ListN.{length};
@@ -157,7 +158,7 @@ fn print_sheet(tables: &[u8], rules: &[u8]) -> bool {
 
 // Prints the line at a place, with its byte 10; answers whether there is one.
 fn print_line(tables: &[u8], rules: &[u8], place: usize) -> bool {
-    let mut line = [0u8; 512];
+    let mut line = [0u8; LINE_ROOM];
     let Written::Wrote(n) = sheets::line(tables, rules, place, &mut line) else {
         return false;
     };

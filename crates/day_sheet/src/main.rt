@@ -5,6 +5,7 @@
 use answers::Written;
 use libc::STDERR_FILENO;
 use libc::STDOUT_FILENO;
+use sheets::LINE_ROOM;
 ghost use Rattle.io.specs.Counts.{Counts};
 ghost use Prim.Native.Nat.{_≤_};
 ghost use lib.ListN.{length};
@@ -109,7 +110,7 @@ fn print_sheet(tables: &[u8], rules: &[u8]) -> bool {
 
 // Prints the line at a place, if there is one.
 fn print_line(tables: &[u8], rules: &[u8], place: usize) -> Line {
-    let mut line = [0u8; 512];
+    let mut line = [0u8; LINE_ROOM];
     let Written::Wrote(n) = sheets::line(tables, rules, place, &mut line) else {
         return Line::Missing;
     };

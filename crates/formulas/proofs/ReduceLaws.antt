@@ -29,7 +29,6 @@ use Rattle.syntax.proofs.FormulaLaws.{knows-none}
 use Rattle.rules.proofs.ParseLaws.{formula-exact}
 use Rattle.printer.specs.code.Printed.{Puts, Prints, Printable, formulaIn}
 use Rattle.printer.proofs.PrintedLaws.{puts-as, puts-front}
-use Rattle.printer.proofs.RuleTextLaws.{all-length}
 use Rattle.answers.specs.declared.Written.{Written}
 use Rattle.answers.specs.declared.Written.the-variants.{Refused, Wrote}
 use Rattle.formulas.specs.Formulas.{reduced, RuleOf, gives, givesNone, RebuildAnswers}
@@ -40,6 +39,7 @@ use Rattle.formulas.proofs.RebuildLaws.{wrote-reduced, accepted-formula
 use Rattle.formulas.proofs.RebuildLaws.{rule-accepted, rule-formula, rule-reduced, rule-read, rule-only}
 use Rattle.formulas.proofs.DepthLaws.{formula-shallow}
 use Rattle.formulas.proofs.WrittenLaws.{answers-refusal, answers-wrote, answers-refused}
+use Rattle.syntax.proofs.NameLaws.{all-length}
 
 -- Rule to formula.
 

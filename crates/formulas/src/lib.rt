@@ -16,6 +16,7 @@ use answers::Written;
 use printer::rules::write_formula;
 use printer::rules::write_rule;
 use rules::Checked;
+use rules::RULE_LIMIT;
 use rules::lengths::formula_length;
 use rules::lengths::lengths;
 use syntax::Whole;
@@ -52,7 +53,7 @@ pub fn reduce(rule: &[u8], out: &mut [u8]) -> Written
     let nodes = parsed.nodes;
     let vars = parsed.vars;
     let count = parsed.count;
-    let mut lens = [0u32; 256];
+    let mut lens = [0u32; RULE_LIMIT];
     lengths(&nodes, parsed.n, &vars[..count], &mut lens);
     let l = formula_length(&lens, &vars[..count], parsed.root) as usize;
     if out.len() < l {
@@ -89,11 +90,11 @@ pub fn rebuild(formula: &[u8], out: &mut [u8]) -> Written
     let Whole::Root { node, n } = syntax::formula(formula, &mut nodes) else {
         return Written::Refused(Refusal::NoRulesFormula);
     };
-    if rule_length(&nodes, n, node) > 256 {
+    if rule_length(&nodes, n, node) > RULE_LIMIT {
         return Written::Refused(Refusal::NoRulesFormula);
     }
     let none = [0u32; 1];
-    let mut text = [0u8; 256];
+    let mut text = [0u8; RULE_LIMIT];
     let l = write_rule(&nodes, node, &none[..0], &mut text);
     let mut sheet = [0u8; FORMULA_LIMIT];
     let Written::Wrote(m) = reduce(&text[..l], &mut sheet) else {

@@ -19,7 +19,8 @@ use Rattle.printer.specs.code.Printed.{Adds, Prints, Appends, Printable,
 use Rattle.printer.proofs.PrintedLaws.{puts-as, puts-then, room-then, room-on, room-none, puts-empty, adds-then}
 use Rattle.printer.proofs.PrintsLaws.{appends-as, appends-one, appends-front}
 use Rattle.printer.proofs.RuleTextLaws.{test-text, left-term, left-count, right-term, right-empty, right-number, right-count, clause-plain, clause-when, rule-last}
-use Rattle.printer.proofs.RuleTextLaws.{rule-also, all-length, split, quantifiers-more}
+use Rattle.printer.proofs.RuleTextLaws.{rule-also, split, quantifiers-more}
+use Rattle.syntax.proofs.NameLaws.{all-length}
 
 -- Of both terms.
 abbrev Both : {A B : Type 0} → (A → Type 0) → (B → Type 0) → A × B → Type 0

@@ -15,8 +15,9 @@ use Rattle.syntax.specs.code.Arena.{HoldsRule, HoldsAll}
 use Rattle.syntax.specs.code.Nodes.{memberOp, firstAlike, firstEmpty, firstNumbered, firstCounted, whenOp, alsoOp, opAt, leftAt, rightAt, opRoom}
 use Rattle.printer.specs.code.Signs.{signs, signOf, cmpSigns}
 use Rattle.printer.specs.code.Printed.{leftText, rightText, quantifier, quantifiersFrom}
-use Rattle.syntax.proofs.ArenaLaws.{Parts, parts, one-parts, both-parts}
+use Rattle.syntax.proofs.ArenaLaws.{Parts, parts, one-parts, both-parts, numbered-parts}
 use Rattle.printer.proofs.TextLaws.{Shown, AtBoth}
+use Rattle.syntax.proofs.TestLaws.{cmp-small}
 
 -- The operation of the node that holds a test.
 
@@ -27,15 +28,6 @@ testOp (empty g a) = emptyOp g
 testOp (sized c a (number m)) = firstNumbered + cmpNumber c
 testOp (sized c a (count b)) = firstCounted + cmpNumber c
 
-cmp-small : (c : Cmp) → cmpNumber c < 6
-unfolding cmpNumber
-cmp-small lt = omega arith
-cmp-small le = omega arith
-cmp-small gt = omega arith
-cmp-small ge = omega arith
-cmp-small eq = omega arith
-cmp-small ne = omega arith
-
 alike-range : (g : Sign) → (firstAlike ≤ alikeOp g) × (alikeOp g < firstEmpty)
 unfolding alikeOp
 alike-range is = (omega arith, omega arith)
@@ -45,9 +37,6 @@ empty-range : (g : Sign) → (firstEmpty ≤ emptyOp g) × (emptyOp g < firstNum
 unfolding emptyOp
 empty-range is = (omega arith, omega arith)
 empty-range isnt = (omega arith, omega arith)
-
-numbered-parts : {ns : List ℕ} {k o i m : ℕ} → Numbered ns k o i m → o < opRoom → Parts (getD ns k 0) o i m
-numbered-parts {ns} {k} {o} {i} {m} x h = parts (getD ns k 0) o i m (x .node) h (x .small)
 
 test-op : (ns : List ℕ) (k : ℕ) (p : Test) → HoldsTest ns k p → opAt ns k ≡ testOp p
 unfolding HoldsTest testOp
@@ -193,12 +182,6 @@ module _ (ns : List ℕ) (k : ℕ) (σ : Choices) where
       record { thing = (c, ρ); held = (rw (y .left) (x .3), rw (y .right) (x .4)); written = append-assoc (clauseText σ c) _ _ }
 
 -- Choices by their nodes: the one of index d, and those before it.
-
-pub all-length : (ns vs : List ℕ) (σ : Choices) → HoldsAll ns vs σ → length σ ≡ length vs
-all-length ns [] [] y = refl
-all-length ns [] (a ∷ σ) y = absurd y
-all-length ns (v ∷ vs) [] y = absurd y
-all-length ns (v ∷ vs) (a ∷ σ) y = ap suc (all-length ns vs σ (y .1))
 
 pub record Split (ns vs : List ℕ) (σ : Choices) (d : ℕ) : Type 0 where
   pub term : Term

@@ -18,14 +18,14 @@ use Rattle.syntax.specs.Rule.{Clause, plain, when, Rule, last, also}
 use Rattle.syntax.specs.code.Arena.{baseOp, fnOp, twoOp, alikeOp, emptyOp, cmpNumber, One}
 use Rattle.syntax.specs.code.Arena.{Holds, HoldsTest, HoldsClause, HoldsRule}
 use Rattle.syntax.specs.code.Nodes.{firstCall, oeOp, aoOp, firstPair, memberOp, firstAlike, firstEmpty, firstNumbered, firstCounted, whenOp, alsoOp, opAt, leftAt, rightAt, opRoom, operationOf, leftOf, rightOf}
-use Rattle.syntax.proofs.ArenaLaws.{base-small, two-range, Parts, none-parts, one-parts, both-parts}
+use Rattle.syntax.proofs.ArenaLaws.{base-small, two-range, Parts, none-parts, one-parts, both-parts, numbered-parts}
 use Rattle.syntax.proofs.TestLaws.{cmp-small}
 use Rattle.rules.specs.Kind.{Kind, Kind≟, holds, oneOf, baseKind, takes, makes, ofElement}
 use Rattle.rules.specs.Kind.{callKind, inside, oneKind, othersKind, asSet, joined, row, call2Kind, twoKind, with, kind, check, countable, isMember, countKinds}
 use Rattle.rules.specs.Kind.{testKinds, clauseKinds, ruleKinds}
 use Rattle.rules.specs.code.Numbers.{firstSet, kindCount, noKind, kindsFit, kindList, kindOf, oneArgument, oneTable, oneNumber, setNumber, pairTable, call2Number, twoNumber, countableNumber, fitsNumber, nodeNumber, stepNumber, KindAt, Kinded}
 use Rattle.rules.proofs.TableLaws.{left-of-and, right-of-and, entry, upto, pair, same-below, same-pair}
-use Rattle.rules.proofs.NodeLaws.{numbered-parts, more-at}
+use Rattle.rules.proofs.NodeLaws.{more-at}
 
 -- Tests of equality that are computed.
 

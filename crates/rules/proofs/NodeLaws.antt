@@ -15,9 +15,6 @@ use Rattle.syntax.specs.code.Arena.{Numbered, hasTwo, Down, Tidy}
 use Rattle.syntax.specs.code.Nodes.{firstCall, opAt, leftAt, rightAt, opRoom}
 use Rattle.syntax.proofs.ArenaLaws.{Parts, parts}
 
-pub numbered-parts : {ns : List ℕ} {k o i m : ℕ} → Numbered ns k o i m → o < opRoom → Parts (getD ns k 0) o i m
-numbered-parts {ns} {k} {o} {i} {m} x h = parts (getD ns k 0) o i m (x .node) h (x .small)
-
 -- What stands within a list does not hang on what is taken past its end.
 pub getD-any : (l : List ℕ) (i d e : ℕ) → i < length l → getD l i d ≡ getD l i e
 getD-any [] i d e h = absurd (not-suc-le-zero h)

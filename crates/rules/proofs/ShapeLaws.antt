@@ -20,10 +20,10 @@ use Rattle.syntax.specs.code.Arena.{baseOp, fnOp, twoOp, alikeOp, emptyOp, cmpN
 use Rattle.syntax.specs.code.Nodes.{firstCall, oeOp, aoOp, firstPair, firstJoin, memberOp, firstEmpty, firstNumbered, firstCounted, whenOp, alsoOp, opAt, leftAt, rightAt, opRoom}
 use Rattle.rules.specs.code.Thing.{Thing, term, test, clause, rule, HoldsThing, thingVars, thingText}
 use Rattle.rules.specs.code.Lengths.{extraTable, extra}
-use Rattle.syntax.proofs.ArenaLaws.{base-small, fn-range, two-range, Parts, none-parts, one-parts, both-parts}
+use Rattle.syntax.proofs.ArenaLaws.{base-small, fn-range, two-range, Parts, none-parts, one-parts, both-parts, numbered-parts}
 use Rattle.syntax.proofs.TestLaws.{cmp-small}
 use Rattle.rules.proofs.KindLaws.{alike-op, empty-op}
-use Rattle.rules.proofs.NodeLaws.{numbered-parts, lt-or-le}
+use Rattle.rules.proofs.NodeLaws.{lt-or-le}
 
 -- Which operations have two nodes below.
 

@@ -20,6 +20,8 @@ use Rattle.rules.specs.Accept.{choicesLimit}
 use Rattle.rules.specs.code.Variables.{placeIn, VariableList, Added, many, known, over, new}
 use Rattle.syntax.proofs.ArenaLaws.{holds-once, holds-one}
 use Rattle.rules.proofs.NodeLaws.{lt-or-le, more-at}
+use Rattle.syntax.proofs.NameLaws.{all-length}
+use Rattle.syntax.proofs.FormulaLaws.{all-snoc}
 
 ltb-suc : (r n : ℕ) → ltb r n ≡ ltb (suc r) (suc n)
 ltb-suc r n =
@@ -61,18 +63,6 @@ module _ (ns : List ℕ) (n : ℕ) (apart : Apart ns n) (v : ℕ) (a : Term) (x 
           let z : suc d + placeIn v vs ≡ d + suc (placeIn v vs) = omega arith in
           rw (ne-eqb w v e) (ih ∙ ap₂ (λ (b : Bool) (i : ℕ). cond b (some i) none) (ltb-suc (placeIn v vs) (length vs)) z)
 
-all-length : (ns vs : List ℕ) (σ : Choices) → HoldsAll ns vs σ → length vs ≡ length σ
-all-length ns [] [] y = refl
-all-length ns [] (b ∷ σ) y = absurd y
-all-length ns (w ∷ vs) [] y = absurd y
-all-length ns (w ∷ vs) (b ∷ σ) y = ap suc (all-length ns vs σ (y .1))
-
-all-snoc : (ns vs : List ℕ) (σ : Choices) (v : ℕ) (a : Term) → HoldsAll ns vs σ → Holds ns v a → HoldsAll ns (vs ++ (v ∷ [])) (σ ++ (a ∷ []))
-all-snoc ns [] [] v a y x = (x, tt)
-all-snoc ns [] (b ∷ σ) v a y x = absurd y
-all-snoc ns (w ∷ vs) [] v a y x = absurd y
-all-snoc ns (w ∷ vs) (b ∷ σ) v a y x = (y .0, all-snoc ns vs σ v a (y .1) x)
-
 add-known : (σ : Choices) (a : Term) {d : ℕ} → digit σ a ≡ some d → add σ a ≡ σ
 unfolding add
 add-known σ a e = rw (e, add)
@@ -93,7 +83,7 @@ add-longer σ a = go (digit σ a)
 pub listed-count : {ns vs : List ℕ} {n c : ℕ} {σ : Choices} → length vs ≡ choicesLimit → VariableList ns n vs c σ → c ≤ choicesLimit → c ≡ length σ
 listed-count {ns} {vs} {n} {c} {σ} h l few =
     let q : length (take c vs) ≡ c = length-take-le c vs (omega arith) in
-    sym q ∙ all-length ns (take c vs) σ (l .held few)
+    sym q ∙ sym (all-length ns (take c vs) σ (l .held few))
 
 -- The argument of an OE or AO came to the list.
 module _ {ns vs : List ℕ} {n c v : ℕ} {σ : Choices} (apart : Apart ns n) (a : Term) (x : Holds ns v a) (h : v < n) (size : length vs ≡ choicesLimit) (l : VariableList ns n vs c σ) where

@@ -24,6 +24,9 @@ abbrev pub only : Bytes → List Bytes
 only w = w ∷ []
 
 -- "rules.txt (to 32,768 bytes; longer prints only `rules too long`)"
+abbrev pub rulesLimit : ℕ
+rulesLimit = 32768
+
 abbrev pub unlessLong : Bool → Tables → Bytes → List Bytes
 unlessLong true T rules = judgedFrom 1 T (lines rules)
 unlessLong false T rules = only (ascii "rules too long")
@@ -31,7 +34,7 @@ unlessLong false T rules = only (ascii "rules too long")
 -- "Refused tables print only `tables refused N`, before the rules' length is looked at."
 unfoldable pub sheetBy : Reading → Bytes → List Bytes
 sheetBy (rejected e) rules = only (labelled (ascii "tables refused ") (numberOf e))
-sheetBy (taken T) rules = unlessLong (leb (length rules) 32768) T rules
+sheetBy (taken T) rules = unlessLong (leb (length rules) rulesLimit) T rules
 
 unfoldable pub sheetOf : Bytes → Bytes → List Bytes
 sheetOf tables rules = sheetBy (tablesOf tables) rules

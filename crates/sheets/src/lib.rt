@@ -16,20 +16,26 @@ ghost use Rattle.verdicts.specs.code.Judging.{Loaded};
 ghost use Rattle.sheets.specs.Line.{labelled};
 ghost use Rattle.sheets.specs.Sheet.{only, sheetOf, sheetLine};
 ghost use Rattle.sheets.specs.Promise.{Lines};
-ghost use Rattle.sheets.specs.code.Lines.{LinesOn, RuleLineOn};
+ghost use Rattle.sheets.specs.code.Lines.{lineRoom, LinesOn, RuleLineOn};
+
+// No line has as many bytes.
+pub const LINE_ROOM: usize = 512;
+
+// Longer rules are not read.
+const RULES_LIMIT: usize = 32768;
 
 // The line at a place, from 1, without byte 10; no bytes at any other place.
 pub fn line(tables: &[u8], rules: &[u8], place: usize, out: &mut [u8]) -> Written
     ensures { λ r. ⌜ Lines (now (tables .entry)) (now (rules .entry)) place (now (out .entry)) (now (out .exit)) r ⌝ }
 {
-    let mut text = [0u8; 512];
+    let mut text = [0u8; LINE_ROOM];
     let n = write_line(tables, rules, place, &mut text);
     answers::lend(&text[..n], out)
 }
 
 // The sheet of refused tables.
 fn refused_tables(e: Refusal, place: usize, out: &mut [u8]) -> usize
-    requires { ⌜ 512 ≤ length (now out) ⌝ }
+    requires { ⌜ lineRoom ≤ length (now out) ⌝ }
     ensures { λ r. ⌜ Overwritten (sheetLine (only (labelled (ascii "tables refused ") (numberOf e))) place) (now (out .entry)) (now (out .exit)) r ⌝ }
 {
     if place != 1 {
@@ -40,7 +46,7 @@ fn refused_tables(e: Refusal, place: usize, out: &mut [u8]) -> usize
 
 // The sheet of rules that are too long.
 fn long_rules(place: usize, out: &mut [u8]) -> usize
-    requires { ⌜ 512 ≤ length (now out) ⌝ }
+    requires { ⌜ lineRoom ≤ length (now out) ⌝ }
     ensures { λ r. ⌜ Overwritten (sheetLine (only (ascii "rules too long")) place) (now (out .entry)) (now (out .exit)) r ⌝ }
 {
     if place != 1 {
@@ -51,7 +57,7 @@ fn long_rules(place: usize, out: &mut [u8]) -> usize
 
 // The line of any tables and rules. The tables are read once, and the rule of the line is parsed once.
 fn write_line(tables: &[u8], rules: &[u8], place: usize, out: &mut [u8]) -> usize
-    requires { ⌜ 512 ≤ length (now out) ⌝ }
+    requires { ⌜ lineRoom ≤ length (now out) ⌝ }
     ensures { λ r. ⌜ Overwritten (sheetLine (sheetOf (now (tables .entry)) (now (rules .entry))) place) (now (out .entry)) (now (out .exit)) r ⌝ }
 {
     let loaded = tables::read(tables);
@@ -68,10 +74,10 @@ fn write_line(tables: &[u8], rules: &[u8], place: usize, out: &mut [u8]) -> usiz
 // The line of accepted tables, held as words.
 fn judged_line(words: &[u64], rules: &[u8], place: usize, out: &mut [u8]) -> usize
     requires { ⌜ Loaded (now words) ⌝ }
-    requires { ⌜ 512 ≤ length (now out) ⌝ }
+    requires { ⌜ lineRoom ≤ length (now out) ⌝ }
     ensures { λ r. ⌜ LinesOn (now (words .entry)) (now (rules .entry)) place (now (out .entry)) (now (out .exit)) r ⌝ }
 {
-    if 32768 < rules.len() {
+    if RULES_LIMIT < rules.len() {
         return long_rules(place, out);
     }
     if place == 0 {
@@ -86,7 +92,7 @@ fn judged_line(words: &[u64], rules: &[u8], place: usize, out: &mut [u8]) -> usi
 // The line of one rule on accepted tables.
 fn rule_line(words: &[u64], rule: &[u8], place: usize, out: &mut [u8]) -> usize
     requires { ⌜ Loaded (now words) ⌝ }
-    requires { ⌜ 512 ≤ length (now out) ⌝ }
+    requires { ⌜ lineRoom ≤ length (now out) ⌝ }
     ensures { λ r. ⌜ RuleLineOn (now (words .entry)) (now (rule .entry)) place (now (out .entry)) (now (out .exit)) r ⌝ }
 {
     text::line_of(place, verdicts::in_turn(words, rule), out)

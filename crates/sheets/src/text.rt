@@ -8,11 +8,12 @@ ghost use Prim.Native.Nat.{_≤_, _+_, _*_, _-_};
 ghost use lib.ListN.{length, drop};
 ghost use Rattle.syntax.specs.Bytes.{ascii};
 ghost use Rattle.texts.specs.code.Overwritten.{Overwritten};
+ghost use Rattle.sheets.specs.code.Lines.{lineRoom};
 ghost use Rattle.sheets.specs.Line.{labelled, choicesFrom, countsOf, sharedOf, saysOf, lineText};
 
 // The line of a verdict.
 pub fn line_of(place: usize, v: Verdict, out: &mut [u8]) -> usize
-    requires { ⌜ 512 ≤ length (now out) ⌝ }
+    requires { ⌜ lineRoom ≤ length (now out) ⌝ }
     ensures { λ r. ⌜ Overwritten (lineText place v) (now (out .entry)) (now (out .exit)) r ⌝ }
 {
     let n = texts::decimal(place as u64, out);

@@ -107,6 +107,9 @@ parts v o i j e lo li =
 pub none-parts : {ns : List ℕ} {k o : ℕ} → None ns k o → o < opRoom → Parts (getD ns k 0) o 0 0
 none-parts {ns} {k} {o} x h = parts (getD ns k 0) o 0 0 (omega (arith, x .node)) h (omega arith)
 
+pub numbered-parts : {ns : List ℕ} {k o i m : ℕ} → Numbered ns k o i m → o < opRoom → Parts (getD ns k 0) o i m
+numbered-parts {ns} {k} {o} {i} {m} x h = parts (getD ns k 0) o i m (x .node) h (x .small)
+
 pub one-parts : {ns : List ℕ} {k o i : ℕ} → One ns k o i → o < opRoom → Parts (getD ns k 0) o i 0
 one-parts {ns} {k} {o} {i} x h = parts (getD ns k 0) o i 0 (omega (arith, x .node)) h (x .small)
 

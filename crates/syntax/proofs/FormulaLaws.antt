@@ -148,7 +148,7 @@ module _ (k : ℕ) (few : k ≤ 8) (σ : Choices) (s : Bytes) (at : ℕ) where
 
 -- One choice more.
 
-all-snoc : (ns vs : List ℕ) (σ : Choices) (v : ℕ) (t : Term) → HoldsAll ns vs σ → Holds ns v t → HoldsAll ns (vs ++ (v ∷ [])) (σ ++ (t ∷ []))
+pub all-snoc : (ns vs : List ℕ) (σ : Choices) (v : ℕ) (t : Term) → HoldsAll ns vs σ → Holds ns v t → HoldsAll ns (vs ++ (v ∷ [])) (σ ++ (t ∷ []))
 all-snoc ns [] [] v t h x = (x, tt)
 all-snoc ns [] (a ∷ σ) v t h x = absurd h
 all-snoc ns (w ∷ vs) [] v t h x = absurd h

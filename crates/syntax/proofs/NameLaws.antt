@@ -130,7 +130,7 @@ as-choice {v = v} {e = e} (someChoice {v = v′} {e = e′} x) q =
 
 -- The nodes of as many choices; the choice of index i is the term at the node of that index.
 
-all-length : (ns vs : List ℕ) (σ : Choices) → HoldsAll ns vs σ → length σ ≡ length vs
+pub all-length : (ns vs : List ℕ) (σ : Choices) → HoldsAll ns vs σ → length σ ≡ length vs
 all-length ns [] [] h = refl
 all-length ns [] (a ∷ σ) h = absurd h
 all-length ns (v ∷ vs) [] h = absurd h

@@ -103,11 +103,11 @@ pub const BRACKET_HEAD: u32 = OPS_END;
 pub const CHOICE_HEAD: u32 = BRACKET_HEAD + 1;
 
 // The operation is below OP_ROOM, the left index below INDEX_ROOM; the right index counts in RIGHT_UNITs.
-pub const OP_ROOM: u32 = 256;
+const OP_ROOM: u32 = 256;
 
-pub const INDEX_ROOM: u32 = 4096;
+const INDEX_ROOM: u32 = 4096;
 
-pub const RIGHT_UNIT: u32 = 1048576;
+const RIGHT_UNIT: u32 = 1048576;
 
 // The node of an operation on two indexes.
 pub fn pack(op: u32, i: usize, j: usize) -> u32

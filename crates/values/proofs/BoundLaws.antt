@@ -28,7 +28,6 @@ use Rattle.rules.specs.Accept.{refusal}
 use Rattle.rules.proofs.ChoiceLaws.{some-with, accepted-choosable}
 use Rattle.walks.specs.Choices.{variables, fullOn}
 use Rattle.walks.specs.code.Among.{Within}
-use Rattle.walks.proofs.OrderLaws.{and-left, and-right}
 use Rattle.values.specs.Values.{opValue, twoValue, variableOf, itemIn, oneValue, value}
 use Rattle.values.specs.Items.{sortItems, kindItems}
 use Rattle.values.specs.Sets.{setOf, itemsOfKind, itemsOf, inSet}
@@ -217,10 +216,10 @@ module _ (T : Tables) (sound : Sound T) (σ : Choices) (c : List ℕ) where
 full-at : (s : ℕ → List ℕ → ℕ → Bool) (c : List ℕ) (n : ℕ) → fullOn s (variables n) c ≡ true → (v : ℕ) → v < n → s v c (getD c v 0) ≡ true
 unfolding fullOn variables
 full-at s c zero h v l = absurd (omega arith)
-full-at s c (suc n) h v l = go (ℕ-discrete v n) (full-at s c n (and-right (s n c (getD c n 0)) _ h) v)
+full-at s c (suc n) h v l = go (ℕ-discrete v n) (full-at s c n (and-true (s n c (getD c n 0)) _ h .1) v)
   where
     go : Dec (v ≡ n) → (v < n → s v c (getD c v 0) ≡ true) → s v c (getD c v 0) ≡ true
-    go (yes e) ih = rw e (and-left (s n c (getD c n 0)) _ h)
+    go (yes e) ih = rw e (and-true (s n c (getD c n 0)) _ h .0)
     go (no e) ih = ih (omega arith)
 
 -- Under a full choice of a rule's variables each item is one of its variable's kind.

@@ -18,7 +18,8 @@ use Rattle.values.specs.Values.{value, variableOf}
 use Rattle.values.specs.Truth.{compared, signed, countValue, testTrue, clauseTrue, ruleTrue}
 use Rattle.values.specs.Sets.{namesIn, breaks}
 use Rattle.values.specs.code.Clauses.{clauseCount, clauseAt, testNames, clauseNames}
-use Rattle.values.proofs.ReadsLaws.{value-reads, or-left, or-right, or-case}
+use Rattle.values.proofs.ReadsLaws.{value-reads, or-left, or-case}
+use Rattle.words.proofs.LoopLaws.{or-right}
 
 -- ---- what a clause reads
 

@@ -14,13 +14,10 @@ use Rattle.syntax.specs.Term.{Term, base, call, oe, ao, two, Choices}
 use Rattle.rules.specs.Kind.{kind}
 use Rattle.values.specs.Values.{callValue, twoValue, oneValue, variableOf, value}
 use Rattle.values.specs.Sets.{setOf, inSet, namesIn, names}
+use Rattle.words.proofs.LoopLaws.{or-right}
 
 pub or-left : (a b : Bool) → a ≡ true → (a || b) ≡ true
 or-left a b e = ap (λ (x : Bool). x || b) e
-
-pub or-right : (a b : Bool) → b ≡ true → (a || b) ≡ true
-or-right true b e = refl
-or-right false b e = e
 
 pub or-case : {C : Type 0} (a b : Bool) → (a || b) ≡ true → (a ≡ true → C) → (b ≡ true → C) → C
 or-case true b e f g = f refl

@@ -12,10 +12,11 @@ use Rattle.syntax.specs.Term.{Term, Choices}
 use Rattle.syntax.specs.Rule.{number, count, Test, member, alike, empty, sized, Clause, plain, when}
 use Rattle.syntax.specs.code.Arena.{Holds, HoldsTest}
 use Rattle.syntax.specs.code.Nodes.{firstEmpty, firstCounted, opAt, leftAt, rightAt, operationOf, leftOf, rightOf}
-use Rattle.syntax.proofs.ArenaLaws.{one-parts, both-parts}
+use Rattle.syntax.proofs.ArenaLaws.{one-parts, both-parts, numbered-parts}
 use Rattle.values.specs.Sets.{namesIn}
 use Rattle.values.specs.code.Clauses.{testNames, clauseNames, TestNode, ClauseNodes}
-use Rattle.values.proofs.TruthLaws.{alike-range, empty-range, cmp-small, numbered-parts, opOfTest, test-op, no-test}
+use Rattle.values.proofs.TruthLaws.{alike-range, empty-range, opOfTest, test-op, no-test}
+use Rattle.syntax.proofs.TestLaws.{cmp-small}
 
 module _ (ns : List ℕ) (σ : Choices) (k u : ℕ) where
   -- a and b have the variables of the terms at its left and right.

@@ -22,9 +22,10 @@ use Rattle.values.specs.Sets.{namesIn}
 use Rattle.values.specs.code.Nodes.{World, ValueAt}
 use Rattle.values.specs.code.Levels.{Levels, Following, Linked}
 use Rattle.values.specs.code.Cache.{Fed, StepAt, Stored}
-use Rattle.values.proofs.ReadsLaws.{or-left, or-right}
+use Rattle.values.proofs.ReadsLaws.{or-left}
 use Rattle.values.proofs.NodeLaws.{right-below, term-small}
 use Rattle.values.proofs.LevelLaws.{level-below}
+use Rattle.words.proofs.LoopLaws.{or-right}
 
 -- A term names what the terms right below it name.
 module _ (ns : List ℕ) (σ : Choices) (k : ℕ) where

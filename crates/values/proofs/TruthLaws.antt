@@ -15,14 +15,16 @@ use Rattle.syntax.specs.Rule.{Cmp, lt, le, gt, ge, eq, ne, Sign, is, isnt, numb
 use Rattle.syntax.specs.Rule.{Clause, plain, when, Rule, last, also}
 use Rattle.syntax.specs.code.Arena.{alikeOp, emptyOp, cmpNumber, Numbered, Holds, HoldsTest, HoldsClause, HoldsRule, hasTwo, Low, Down, Tidy}
 use Rattle.syntax.specs.code.Nodes.{firstPair, memberOp, firstAlike, firstEmpty, firstNumbered, firstCounted, whenOp, alsoOp, opAt, leftAt, rightAt, opRoom, operationOf, leftOf, rightOf}
-use Rattle.syntax.proofs.ArenaLaws.{Parts, parts, one-parts, both-parts, holds-one}
+use Rattle.syntax.proofs.ArenaLaws.{Parts, parts, one-parts, both-parts, holds-one, numbered-parts}
 use Rattle.values.specs.Values.{value}
 use Rattle.values.specs.Truth.{compared, signed, countValue, testTrue, clauseTrue, ruleTrue}
 use Rattle.values.specs.Sets.{namesIn}
 use Rattle.values.specs.code.Nodes.{cmpAt, relatedAt, emptyAt}
 use Rattle.values.specs.code.Cache.{ValuedIn}
-use Rattle.values.proofs.ReadsLaws.{or-left, or-right}
+use Rattle.values.proofs.ReadsLaws.{or-left}
 use Rattle.values.specs.code.Clauses.{testNames, clauseNames, TestNode, ClauseNodes, TestsAt}
+use Rattle.syntax.proofs.TestLaws.{cmp-small}
+use Rattle.words.proofs.LoopLaws.{or-right}
 
 -- The numbers of the tests.
 pub record Within (low o high : ℕ) : Type 0 where
@@ -38,15 +40,6 @@ pub empty-range : (g : Sign) → Within firstEmpty (emptyOp g) firstNumbered
 unfolding emptyOp
 empty-range is = record { least = omega arith; most = omega arith }
 empty-range isnt = record { least = omega arith; most = omega arith }
-
-pub cmp-small : (d : Cmp) → cmpNumber d < 6
-unfolding cmpNumber
-cmp-small lt = omega arith
-cmp-small le = omega arith
-cmp-small gt = omega arith
-cmp-small ge = omega arith
-cmp-small eq = omega arith
-cmp-small ne = omega arith
 
 cmp-at : (d : Cmp) → cmpAt (cmpNumber d) ≡ d
 unfolding cmpAt cmpNumber
@@ -74,9 +67,6 @@ empty-at isnt a = refl
 not-not : (b : Bool) → not (not b) ≡ b
 not-not true = refl
 not-not false = refl
-
-pub numbered-parts : {ns : List ℕ} {k o i m : ℕ} → Numbered ns k o i m → o < opRoom → Parts (getD ns k 0) o i m
-numbered-parts {ns} {k} {o} {i} {m} x h = parts (getD ns k 0) o i m (x .node) h (x .small)
 
 unfoldable pub opOfTest : Test → ℕ
 opOfTest (member a b) = memberOp

@@ -22,14 +22,9 @@ use Rattle.verdicts.specs.declared.Verdict.{Verdict}
 use Rattle.verdicts.specs.Verdict.{fullCount, breakingCount, firstBreaking, verdictAlong, refusedBy, orderVerdict}
 use Rattle.verdicts.specs.code.Judging.{InSorts, Case, InTurn, WalkedFrom, ruledBy}
 use Rattle.verdicts.proofs.VerdictLaws.{walk-full, walk-breaking, breaking-le-full, full-fits}
+use Rattle.syntax.proofs.NameLaws.{all-length}
 
 -- As many nodes as arguments.
-pub held-length : (ns vs : List ℕ) (σ : Choices) → HoldsAll ns vs σ → length vs ≡ length σ
-held-length ns [] [] x = refl
-held-length ns [] (a ∷ σ) x = absurd x
-held-length ns (v ∷ vs) [] x = absurd x
-held-length ns (v ∷ vs) (a ∷ σ) x = ap suc (held-length ns vs σ (x .1))
-
 -- The words of what the sets name serve the test of an order.
 pub named-order : (n : ℕ) (words vs : List ℕ) (σ : Choices) → n ≤ 8 → Named n words σ → isOrder (namedBy words) n vs ≡ isOrder (names σ) n vs
 unfolding Named
@@ -93,7 +88,7 @@ module _ (T : Tables) (ρ : Rule) where
 -- What the code's test of the order says, where the slices hold the case.
 module _ {ts ns : List ℕ} {n : ℕ} {ks vs : List ℕ} {root : ℕ} {T : Tables} {ρ : Rule} (C : Case ts ns n ks vs root T ρ) (few : length vs ≤ 8) where
   as-many : length vs ≡ length (ruleVars [] ρ)
-  as-many = held-length ns vs (ruleVars [] ρ) (C .world .variables .holds)
+  as-many = sym (all-length ns vs (ruleVars [] ρ) (C .world .variables .holds))
 
   pub few-variables : length (ruleVars [] ρ) ≤ 8
   few-variables = omega (arith, as-many)

@@ -1,7 +1,7 @@
 -- A choice in one word of 8 bytes: an item is put, and two words that are equal under a context's mask are choices alike.
 -- Assumes nothing.
 use mathlib.Core.Path.{_≡_, refl, sym, ap, ap₂, _∙_}
-use mathlib.Core.Bool.{Bool, true, false, not, _&&_, _||_, true≢false}
+use mathlib.Core.Bool.{Bool, true, false, not, _&&_, _||_, true≢false, or-false}
 use Prim.Native.Nat.{ℕ, zero, suc, _+_, _*_, _-_, _/_, _%_, _^_, _<_, _≤_}
 use native.Mathlib.Decide.{ℕ-discrete, decLt}
 use native.Mathlib.Nat.{mod-lt, add-zero}
@@ -119,10 +119,6 @@ module _ (w v x : ℕ) (lv : v < 8) (lx : x < 256) where
       has-join (lessOf w (255 * 2 ^ (8 * v))) (x * 2 ^ (8 * v)) (8 * u + i) (omega arith)
       ∙ ap (λ (t : Bool). t || has (x * 2 ^ (8 * v)) (8 * u + i))
       (has-less w (255 * 2 ^ (8 * v)) (8 * u + i) (omega arith) ∙ ap (λ (t : Bool). has w (8 * u + i) && not t) (has-mask v u i k))
-
-  or-false : (a : Bool) → (a || false) ≡ a
-  or-false true = refl
-  or-false false = refl
 
   pub choice-put : choiceOf (putIn w v x) ≡ set (choiceOf w) v x
   choice-put =

@@ -20,6 +20,7 @@ use Rattle.walks.proofs.SumLaws.{sum-ext}
 use Rattle.walks.proofs.OnceLaws.{hit-other, absent-back}
 use Rattle.walks.proofs.PruneLaws.{every-map}
 use Rattle.walks.proofs.ClauseLaws.{every-at}
+use Rattle.words.proofs.LoopLaws.{or-right}
 
 -- two lists of one length are equal where the same is put
 put-same : (a b : List ℕ) → length a ≡ length b → (v x : ℕ) → getD (set a v x) v 0 ≡ getD (set b v x) v 0
@@ -88,10 +89,6 @@ module _ (m : ℕ) (s : Sets) (names : ℕ → ℕ → Bool) (law : Reads s name
       vs after (x .sets) a b l (λ u r z. h u (r z))
 
 -- ---- a context is joined from words
-
-or-right : (a b : Bool) → b ≡ true → (a || b) ≡ true
-or-right true b e = refl
-or-right false b e = e
 
 module _ (a b : ℕ) (f : ℕ → Bool) where
   pub covers-left : a < 2 ^ 64 → Covers a f → Covers (joinOf a b) f

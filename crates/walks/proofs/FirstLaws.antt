@@ -23,6 +23,7 @@ use Rattle.walks.proofs.PermLaws.{Perm, none as pnone, keep, swap, then
 use Rattle.walks.proofs.OnceLaws.{Distinct, hit-same, hit-other, absent-back, count-variables, once-perm, once-count, once-distinct, below, perm-sym}
 use Rattle.walks.proofs.PruneLaws.{every-map}
 use Rattle.walks.proofs.AmongLaws.{full-own, walk-counts}
+use Rattle.words.proofs.WordsLaws.{and-true}
 
 above-add : (p q : ℕ) → ltb 0 (p + q) ≡ (ltb 0 p || ltb 0 q)
 above-add zero q = ap (ltb 0) (zero-add q)
@@ -89,14 +90,6 @@ first-hit (suc m) f x a l h = go (decLt x m) (λ k. first-hit m f x a k h)
 and-both : (a b : Bool) → a ≡ true → b ≡ true → (a && b) ≡ true
 and-both a b p q = ap₂ (λ (x y : Bool). x && y) p q
 
-and-left : (a b : Bool) → (a && b) ≡ true → a ≡ true
-and-left true b e = refl
-and-left false b e = e
-
-and-right : (a b : Bool) → (a && b) ≡ true → b ≡ true
-and-right true b e = e
-and-right false b e = absurd (true≢false (sym e))
-
 -- a whole choice d that agrees with c outside v ∷ vs agrees outside vs with c that has d's item at v
 after-set : (v : ℕ) (vs c d : List ℕ) → v < length c → ((u : ℕ) → count u (v ∷ vs) ≡ 0 → getD d u 0 ≡ getD c u 0)
     → (u : ℕ) → count u vs ≡ 0 → Dec (u ≡ v) → getD d u 0 ≡ getD (set c v (getD d v 0)) u 0
@@ -152,7 +145,7 @@ module _ (m : ℕ) (s : Sets) (names : ℕ → ℕ → Bool) (law : Reads s name
       (c, ap (λ (t : Bool). gateO t (some c)) (ap b (sym same) ∙ g .2), tt)
   found-least (v ∷ vs) ds af bs c d l g =
       let x : ℕ = getD d v 0 in
-      let inside : s v c x ≡ true = sym (agree v (v ∷ vs) c d (af .0) (g .0 .rest) x) ∙ and-left (s v d x) (fullOn s vs d) (g .1) in
+      let inside : s v c x ≡ true = sym (agree v (v ∷ vs) c d (af .0) (g .0 .rest) x) ∙ and-true (s v d x) (fullOn s vs d) (g .1) .0 in
       let below′ : v < length c = subst (λ (k : ℕ). v < k) (sym l) (bs .0) in
       let next : ChoiceAmong m vs (set c v x) d =
       record {
@@ -160,7 +153,7 @@ module _ (m : ℕ) (s : Sets) (names : ℕ → ℕ → Bool) (law : Reads s name
         items = g .0 .items .1;
         rest = λ u h. after-set v vs c d below′ (g .0 .rest) u h (ℕ-discrete u v);
       } in
-      let ih = found-least vs (ds .1) (af .1) (bs .1) (set c v x) d (length-set c v x ∙ l) (next, and-right (s v d x) (fullOn s vs d) (g .1), g .2) in
+      let ih = found-least vs (ds .1) (af .1) (bs .1) (set c v x) d (length-set c v x ∙ l) (next, and-true (s v d x) (fullOn s vs d) (g .1) .1, g .2) in
       let f : ℕ → Option (List ℕ) = λ y. gateO (s v c y) (walkFirst m s b vs (set c v y)) in
       let hit = first-hit m f x (ih .0) (g .0 .items .0) (ap (λ (t : Bool). gateO t (walkFirst m s b vs (set c v x))) inside ∙ ih .1) in
       -- what the walk finds below the item y has y at v

@@ -15,14 +15,7 @@ use borrow.Author.Tests.{eq-eqb, eqb-true, ltb-true, lt-ltb}
 use Rattle.walks.specs.Order.{variablesOf, isSmall, count, isOnce, isFree, isAfter, isOrder}
 use Rattle.walks.specs.Meaning.{Every, Once, After, Admissible}
 use Rattle.walks.proofs.OnceLaws.{once-length, hit-other, below}
-
-pub and-left : (a b : Bool) → (a && b) ≡ true → a ≡ true
-and-left true b e = refl
-and-left false b e = e
-
-pub and-right : (a b : Bool) → (a && b) ≡ true → b ≡ true
-and-right true b e = e
-and-right false b e = absurd (true≢false (sym e))
+use Rattle.words.proofs.WordsLaws.{and-true}
 
 not-eq : (a : Bool) → not a ≡ true → a ≡ false
 not-eq true e = sym e
@@ -35,49 +28,49 @@ at s i h = rw (add-one, drop-cons s i 0)
 free-every : (names : ℕ → ℕ → Bool) (v : ℕ) (ws : List ℕ) → isFree names v ws ≡ true → Every (λ w. names v w ≡ false) ws
 unfolding isFree
 free-every names v [] h = tt
-free-every names v (w ∷ ws) h = (not-eq (names v w) (and-left (not (names v w)) _ h), free-every names v ws (and-right (not (names v w)) _ h))
+free-every names v (w ∷ ws) h = (not-eq (names v w) (and-true (not (names v w)) _ h .0), free-every names v ws (and-true (not (names v w)) _ h .1))
 
 after-after : (names : ℕ → ℕ → Bool) (vs : List ℕ) → isAfter names vs ≡ true → After names vs
 unfolding isAfter
 after-after names [] h = tt
-after-after names (v ∷ vs) h = (free-every names v (v ∷ vs) (and-left (isFree names v (v ∷ vs)) _ h), after-after names vs (and-right (isFree names v (v ∷ vs)) _ h))
+after-after names (v ∷ vs) h = (free-every names v (v ∷ vs) (and-true (isFree names v (v ∷ vs)) _ h .0), after-after names vs (and-true (isFree names v (v ∷ vs)) _ h .1))
 
 once-each : (k : ℕ) (vs : List ℕ) → isOnce k vs ≡ true → (u : ℕ) → u < k → count u vs ≡ 1
 unfolding isOnce
 once-each zero vs h u l = absurd (omega arith)
-once-each (suc k) vs h u l = go (ℕ-discrete u k) (once-each k vs (and-left (isOnce k vs) _ h) u)
+once-each (suc k) vs h u l = go (ℕ-discrete u k) (once-each k vs (and-true (isOnce k vs) _ h .0) u)
   where
     go : Dec (u ≡ k) → (u < k → count u vs ≡ 1) → count u vs ≡ 1
-    go (yes e) ih = subst (λ (j : ℕ). count j vs ≡ 1) (sym e) (eqb-true (count k vs) 1 (and-right (isOnce k vs) _ h))
+    go (yes e) ih = subst (λ (j : ℕ). count j vs ≡ 1) (sym e) (eqb-true (count k vs) 1 (and-true (isOnce k vs) _ h .1))
     go (no ne) ih = ih (omega arith)
 
 small-none : (n : ℕ) (vs : List ℕ) → isSmall n vs ≡ true → (u : ℕ) → n ≤ u → count u vs ≡ 0
 unfolding isSmall count
 small-none n [] h u l = refl
 small-none n (v ∷ vs) h u l =
-    let lt = ltb-true v n (and-left (ltb v n) _ h) in
-    omega (arith, hit-other u v (omega arith), small-none n vs (and-right (ltb v n) _ h) u l)
+    let lt = ltb-true v n (and-true (ltb v n) _ h .0) in
+    omega (arith, hit-other u v (omega arith), small-none n vs (and-true (ltb v n) _ h .1) u l)
 
 pub small-at : (n : ℕ) (vs : List ℕ) → isSmall n vs ≡ true → n ≤ 8 → (k : ℕ) → getD vs k 0 < 8
 unfolding isSmall
 small-at n [] h l k = lit< tt
-small-at n (v ∷ vs) h l zero = omega (arith, ltb-true v n (and-left (ltb v n) _ h))
-small-at n (v ∷ vs) h l (suc k) = small-at n vs (and-right (ltb v n) _ h) l k
+small-at n (v ∷ vs) h l zero = omega (arith, ltb-true v n (and-true (ltb v n) _ h .0))
+small-at n (v ∷ vs) h l (suc k) = small-at n vs (and-true (ltb v n) _ h .1) l k
 
 small-in : (n : ℕ) (vs : List ℕ) → isSmall n vs ≡ true → (k : ℕ) → k < length vs → getD vs k 0 < n
 unfolding isSmall
 small-in n [] h k l = absurd (omega arith)
-small-in n (v ∷ vs) h zero l = ltb-true v n (and-left (ltb v n) _ h)
-small-in n (v ∷ vs) h (suc k) l = small-in n vs (and-right (ltb v n) _ h) k (omega arith)
+small-in n (v ∷ vs) h zero l = ltb-true v n (and-true (ltb v n) _ h .0)
+small-in n (v ∷ vs) h (suc k) l = small-in n vs (and-true (ltb v n) _ h .1) k (omega arith)
 
 pub order-once : (names : ℕ → ℕ → Bool) (n : ℕ) (vs : List ℕ) → isOrder names n vs ≡ true → Once n vs
 unfolding isOrder
 order-once names n vs h u =
-    (once-each n vs (and-left (isOnce n vs) _ (and-right (isSmall n vs) _ h)) u, small-none n vs (and-left (isSmall n vs) _ h) u)
+    (once-each n vs (and-true (isOnce n vs) _ (and-true (isSmall n vs) _ h .1) .0) u, small-none n vs (and-true (isSmall n vs) _ h .0) u)
 
 pub order-after : (names : ℕ → ℕ → Bool) (n : ℕ) (vs : List ℕ) → isOrder names n vs ≡ true → After names vs
 unfolding isOrder
-order-after names n vs h = after-after names vs (and-right (isOnce n vs) _ (and-right (isSmall n vs) _ h))
+order-after names n vs h = after-after names vs (and-true (isOnce n vs) _ (and-true (isSmall n vs) _ h .1) .1)
 
 -- No set names the variable at its own place or one at a later.
 every-at : (P : ℕ → Type 0) (ws : List ℕ) → Every P ws → (j : ℕ) → j < length ws → P (getD ws j 0)
@@ -142,21 +135,21 @@ order-length names n vs h = once-length n vs (order-once names n vs h)
 
 pub order-small : (names : ℕ → ℕ → Bool) (n : ℕ) (vs : List ℕ) → isOrder names n vs ≡ true → (k : ℕ) → k < length vs → getD vs k 0 < n
 unfolding isOrder
-order-small names n vs h k l = small-in n vs (and-left (isSmall n vs) _ h) k l
+order-small names n vs h k l = small-in n vs (and-true (isSmall n vs) _ h .0) k l
 
 -- the test looks at what the sets of variables below n name, and no further
 free-agree : (f g : ℕ → ℕ → Bool) (n v : ℕ) → ((u : ℕ) → u < n → f v u ≡ g v u) → (ws : List ℕ) → isSmall n ws ≡ true → isFree f v ws ≡ isFree g v ws
 unfolding isFree isSmall
 free-agree f g n v e [] h = refl
 free-agree f g n v e (w ∷ ws) h =
-    ap₂ (λ (a b : Bool). not a && b) (e w (ltb-true w n (and-left (ltb w n) _ h))) (free-agree f g n v e ws (and-right (ltb w n) _ h))
+    ap₂ (λ (a b : Bool). not a && b) (e w (ltb-true w n (and-true (ltb w n) _ h .0))) (free-agree f g n v e ws (and-true (ltb w n) _ h .1))
 
 after-agree : (f g : ℕ → ℕ → Bool) (n : ℕ) → ((v u : ℕ) → v < n → u < n → f v u ≡ g v u) → (vs : List ℕ) → isSmall n vs ≡ true → isAfter f vs ≡ isAfter g vs
 unfolding isAfter isSmall
 after-agree f g n e [] h = refl
 after-agree f g n e (v ∷ vs) h =
-    ap₂ (λ (a b : Bool). a && b) (free-agree f g n v (λ u l. e v u (ltb-true v n (and-left (ltb v n) _ h)) l) (v ∷ vs) h)
-    (after-agree f g n e vs (and-right (ltb v n) _ h))
+    ap₂ (λ (a b : Bool). a && b) (free-agree f g n v (λ u l. e v u (ltb-true v n (and-true (ltb v n) _ h .0)) l) (v ∷ vs) h)
+    (after-agree f g n e vs (and-true (ltb v n) _ h .1))
 
 pub order-agree : (f g : ℕ → ℕ → Bool) (n : ℕ) → ((v u : ℕ) → v < n → u < n → f v u ≡ g v u) → (vs : List ℕ) → isOrder f n vs ≡ isOrder g n vs
 unfolding isOrder

@@ -1,7 +1,7 @@
 -- One turn of the loops of image and preimage, and where they begin and end.
 -- Assumes nothing.
 use mathlib.Core.Path.{_≡_, refl, sym, ap, ap₂, _∙_}
-use mathlib.Core.Bool.{Bool, true, false, _&&_, _||_, not}
+use mathlib.Core.Bool.{Bool, true, false, _&&_, _||_, not, or-false, or-assoc}
 use mathlib.Core.List.{List}
 use Prim.Native.Nat.{ℕ, zero, suc, _+_, _*_, _^_, _≤_, _<_, min}
 use native.Mathlib.Numerals.{add-one}
@@ -23,17 +23,9 @@ or-cases : (a b : Bool) {C : Bool} → (a || b) ≡ true → (a ≡ true → C �
 or-cases true b e p q = p refl
 or-cases false b e p q = q e
 
-or-assoc : (a b c : Bool) → ((a || b) || c) ≡ (a || (b || c))
-or-assoc true b c = refl
-or-assoc false b c = refl
-
-or-right : (a b : Bool) → b ≡ true → (a || b) ≡ true
+pub or-right : (a b : Bool) → b ≡ true → (a || b) ≡ true
 or-right true b e = refl
 or-right false b e = e
-
-or-false : (a : Bool) → (a || false) ≡ a
-or-false true = refl
-or-false false = refl
 
 -- Some number has f: i, or one that is not i.
 any-take : (n : ℕ) (f : ℕ → Bool) (i : ℕ) → i < n → anyTo n f ≡ (f i || anyTo n (λ j. f j && not (eqb j i)))
