@@ -4,6 +4,8 @@ pub mod VerdictLaws
 pub mod WalkingLaws
 pub mod CountingLaws
 pub mod DescendLaws
+pub mod PlanningLaws
+pub mod PlannedLaws
 pub mod RulingLaws
 pub mod SheetLaws
 pub mod LoadedLaws

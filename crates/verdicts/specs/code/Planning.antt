@@ -3,21 +3,23 @@
 use mathlib.Core.Path.{_≡_}
 use mathlib.Core.Bool.{true}
 use mathlib.Core.List.{List, []}
-use Prim.Native.Nat.{ℕ, _+_, _*_, _<_, _≤_}
+use Prim.Native.Nat.{ℕ, _+_, _%_, _<_, _≤_}
 use lib.ListN.{length, getD, drop}
 use Rattle.words.specs.Words.{has}
 use Rattle.tables.specs.Tables.{Tables}
 use Rattle.tables.specs.code.Layout.{Whole}
 use Rattle.syntax.specs.Rule.{Rule, ruleVars}
+use Rattle.syntax.specs.code.Arena.{HoldsRule, Low, Tidy}
 use Rattle.walks.specs.Meaning.{After}
 use Rattle.walks.specs.code.Clauses.{Levelled}
-use Rattle.walks.specs.code.Context.{Contexts}
+use Rattle.walks.specs.code.Context.{Covers, Contexts}
 use Rattle.walks.specs.code.Kept.{Masks, choiceOf, KeptRight}
 use Rattle.values.specs.Sets.{inSet, names}
 use Rattle.values.specs.code.Nodes.{World}
 use Rattle.values.specs.code.Levels.{Levels}
 use Rattle.values.specs.code.Cache.{Stored}
-use Rattle.values.specs.code.Plan.{planLength, planRoom, levelsFrom, NodesIn, ClausesIn}
+use Rattle.values.specs.code.Clauses.{clauseCount, clauseAt, ClauseNodes, ClauseNamesOf}
+use Rattle.values.specs.code.Plan.{planLength, planRoom, clausesFrom, levelsFrom, firstIn, secondIn, NodesIn, ClausesIn}
 -- the clauses carry the law of what they read, so they stand among values' laws
 use Rattle.values.proofs.ClausesLaws.{clausesOf}
 
@@ -33,6 +35,9 @@ contextsFrom = 800
 
 abbrev pub masksFrom : ℕ
 masksFrom = 816
+
+abbrev pub picksFrom : ℕ
+picksFrom = 832
 
 abbrev pub variablesAt : ℕ
 variablesAt = 850
@@ -78,3 +83,69 @@ Caches ts y choice cache e = Stored ts (y .nodes) (y .n) (y .kinds) (y .vars) (c
 
 abbrev pub Keeps : List ℕ → Layout → Tables → Rule → List ℕ → Type 0
 Keeps plan y T ρ kept = KeptRight (inSet T (ruleVars [] ρ)) (clausesOf T ρ) (drop levelsFrom plan) (y .order) (drop contextsFrom plan) kept
+
+-- ---- how the parts are filled in
+
+-- From `at` on, the first `many` numbers have what P says, and the others are as before.
+pub record Filled (old new : List ℕ) (at many : ℕ) (P : ℕ → ℕ → Type 0) : Type 0 where
+  pub long : length new ≡ length old
+  pub inside : (i : ℕ) → i < many → P i (getD new (at + i) 0)
+  pub outside : (j : ℕ) → (at ≤ j → at + many ≤ j) → getD new j 0 ≡ getD old j 0
+
+-- The nodes that a plan can be made of, each of which a chain leaves for one of the first n, or for n.
+pub record Plannable (ns : List ℕ) (n : ℕ) (ks vs next : List ℕ) : Type 0 where
+  pub tidy : Tidy ns n
+  pub small : n ≤ planRoom
+  pub kinded : n ≤ length ks
+  pub few : length vs ≤ 8
+  pub long : n ≤ length next
+  pub within : (k : ℕ) → k < n → getD next k 0 ≤ n
+
+-- The word of clause i of the rule that the root holds.
+pub record ClauseWord (ns : List ℕ) (n root i w : ℕ) : Type 0 where
+  pub low : Low (firstIn w) n
+  pub low₂ : Low (secondIn w) n
+  pub clause : (ρ : Rule) → HoldsRule ns root ρ → i < clauseCount ρ → ClauseNodes ns n (firstIn w) (secondIn w) (clauseAt ρ i)
+
+-- All of them, r many.
+pub record ClauseWords (ns : List ℕ) (n root : ℕ) (old new : List ℕ) (r : ℕ) : Type 0 where
+  pub filled : Filled old new clausesFrom r (ClauseWord ns n root)
+  pub small : r ≤ planRoom
+  pub many : (ρ : Rule) → HoldsRule ns root ρ → r ≡ clauseCount ρ
+
+-- The words of what each clause names.
+abbrev pub Scopes : List ℕ → ℕ → List ℕ → List ℕ → ℕ → List ℕ → Type 0
+Scopes ns n vs plan many scopes =
+    (i : ℕ) → i < many → ClauseNamesOf ns n vs (firstIn (getD plan (clausesFrom + i) 0)) (secondIn (getD plan (clausesFrom + i) 0)) (getD scopes i 0)
+
+-- The word r has what the sets of the order's variables from depth d on name; what the clauses above level d name.
+abbrev pub SetsNamed : List ℕ → List ℕ → ℕ → ℕ → Type 0
+SetsNamed names order d r = (j : ℕ) → d ≤ j → j < length order → Covers r (has (getD names (getD order j 0) 0))
+
+abbrev pub ClausesNamed : List ℕ → List ℕ → ℕ → ℕ → ℕ → Type 0
+ClausesNamed levels scopes many d r = (i : ℕ) → i < many → d < getD levels i 0 → Covers r (has (getD scopes i 0))
+
+-- The word of a mode and depth, 8 × mode + depth, has both; that of mode 0 the first alone.
+pub record ContextWord (names levels scopes order : List ℕ) (many at r : ℕ) : Type 0 where
+  pub sets : SetsNamed names order (at % 8) r
+  pub clauses : 8 ≤ at → ClausesNamed levels scopes many (at % 8) r
+
+-- ---- the whole plan
+
+-- What a plan is made of: a rule's nodes, with kinds and variables, and a list of the variables.
+pub record Laid (ns : List ℕ) (n : ℕ) (ks vs : List ℕ) (root : ℕ) (order : List ℕ) : Type 0 where
+  pub tidy : Tidy ns n
+  pub small : n ≤ planRoom
+  pub kinded : n ≤ length ks
+  pub below : root < n
+  pub few : length vs ≤ 8
+  pub nodes : (i : ℕ) → i < length vs → getD vs i 0 < n
+  pub short : length order ≤ 8
+  pub known : (i : ℕ) → i < length order → getD order i 0 < length vs
+
+-- The plan holds every rule that the root holds, along the order where it is one, whatever the tables.
+pub record Plans (ns : List ℕ) (n : ℕ) (ks vs : List ℕ) (root : ℕ) (order plan : List ℕ) : Type 0 where
+  pub levels : List ℕ
+  pub planned : (ts : List ℕ) (T : Tables) (ρ : Rule) → Whole ts → World ts ns n ks vs T (ruleVars [] ρ) → HoldsRule ns root ρ
+      → After (names (ruleVars [] ρ)) order → ((i : ℕ) → i < length order → getD levels (getD vs (getD order i 0) 0) 0 ≤ i)
+      → Planned ts plan (record { nodes = ns; n = n; kinds = ks; vars = vs; order = order; levels = levels }) T ρ
