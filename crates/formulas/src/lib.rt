@@ -24,6 +24,9 @@ use syntax::Whole;
 // No formula has more bytes, so that its tree has no more nodes.
 const FORMULA_LIMIT: usize = 4096;
 
+// No rule has more, as `lengths` measures.
+const LENGTH_LIMIT: u32 = RULE_LIMIT as u32;
+
 // Whether two texts are equal byte for byte.
 fn alike(a: &[u8], b: &[u8]) -> bool
     ensures { λ r. ⌜ r ≡ same (now (a .entry)) (now (b .entry)) ⌝ }
@@ -90,7 +93,7 @@ pub fn rebuild(formula: &[u8], out: &mut [u8]) -> Written
     let Whole::Root { node, n } = syntax::formula(formula, &mut nodes) else {
         return Written::Refused(Refusal::NoRulesFormula);
     };
-    if rule_length(&nodes, n, node) > RULE_LIMIT {
+    if rule_length(&nodes, n, node) > LENGTH_LIMIT {
         return Written::Refused(Refusal::NoRulesFormula);
     }
     let none = [0u32; 1];

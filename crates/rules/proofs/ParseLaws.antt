@@ -10,6 +10,7 @@ use lib.ListN.{length, getD, take}
 use lib.Seq.{getD-take, length-take-le}
 use Rattle.answers.specs.declared.Refusal.{Refusal}
 use Rattle.answers.specs.declared.Refusal.the-variants.{KindMismatch, Choices}
+use Rattle.syntax.specs.Bytes.{Bytes}
 use Rattle.syntax.specs.Rule.{Rule, ruleVars, formula, ruleOf}
 use Rattle.syntax.specs.code.Arena.{HoldsRule}
 use Rattle.syntax.specs.code.Reading.{Rooted}

@@ -8,14 +8,8 @@ use Rattle.answers.proofs.lend.Tie as tie
 returns : tie.Need-returns
 returns c = kept-short _ _ (c .if1 .taken)
 
-copy-requires : tie.Need-copy-requires
-copy-requires c κs = search needs
-
-same-length : tie.Need-same-length
-same-length c = search needs
-
 returns-2 : tie.Need-returns-2
 returns-2 c = lent-written _ _ (c .before .before .before .before .if1 .left) (c .before .before .copy .ensures)
 
 pub lend-spec : {M : Type 1} → statement M
-lend-spec = tie.close (tie.spec returns copy-requires same-length returns-2)
+lend-spec = tie.close (tie.spec returns (λ c κs. search needs) (λ c. search needs) returns-2)

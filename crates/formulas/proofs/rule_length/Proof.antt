@@ -6,15 +6,6 @@ use Rattle.formulas.proofs.ReduceLaws.{rule-measured}
 use Rattle.formulas.proofs.rule_length.Statement.{statement}
 use Rattle.formulas.proofs.rule_length.Tie as tie
 
-array-share-prefix-none : tie.Need-array-share-prefix-none
-array-share-prefix-none c = search needs
-
-slice-aggregate-lengths : tie.Need-slice-aggregate-lengths
-slice-aggregate-lengths c = search needs
-
-slice-aggregate-lengths-2 : tie.Need-slice-aggregate-lengths-2
-slice-aggregate-lengths-2 c = search needs
-
 lengths-requires : tie.Need-lengths-requires
 lengths-requires c κs = let t = c .before .before .before .pre .0 in (t, omega (arith, t .fits, t .size))
 
@@ -28,4 +19,4 @@ returns : tie.Need-returns
 returns c = λ ρ h. rule-measured (c .before .lengths .ensures) (c .before .before .before .before .before .pre .1) ρ h
 
 pub rule-length-spec : {M : Type 1} → statement M
-rule-length-spec = tie.close (tie.spec array-share-prefix-none slice-aggregate-lengths slice-aggregate-lengths-2 lengths-requires mul-result array-read-result returns)
+rule-length-spec = tie.close (tie.spec (λ c. search needs) (λ c. search needs) (λ c. search needs) lengths-requires mul-result array-read-result returns)

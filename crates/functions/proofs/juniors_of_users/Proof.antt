@@ -8,15 +8,9 @@ use Rattle.functions.proofs.FunctionsLaws.{juniors-of-users}
 use Rattle.functions.proofs.juniors_of_users.Statement.{statement}
 use Rattle.functions.proofs.juniors_of_users.Tie as tie
 
-image-requires : tie.Need-image-requires
-image-requires c κs = search needs
-
-image-requires-2 : tie.Need-image-requires-2
-image-requires-2 c κs = search needs
-
 returns : tie.Need-returns
 returns c = λ T fits e.
     c .image2 .ensures T e ∙ ap (imageOf (sectionAt T roleRowsAt)) (c .before .image .ensures T e) ∙ juniors-of-users T (c .before .before .before .args .w)
 
 pub juniors-of-users-spec : {M : Type 1} → statement M
-juniors-of-users-spec = tie.close (tie.spec image-requires image-requires-2 returns)
+juniors-of-users-spec = tie.close (tie.spec (λ c κs. search needs) (λ c κs. search needs) returns)

@@ -8,18 +8,6 @@ use Rattle.functions.proofs.FunctionsLaws.{operations-on, counted-permi
 use Rattle.functions.proofs.operations_on.Statement.{statement}
 use Rattle.functions.proofs.operations_on.Tie as tie
 
-preimage-requires : tie.Need-preimage-requires
-preimage-requires c κs = search needs
-
-preimage-requires-2 : tie.Need-preimage-requires-2
-preimage-requires-2 c κs = search needs
-
-meet-requires : tie.Need-meet-requires
-meet-requires c κs = search needs
-
-image-requires : tie.Need-image-requires
-image-requires c κs = search needs
-
 returns : tie.Need-returns
 returns c = λ T fits e.
     let S = c .before .before .before .before .before in
@@ -29,4 +17,4 @@ returns c = λ T fits e.
     ∙ operations-on T fits (S .args .w) (S .args .o)
 
 pub operations-on-spec : {M : Type 1} → statement M
-operations-on-spec = tie.close (tie.spec preimage-requires preimage-requires-2 meet-requires image-requires returns)
+operations-on-spec = tie.close (tie.spec (λ c κs. search needs) (λ c κs. search needs) (λ c κs. search needs) (λ c κs. search needs) returns)

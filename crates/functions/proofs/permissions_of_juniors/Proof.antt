@@ -8,15 +8,9 @@ use Rattle.functions.proofs.FunctionsLaws.{permissions-of-juniors, coun
 use Rattle.functions.proofs.permissions_of_juniors.Statement.{statement}
 use Rattle.functions.proofs.permissions_of_juniors.Tie as tie
 
-image-requires : tie.Need-image-requires
-image-requires c κs = search needs
-
-preimage-requires : tie.Need-preimage-requires
-preimage-requires c κs = search needs
-
 returns : tie.Need-returns
 returns c = λ T fits e.
     c .preimage .ensures T e (counted-permissions T) ∙ ap (preimageOf (sectionAt T permissionRowsAt)) (c .before .image .ensures T e) ∙ permissions-of-juniors T (c .before .before .before .args .w)
 
 pub permissions-of-juniors-spec : {M : Type 1} → statement M
-permissions-of-juniors-spec = tie.close (tie.spec image-requires preimage-requires returns)
+permissions-of-juniors-spec = tie.close (tie.spec (λ c κs. search needs) (λ c κs. search needs) returns)

@@ -6,11 +6,8 @@ use Rattle.functions.proofs.FunctionsLaws.{permissions-of-roles, counte
 use Rattle.functions.proofs.permissions_of_roles.Statement.{statement}
 use Rattle.functions.proofs.permissions_of_roles.Tie as tie
 
-preimage-requires : tie.Need-preimage-requires
-preimage-requires c κs = search needs
-
 returns : tie.Need-returns
 returns c = λ T fits e. c .preimage .ensures T e (counted-permissions T) ∙ permissions-of-roles T (c .before .before .args .w)
 
 pub permissions-of-roles-spec : {M : Type 1} → statement M
-permissions-of-roles-spec = tie.close (tie.spec preimage-requires returns)
+permissions-of-roles-spec = tie.close (tie.spec (λ c κs. search needs) returns)

@@ -12,33 +12,6 @@ use Rattle.functions.proofs.SectionLaws.{preimage-section}
 use Rattle.functions.proofs.preimage.Statement.{statement}
 use Rattle.functions.proofs.preimage.Tie as tie
 
-mul-least : tie.Need-mul-least
-mul-least c = search needs
-
-shared-slice-read-least : tie.Need-shared-slice-read-least
-shared-slice-read-least c = search needs
-
-least-requires : tie.Need-least-requires
-least-requires c κs = search needs
-
-add-end : tie.Need-add-end
-add-end c = search needs
-
-mul-preimage : tie.Need-mul-preimage
-mul-preimage c = search needs
-
-sub-preimage : tie.Need-sub-preimage
-sub-preimage c = search needs
-
-part-preimage-start : tie.Need-part-preimage-start
-part-preimage-start c = search needs
-
-part-preimage-end : tie.Need-part-preimage-end
-part-preimage-end c = search needs
-
-preimage-requires : tie.Need-preimage-requires
-preimage-requires c κs = search needs
-
 returns : tie.Need-returns
 returns c = λ T e h.
     let S = c .before .before .before .before .before in
@@ -49,4 +22,4 @@ returns c = λ T e h.
     c .preimage .ensures ∙ preimage-section T (A .at) (A .at + n - A .at) (S .pre .1 .0) (omega (arith, c .before .before .least .ensures)) (A .w) e
 
 pub preimage-spec : {M : Type 1} → statement M
-preimage-spec = tie.close (tie.spec mul-least shared-slice-read-least least-requires add-end mul-preimage sub-preimage part-preimage-start part-preimage-end preimage-requires returns)
+preimage-spec = tie.close (tie.spec (λ c. search needs) (λ c. search needs) (λ c κs. search needs) (λ c. search needs) (λ c. search needs) (λ c. search needs) (λ c. search needs) (λ c. search needs) (λ c κs. search needs) returns)

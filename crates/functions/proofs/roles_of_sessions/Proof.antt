@@ -6,11 +6,8 @@ use Rattle.functions.proofs.FunctionsLaws.{roles-of-sessions}
 use Rattle.functions.proofs.roles_of_sessions.Statement.{statement}
 use Rattle.functions.proofs.roles_of_sessions.Tie as tie
 
-image-requires : tie.Need-image-requires
-image-requires c κs = search needs
-
 returns : tie.Need-returns
 returns c = λ T fits e. c .image .ensures T e ∙ roles-of-sessions T (c .before .before .args .w)
 
 pub roles-of-sessions-spec : {M : Type 1} → statement M
-roles-of-sessions-spec = tie.close (tie.spec image-requires returns)
+roles-of-sessions-spec = tie.close (tie.spec (λ c κs. search needs) returns)

@@ -8,15 +8,9 @@ use Rattle.functions.proofs.FunctionsLaws.{seniors-of-permissions, coun
 use Rattle.functions.proofs.seniors_of_permissions.Statement.{statement}
 use Rattle.functions.proofs.seniors_of_permissions.Tie as tie
 
-image-requires : tie.Need-image-requires
-image-requires c κs = search needs
-
-preimage-requires : tie.Need-preimage-requires
-preimage-requires c κs = search needs
-
 returns : tie.Need-returns
 returns c = λ T fits e.
     c .preimage .ensures T e (counted-roles T) ∙ ap (preimageOf (sectionAt T roleRowsAt)) (c .before .image .ensures T e) ∙ seniors-of-permissions T (c .before .before .before .args .w)
 
 pub seniors-of-permissions-spec : {M : Type 1} → statement M
-seniors-of-permissions-spec = tie.close (tie.spec image-requires preimage-requires returns)
+seniors-of-permissions-spec = tie.close (tie.spec (λ c κs. search needs) (λ c κs. search needs) returns)

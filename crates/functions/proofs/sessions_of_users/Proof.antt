@@ -6,11 +6,8 @@ use Rattle.functions.proofs.FunctionsLaws.{sessions-of-users, counted-s
 use Rattle.functions.proofs.sessions_of_users.Statement.{statement}
 use Rattle.functions.proofs.sessions_of_users.Tie as tie
 
-preimage-requires : tie.Need-preimage-requires
-preimage-requires c κs = search needs
-
 returns : tie.Need-returns
 returns c = λ T fits e. c .preimage .ensures T e (counted-sessions T) ∙ sessions-of-users T (c .before .before .args .w)
 
 pub sessions-of-users-spec : {M : Type 1} → statement M
-sessions-of-users-spec = tie.close (tie.spec preimage-requires returns)
+sessions-of-users-spec = tie.close (tie.spec (λ c κs. search needs) returns)

@@ -8,20 +8,11 @@ use Rattle.protocol.proofs.read_bytes.Tie as tie
 returns : tie.Need-returns
 returns c = empty-field _ _ _ (c .if1 .taken)
 
-shared-slice-read-if3 : tie.Need-shared-slice-read-if3
-shared-slice-read-if3 c = search needs
-
 returns-2 : tie.Need-returns-2
 returns-2 c = dash-field _ _ (c .before .before .if2 .taken) (c .if3 .taken)
 
 returns-3 : tie.Need-returns-3
 returns-3 c = short-field _ _ _ (c .before .before .if2 .taken) (c .if3 .left)
-
-read-pairs-requires : tie.Need-read-pairs-requires
-read-pairs-requires c κs = search needs
-
-same-length : tie.Need-same-length
-same-length c = search needs
 
 returns-4 : tie.Need-returns-4
 returns-4 c = long-field _ (c .before .before .before .before .before .if1 .left) (c .before .before .before .before .if2 .left) (c .before .before .read-pairs .ensures)
@@ -31,9 +22,9 @@ read-bytes-spec =
     tie.close
     (tie.spec
     returns
-    shared-slice-read-if3
+    (λ c. search needs)
     returns-2
     returns-3
-    read-pairs-requires
-    same-length
+    (λ c κs. search needs)
+    (λ c. search needs)
     returns-4)

@@ -18,65 +18,26 @@ abbrev μ-loop : tie.MeasureT-loop
 loop-holds : tie.Need-loop-holds Inv-loop μ-loop
 loop-holds c = (omega arith, omega arith, refl, paired-none _ _)
 
-add-loop : tie.Need-add-loop Inv-loop μ-loop
-add-loop c = search needs
-
-shared-slice-read-value : tie.Need-shared-slice-read-value Inv-loop μ-loop
-shared-slice-read-value c = search needs
-
-value-requires : tie.Need-value-requires Inv-loop μ-loop
-value-requires c κs = search needs
-
-add-value : tie.Need-add-value Inv-loop μ-loop
-add-value c = search needs
-
-shared-slice-read-value-2 : tie.Need-shared-slice-read-value-2 Inv-loop μ-loop
-shared-slice-read-value-2 c = search needs
-
-value-requires-2 : tie.Need-value-requires-2 Inv-loop μ-loop
-value-requires-2 c κs = search needs
-
-same-length : tie.Need-same-length Inv-loop μ-loop
-same-length c = search needs
-
 returns : tie.Need-returns Inv-loop μ-loop
-returns c = no-high (c .before .before .before .before .before .before .loop .inv .3) (c .before .before .before .before .before .loop-test .taken) (rw (c .before .before .before .value .ensures) at (c .if1 .taken))
-
-same-length-2 : tie.Need-same-length-2 Inv-loop μ-loop
-same-length-2 c = search needs
+returns c =
+    let at-loop = c .before .before .before .before .before .before in
+    no-high (at-loop .loop .inv .3) (c .before .before .before .before .before .loop-test .taken) (rw (c .before .before .before .value .ensures) at (c .if1 .taken))
 
 returns-2 : tie.Need-returns-2 Inv-loop μ-loop
-returns-2 c = no-low (c .before .before .before .before .before .before .before .loop .inv .3) (c .before .before .before .before .before .before .loop-test .taken) (rw (c .before .before .before .before .value .ensures) at (c .before .if1 .left)) (rw (c .before .before .value2 .ensures) at (c .if2 .taken))
-
-mul-out : tie.Need-mul-out Inv-loop μ-loop
-mul-out c = search needs
-
-add-out : tie.Need-add-out Inv-loop μ-loop
-add-out c = search needs
-
-slice-write-out : tie.Need-slice-write-out Inv-loop μ-loop
-slice-write-out c = search needs
-
-add-n : tie.Need-add-n Inv-loop μ-loop
-add-n c = search needs
-
-add-at : tie.Need-add-at Inv-loop μ-loop
-add-at c = search needs
-
-loop-less : tie.Need-loop-less Inv-loop μ-loop
-loop-less c = search needs
+returns-2 c =
+    let at-loop-test = c .before .before .before .before .before .before in
+    let at-loop = at-loop-test .before in
+    no-low (at-loop .loop .inv .3) (at-loop-test .loop-test .taken) (rw (c .before .before .before .before .value .ensures) at (c .before .if1 .left)) (rw (c .before .before .value2 .ensures) at (c .if2 .taken))
 
 loop-again : tie.Need-loop-again Inv-loop μ-loop
-loop-again c = (omega arith, omega arith, search needs, rw (c .before .before .before .before .value .ensures, c .before .before .value2 .ensures) (paired-next (c .before .before .before .before .before .before .before .loop .inv .3) (c .before .before .before .before .before .before .loop-test .taken) (rw (c .before .before .before .before .value .ensures) at (c .before .if1 .left)) (rw (c .before .before .value2 .ensures) at (c .if2 .left)) (omega (arith, c .before .before .before .before .before .before .before .before .before .before .pre))))
-
-same-length-3 : tie.Need-same-length-3 Inv-loop μ-loop
-same-length-3 c = search needs
+loop-again c =
+    let at-loop-test = c .before .before .before .before .before .before in
+    let at-loop = at-loop-test .before in
+    let at-start = at-loop .before .before .before in
+    (omega arith, omega arith, search needs, rw (c .before .before .before .before .value .ensures, c .before .before .value2 .ensures) (paired-next (at-loop .loop .inv .3) (at-loop-test .loop-test .taken) (rw (c .before .before .before .before .value .ensures) at (c .before .if1 .left)) (rw (c .before .before .value2 .ensures) at (c .if2 .left)) (omega (arith, at-start .pre))))
 
 returns-3 : tie.Need-returns-3 Inv-loop μ-loop
 returns-3 c = odd-one (c .before .before .loop .inv .3) (c .if3 .taken) (c .before .loop-test .left)
-
-same-length-4 : tie.Need-same-length-4 Inv-loop μ-loop
-same-length-4 c = search needs
 
 returns-4 : tie.Need-returns-4 Inv-loop μ-loop
 returns-4 c = all-pairs (c .before .before .loop .inv .3) (c .if3 .left)
@@ -88,24 +49,24 @@ read-pairs-spec =
     Inv-loop
     μ-loop
     loop-holds
-    add-loop
-    shared-slice-read-value
-    value-requires
-    add-value
-    shared-slice-read-value-2
-    value-requires-2
-    same-length
+    (λ c. search needs)
+    (λ c. search needs)
+    (λ c κs. search needs)
+    (λ c. search needs)
+    (λ c. search needs)
+    (λ c κs. search needs)
+    (λ c. search needs)
     returns
-    same-length-2
+    (λ c. search needs)
     returns-2
-    mul-out
-    add-out
-    slice-write-out
-    add-n
-    add-at
-    loop-less
+    (λ c. search needs)
+    (λ c. search needs)
+    (λ c. search needs)
+    (λ c. search needs)
+    (λ c. search needs)
+    (λ c. search needs)
     loop-again
-    same-length-3
+    (λ c. search needs)
     returns-3
-    same-length-4
+    (λ c. search needs)
     returns-4)

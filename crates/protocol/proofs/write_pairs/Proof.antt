@@ -18,38 +18,21 @@ abbrev μ-loop : tie.MeasureT-loop
 loop-holds : tie.Need-loop-holds Inv-loop μ-loop
 loop-holds c = (omega arith, omega arith, refl, hexed-none _ _)
 
-shared-slice-read-x : tie.Need-shared-slice-read-x Inv-loop μ-loop
-shared-slice-read-x c = search needs
-
 digit-requires : tie.Need-digit-requires Inv-loop μ-loop
 digit-requires c κs = omega (arith, c .shared-slice-known2 .given (c .before .before .loop .i))
-
-slice-write-out : tie.Need-slice-write-out Inv-loop μ-loop
-slice-write-out c = search needs
 
 digit-requires-2 : tie.Need-digit-requires-2 Inv-loop μ-loop
 digit-requires-2 c κs = omega (arith, c .before .shared-slice-known2 .given (c .before .before .before .loop .i))
 
-add-out : tie.Need-add-out Inv-loop μ-loop
-add-out c = search needs
-
 slice-write-out-2 : tie.Need-slice-write-out-2 Inv-loop μ-loop
-slice-write-out-2 c = omega (arith, c .before .before .before .before .before .before .before .pre, length-set (c .before .before .before .before .loop .out) (c .before .before .before .before .loop .at) (c .before .digit .result))
-
-add-i : tie.Need-add-i Inv-loop μ-loop
-add-i c = search needs
-
-add-at : tie.Need-add-at Inv-loop μ-loop
-add-at c = search needs
-
-loop-less : tie.Need-loop-less Inv-loop μ-loop
-loop-less c = search needs
+slice-write-out-2 c =
+    let at-start = c .before .before .before .before .before .before .before in
+    omega (arith, at-start .pre, length-set (c .before .before .before .before .loop .out) (c .before .before .before .before .loop .at) (c .before .digit .result))
 
 loop-again : tie.Need-loop-again Inv-loop μ-loop
-loop-again c = (omega arith, omega arith, search needs, rw (c .before .digit .ensures, c .digit2 .ensures) (hexed-next (c .before .before .before .before .loop .inv .3) (c .before .before .before .loop-test .taken) (omega (arith, c .before .before .before .before .before .before .before .pre))))
-
-same-length : tie.Need-same-length Inv-loop μ-loop
-same-length c = search needs
+loop-again c =
+    let at-start = c .before .before .before .before .before .before .before in
+    (omega arith, omega arith, search needs, rw (c .before .digit .ensures, c .digit2 .ensures) (hexed-next (c .before .before .before .before .loop .inv .3) (c .before .before .before .loop-test .taken) (omega (arith, at-start .pre))))
 
 returns : tie.Need-returns Inv-loop μ-loop
 returns c = hexed-all (c .before .loop .inv .3) (c .loop-test .left)
@@ -61,15 +44,15 @@ write-pairs-spec =
     Inv-loop
     μ-loop
     loop-holds
-    shared-slice-read-x
+    (λ c. search needs)
     digit-requires
-    slice-write-out
+    (λ c. search needs)
     digit-requires-2
-    add-out
+    (λ c. search needs)
     slice-write-out-2
-    add-i
-    add-at
-    loop-less
+    (λ c. search needs)
+    (λ c. search needs)
+    (λ c. search needs)
     loop-again
-    same-length
+    (λ c. search needs)
     returns)

@@ -9,17 +9,8 @@ use Rattle.rcl2000.proofs.ReplyLaws.{refusal-small}
 use Rattle.rcl2000.proofs.number.Statement.{statement}
 use Rattle.rcl2000.proofs.number.Tie as tie
 
-enum-known-written : tie.Need-enum-known-written
-enum-known-written c = search needs
-
-number-requires : tie.Need-number-requires
-number-requires c κs = search needs
-
 mul-result : tie.Need-mul-result
 mul-result c = record { fits = omega (arith, refusal-small (c .before .before .written .given .0 .0), c .number .ensures) }
-
-enum-known-written-2 : tie.Need-enum-known-written-2
-enum-known-written-2 c = search needs
 
 cast-result : tie.Need-cast-result
 cast-result c = omega (arith, c .before .before .before .pre, ap replyOf (c .before .written2 .given .1))
@@ -27,17 +18,14 @@ cast-result c = omega (arith, c .before .before .before .pre, ap replyOf (c .bef
 returns : tie.Need-returns
 returns c = ap (λ (n : ℕ). 65536 * n) (c .number .ensures) ∙ ap replyOf (sym (c .before .before .written .given .1))
 
-returns-2 : tie.Need-returns-2
-returns-2 c = search needs
-
 pub number-spec : {M : Type 1} → statement M
 number-spec =
     tie.close
     (tie.spec
-    enum-known-written
-    number-requires
+    (λ c. search needs)
+    (λ c κs. search needs)
     mul-result
-    enum-known-written-2
+    (λ c. search needs)
     cast-result
     returns
-    returns-2)
+    (λ c. search needs))

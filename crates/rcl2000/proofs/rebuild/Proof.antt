@@ -6,14 +6,8 @@ use Rattle.rcl2000.proofs.FormulaLaws.{rebuilt-short}
 use Rattle.rcl2000.proofs.rebuild.Statement.{statement}
 use Rattle.rcl2000.proofs.rebuild.Tie as tie
 
-rebuild-requires : tie.Need-rebuild-requires
-rebuild-requires c κs = search needs
-
 number-requires : tie.Need-number-requires
 number-requires c κs = call-fits (c .before .before .rebuild .ensures .answers) (rebuilt-short (c .before .before .rebuild .ensures .rebuilds))
-
-same-length : tie.Need-same-length
-same-length c = search needs
 
 returns : tie.Need-returns
 returns c =
@@ -21,4 +15,4 @@ returns c =
     record { answer = x .answer; rebuilds = x .rebuilds; sees = call-seen (x .answers) (c .number .ensures) }
 
 pub rebuild-spec : {M : Type 1} → statement M
-rebuild-spec = tie.close (tie.spec rebuild-requires number-requires same-length returns)
+rebuild-spec = tie.close (tie.spec (λ c κs. search needs) number-requires (λ c. search needs) returns)

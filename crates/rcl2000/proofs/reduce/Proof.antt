@@ -6,17 +6,11 @@ use Rattle.rcl2000.proofs.FormulaLaws.{reduced-short}
 use Rattle.rcl2000.proofs.reduce.Statement.{statement}
 use Rattle.rcl2000.proofs.reduce.Tie as tie
 
-reduce-requires : tie.Need-reduce-requires
-reduce-requires c κs = search needs
-
 number-requires : tie.Need-number-requires
 number-requires c κs = call-fits (c .before .before .reduce .ensures) (reduced-short _)
-
-same-length : tie.Need-same-length
-same-length c = search needs
 
 returns : tie.Need-returns
 returns c = call-seen (c .before .before .before .reduce .ensures) (c .number .ensures)
 
 pub reduce-spec : {M : Type 1} → statement M
-reduce-spec = tie.close (tie.spec reduce-requires number-requires same-length returns)
+reduce-spec = tie.close (tie.spec (λ c κs. search needs) number-requires (λ c. search needs) returns)

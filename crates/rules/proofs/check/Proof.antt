@@ -5,11 +5,8 @@ use Rattle.rules.proofs.CheckedLaws.{parsed-number}
 use Rattle.rules.proofs.check.Statement.{statement}
 use Rattle.rules.proofs.check.Tie as tie
 
-parse-requires : tie.Need-parse-requires
-parse-requires c κs = search needs
-
 returns : tie.Need-returns
 returns c = parsed-number (c .parse .ensures)
 
 pub check-spec : {M : Type 1} → statement M
-check-spec = tie.close (tie.spec parse-requires returns)
+check-spec = tie.close (tie.spec (λ c κs. search needs) returns)

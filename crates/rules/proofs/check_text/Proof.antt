@@ -14,9 +14,6 @@ returns c = turned (refuse-empty (c .before .before .args .s .now) (c .if1 .take
 returns-2 : tie.Need-returns-2
 returns-2 c = turned (refuse-long (c .before .before .before .args .s .now) (omega arith))
 
-too-deep-requires : tie.Need-too-deep-requires
-too-deep-requires c κs = search needs
-
 returns-3 : tie.Need-returns-3
 returns-3 c = turned (refuse-deep (c .before .before .before .before .before .args .s .now) (omega arith) (omega arith) (sym (c .before .too-deep .ensures) ∙ c .if3 .taken))
 
@@ -24,4 +21,4 @@ returns-4 : tie.Need-returns-4
 returns-4 c = passed (record { long = omega arith; short = omega arith; shallow = sym (c .before .too-deep .ensures) ∙ c .if3 .left })
 
 pub check-text-spec : {M : Type 1} → statement M
-check-text-spec = tie.close (tie.spec returns returns-2 too-deep-requires returns-3 returns-4)
+check-text-spec = tie.close (tie.spec returns returns-2 (λ c κs. search needs) returns-3 returns-4)

@@ -8,18 +8,9 @@ use Rattle.sheets.proofs.long_rules.Tie as tie
 returns : tie.Need-returns
 returns c = nothing-made _ _ _ (c .if1 .taken)
 
-slice-aggregate-put : tie.Need-slice-aggregate-put
-slice-aggregate-put c = search needs
-
-put-requires : tie.Need-put-requires
-put-requires c κs = search needs
-
-same-length : tie.Need-same-length
-same-length c = search needs
-
 returns-2 : tie.Need-returns-2
 returns-2 c = one-made (c .before .before .before .before .before .if1 .left) (c .before .before .put .ensures)
 
 pub long-rules-spec : {M : Type 1} → statement M
 long-rules-spec =
-    tie.close (tie.spec returns slice-aggregate-put put-requires same-length returns-2)
+    tie.close (tie.spec returns (λ c. search needs) (λ c κs. search needs) (λ c. search needs) returns-2)

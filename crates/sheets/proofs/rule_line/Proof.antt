@@ -4,17 +4,8 @@ use borrow.Author.Needs.{needs}
 use Rattle.sheets.proofs.rule_line.Statement.{statement}
 use Rattle.sheets.proofs.rule_line.Tie as tie
 
-in-turn-requires : tie.Need-in-turn-requires
-in-turn-requires c κs = search needs
-
-line-of-requires : tie.Need-line-of-requires
-line-of-requires c κs = search needs
-
-same-length : tie.Need-same-length
-same-length c = search needs
-
 returns : tie.Need-returns
 returns c = λ T H. rw (c .before .before .before .before .in-turn .ensures T H) at (c .before .before .line-of .ensures)
 
 pub rule-line-spec : {M : Type 1} → statement M
-rule-line-spec = tie.close (tie.spec in-turn-requires line-of-requires same-length returns)
+rule-line-spec = tie.close (tie.spec (λ c κs. search needs) (λ c κs. search needs) (λ c. search needs) returns)

@@ -6,12 +6,6 @@ use borrow.Author.Needs.{needs}
 use Rattle.syntax.proofs.ended.Statement.{statement}
 use Rattle.syntax.proofs.ended.Tie as tie
 
-enum-known-p : tie.Need-enum-known-p
-enum-known-p c = search needs
-
-enum-told : tie.Need-enum-told
-enum-told c = search needs
-
 returns : tie.Need-returns
 returns c = λ ns₀ ns o h. ended-none (as-none h (c .enum-told .given .1))
 
@@ -22,4 +16,4 @@ returns-3 : tie.Need-returns-3
 returns-3 c = λ ns₀ ns o h. ended-here (as-some h (c .before .before .p .given .1)) (c .if1 .left)
 
 pub ended-spec : {M : Type 1} → statement M
-ended-spec = tie.close (tie.spec enum-known-p enum-told returns returns-2 returns-3)
+ended-spec = tie.close (tie.spec (λ c. search needs) (λ c. search needs) returns returns-2 returns-3)

@@ -11,27 +11,20 @@ use borrow.Author.Needs.{needs}
 use Rattle.syntax.proofs.formula.Statement.{statement}
 use Rattle.syntax.proofs.formula.Tie as tie
 
-slice-aggregate-read-formula : tie.Need-slice-aggregate-read-formula
-slice-aggregate-read-formula c = search needs
-
 read-formula-requires : tie.Need-read-formula-requires
 read-formula-requires c κs = (record { room = c .before .before .before .before .pre .0; within = omega arith; count = omega arith; tidy = tidy-none _ (c .before .before .before .before .pre .1); choices = []; knows = knows-none }, (search needs, omega arith))
 
-ended-requires : tie.Need-ended-requires
-ended-requires c κs = search needs
-
-same-length : tie.Need-same-length
-same-length c = search needs
-
 returns : tie.Need-returns
-returns c = c .ended .ensures _ _ (readFormula clauseRoom 9 [] (now (c .before .before .before .before .before .before .before .before .before .args .s))) (c .before .before .before .before .read-formula .ensures [] knows-none)
+returns c =
+    let at-start = c .before .before .before .before .before .before .before .before .before in
+    c .ended .ensures _ _ (readFormula clauseRoom 9 [] (now (at-start .args .s))) (c .before .before .before .before .read-formula .ensures [] knows-none)
 
 pub formula-spec : {M : Type 1} → statement M
 formula-spec =
     tie.close
     (tie.spec
-    slice-aggregate-read-formula
+    (λ c. search needs)
     read-formula-requires
-    ended-requires
-    same-length
+    (λ c κs. search needs)
+    (λ c. search needs)
     returns)

@@ -8,18 +8,6 @@ use borrow.Author.Needs.{needs}
 use Rattle.tables.proofs.load.Statement.{statement}
 use Rattle.tables.proofs.load.Tie as tie
 
-sections-requires : tie.Need-sections-requires
-sections-requires c κs = search needs
-
-enum-known-read : tie.Need-enum-known-read
-enum-known-read c = search needs
-
-enum-known-read-2 : tie.Need-enum-known-read-2
-enum-known-read-2 c = search needs
-
-same-length : tie.Need-same-length
-same-length c = search needs
-
 returns : tie.Need-returns
 returns c =
     let pre = c .before .before .before .before .before .before .before .before .before .before .pre in
@@ -37,17 +25,11 @@ checked-requires c κs =
     let w = whole-of pre (as-took (sections .ensures) (read2 .given .1)) in
     counts-fit (w .tables) (w .sound .fits) (w .flatly)
 
-same-length-2 : tie.Need-same-length-2
-same-length-2 c = search needs
-
 returns-2 : tie.Need-returns-2
 returns-2 c =
     let args = c .before .before .before .before .before .before .before .before .before .args in
     let sections = c .before .before .before .before .before .sections in
     (rw (load-stop (args .bytes .now) (as-stop (sections .ensures) (c .before .read .given .1))), λ z. never z)
-
-same-length-3 : tie.Need-same-length-3
-same-length-3 c = search needs
 
 returns-3 : tie.Need-returns-3
 returns-3 c =
@@ -66,13 +48,13 @@ pub load-spec : {M : Type 1} → statement M
 load-spec =
     tie.close
     (tie.spec
-    sections-requires
-    enum-known-read
-    enum-known-read-2
-    same-length
+    (λ c κs. search needs)
+    (λ c. search needs)
+    (λ c. search needs)
+    (λ c. search needs)
     returns
     checked-requires
-    same-length-2
+    (λ c. search needs)
     returns-2
-    same-length-3
+    (λ c. search needs)
     returns-3)

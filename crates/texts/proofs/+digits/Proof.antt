@@ -26,52 +26,40 @@ digits-below t = and 1 digits-kinds.ps (falls 1 digits-kinds.ps _<_ μ-digits t)
 digits-returns : (t : ℕ) → digits-lts.Need-returns (digit-reads.Asked, digit-reads.Learnt, digits-below t, digits.Post) (digits-at t) digits.Post
 digits-returns t c = digits-none _ _ _ (c .if1 .taken)
 
-digits-digit-requires : (t : ℕ) → digits-lts.Need-digit-requires (digit-reads.Asked, digit-reads.Learnt, digits-below t, digits.Post) (digits-at t) digits.Post
-digits-digit-requires t c κs = search needs
-
 digits-slice-write-out : (t : ℕ) → digits-lts.Need-slice-write-out (digit-reads.Asked, digit-reads.Learnt, digits-below t, digits.Post) (digits-at t) digits.Post
 digits-slice-write-out t c = omega (arith, c .before .before .before .before .pre .1)
-
-digits-same-length : (t : ℕ) → digits-lts.Need-same-length (digit-reads.Asked, digit-reads.Learnt, digits-below t, digits.Post) (digits-at t) digits.Post
-digits-same-length t c = search needs
 
 digits-returns-2 : (t : ℕ) → digits-lts.Need-returns-2 (digit-reads.Asked, digit-reads.Learnt, digits-below t, digits.Post) (digits-at t) digits.Post
 digits-returns-2 t c = rw (c .digit .ensures) (digits-one _ _ _ (c .before .before .if1 .left) (c .before .if2 .taken) (c .before .before .before .before .pre .1))
 
-digits-sub-digits : (t : ℕ) → digits-lts.Need-sub-digits (digit-reads.Asked, digit-reads.Learnt, digits-below t, digits.Post) (digits-at t) digits.Post
-digits-sub-digits t c = search needs
-
 digits-digits-requires : (t : ℕ) → digits-lts.Need-digits-requires (digit-reads.Asked, digit-reads.Learnt, digits-below t, digits.Post) (digits-at t) digits.Post
 digits-digits-requires t c κs = (omega (arith, c .before .before .before .before .pre .0), omega (arith, c .before .before .before .before .pre .1))
 
-digits-digit-requires-2 : (t : ℕ) → digits-lts.Need-digit-requires-2 (digit-reads.Asked, digit-reads.Learnt, digits-below t, digits.Post) (digits-at t) digits.Post
-digits-digit-requires-2 t c κs = search needs
-
 digits-slice-write-out-2 : (t : ℕ) → digits-lts.Need-slice-write-out-2 (digit-reads.Asked, digit-reads.Learnt, digits-below t, digits.Post) (digits-at t) digits.Post
-digits-slice-write-out-2 t c = let w = c .before .before .before .digits .ensures in omega (arith, c .before .before .before .before .before .before .before .before .pre .1, c .before .before .before .before .before .before .if1 .left, digits-room _ _ w, written-length w)
-
-digits-add-result : (t : ℕ) → digits-lts.Need-add-result (digit-reads.Asked, digit-reads.Learnt, digits-below t, digits.Post) (digits-at t) digits.Post
-digits-add-result t c = search needs
-
-digits-same-length-2 : (t : ℕ) → digits-lts.Need-same-length-2 (digit-reads.Asked, digit-reads.Learnt, digits-below t, digits.Post) (digits-at t) digits.Post
-digits-same-length-2 t c = search needs
+digits-slice-write-out-2 t c =
+    let at-if1 = c .before .before .before .before .before .before in
+    let at-start = at-if1 .before .before in
+    let w = c .before .before .before .digits .ensures in omega (arith, at-start .pre .1, at-if1 .if1 .left, digits-room _ _ w, written-length w)
 
 digits-returns-3 : (t : ℕ) → digits-lts.Need-returns-3 (digit-reads.Asked, digit-reads.Learnt, digits-below t, digits.Post) (digits-at t) digits.Post
-digits-returns-3 t c = rw (c .digit2 .ensures) (digits-more _ _ (c .before .before .before .before .before .before .if1 .left) (c .before .before .before .before .before .if2 .left) (c .before .before .before .before .before .before .before .before .pre .1) (c .before .before .before .digits .ensures))
+digits-returns-3 t c =
+    let at-if1 = c .before .before .before .before .before .before in
+    let at-start = at-if1 .before .before in
+    rw (c .digit2 .ensures) (digits-more _ _ (at-if1 .if1 .left) (c .before .before .before .before .before .if2 .left) (at-start .pre .1) (c .before .before .before .digits .ensures))
 
 pub +digits-spec : {M : Type 1} → statement M
 +digits-spec = close μ-digits λ t. digits-lts.spec (digit-reads.Asked, digit-reads.Learnt, digits-below t, digits.Post)
     (digits-at t)
     digits.Post
     (digits-returns t)
-    (digits-digit-requires t)
+    (λ c κs. search needs)
     (digits-slice-write-out t)
-    (digits-same-length t)
+    (λ c. search needs)
     (digits-returns-2 t)
-    (digits-sub-digits t)
+    (λ c. search needs)
     (digits-digits-requires t)
-    (digits-digit-requires-2 t)
+    (λ c κs. search needs)
     (digits-slice-write-out-2 t)
-    (digits-add-result t)
-    (digits-same-length-2 t)
+    (λ c. search needs)
+    (λ c. search needs)
     (digits-returns-3 t)

@@ -6,15 +6,6 @@ use borrow.Author.Needs.{needs}
 use Rattle.texts.proofs.line.Statement.{statement}
 use Rattle.texts.proofs.line.Tie as tie
 
-seek-requires : tie.Need-seek-requires
-seek-requires c κs = search needs
-
-enum-known-from : tie.Need-enum-known-from
-enum-known-from c = search needs
-
-enum-told : tie.Need-enum-told
-enum-told c = search needs
-
 returns : tie.Need-returns
 returns c = at-nowhere (c .before .before .seek .ensures) (c .enum-told .given .1) _ (omega arith)
 
@@ -30,4 +21,4 @@ returns-3 c = let b = at-start (c .before .before .before .before .before .seek 
 pub line-spec : {M : Type 1} → statement M
 line-spec =
     tie.close
-    (tie.spec seek-requires enum-known-from enum-told returns returns-2 find-requires returns-3)
+    (tie.spec (λ c κs. search needs) (λ c. search needs) (λ c. search needs) returns returns-2 find-requires returns-3)

@@ -23,15 +23,6 @@ find-requires c κs = (c .before .loop .inv .0, omega arith)
 returns : tie.Need-returns Inv-loop μ-loop
 returns c = along-none (c .before .before .before .loop .inv .1) (sought (c .before .before .before .loop .inv .0) (c .before .find .ensures .0) (c .before .find .ensures .1)) (c .if1 .taken) (c .before .before .loop-test .taken)
 
-add-at : tie.Need-add-at Inv-loop μ-loop
-add-at c = search needs
-
-sub-left : tie.Need-sub-left Inv-loop μ-loop
-sub-left c = search needs
-
-loop-less : tie.Need-loop-less Inv-loop μ-loop
-loop-less c = search needs
-
 loop-again : tie.Need-loop-again Inv-loop μ-loop
 loop-again c = (omega (arith, c .if1 .left, c .before .find .ensures .1), along-next (c .before .before .before .loop .inv .1) (sought (c .before .before .before .loop .inv .0) (c .before .find .ensures .0) (c .before .find .ensures .1)) (c .if1 .left) (c .before .before .loop-test .taken))
 
@@ -47,8 +38,8 @@ seek-spec =
     loop-holds
     find-requires
     returns
-    add-at
-    sub-left
-    loop-less
+    (λ c. search needs)
+    (λ c. search needs)
+    (λ c. search needs)
     loop-again
     returns-2)

@@ -16,9 +16,6 @@ Inv-loop names order v from word i₀ i = (i ≤ length order) × (isFree (named
 abbrev μ-loop : tie.MeasureT-loop
 μ-loop names order v from word i₀ i = length order - i
 
-mul-word : tie.Need-mul-word Inv-loop μ-loop
-mul-word c = search needs
-
 shared-slice-read-word : tie.Need-shared-slice-read-word Inv-loop μ-loop
 shared-slice-read-word c = c .before .before .before .pre .0
 
@@ -29,14 +26,19 @@ shared-slice-read-w : tie.Need-shared-slice-read-w Inv-loop μ-loop
 shared-slice-read-w c = omega arith
 
 cast-w : tie.Need-cast-w Inv-loop μ-loop
-cast-w c = omega (arith, c .before .before .before .before .before .before .pre .2 (c .before .before .loop .i))
+cast-w c =
+    let at-start = c .before .before .before .before .before .before in
+    omega (arith, at-start .pre .2 (c .before .before .loop .i))
 
 contains-requires : tie.Need-contains-requires Inv-loop μ-loop
-contains-requires c κs = omega (arith, c .before .before .before .before .before .before .pre .2 (c .before .before .loop .i))
+contains-requires c κs =
+    let at-start = c .before .before .before .before .before .before in
+    omega (arith, at-start .pre .2 (c .before .before .loop .i))
 
 returns : tie.Need-returns Inv-loop μ-loop
 returns c =
-    sym (free-stop (c .before .before .before .before .before .before .before .before .args .order .now) (c .before .before .before .before .loop .i) (namedBy (c .before .before .before .before .before .before .before .before .args .names .now)) (c .before .before .before .before .before .before .before .before .args .v) (c .before .before .before .loop-test .taken) (sym (c .before .contains .ensures) ∙ c .if1 .taken))
+    let at-start = c .before .before .before .before .before .before .before .before in
+    sym (free-stop (at-start .args .order .now) (c .before .before .before .before .loop .i) (namedBy (at-start .args .names .now)) (at-start .args .v) (c .before .before .before .loop-test .taken) (sym (c .before .contains .ensures) ∙ c .if1 .taken))
     ∙ c .before .before .before .before .loop .inv .1
 
 add-i : tie.Need-add-i Inv-loop μ-loop
@@ -47,7 +49,8 @@ loop-less c = omega arith
 
 loop-again : tie.Need-loop-again Inv-loop μ-loop
 loop-again c =
-    let go = free-go (c .before .before .before .before .before .before .before .before .args .order .now) (c .before .before .before .before .loop .i) (namedBy (c .before .before .before .before .before .before .before .before .args .names .now)) (c .before .before .before .before .before .before .before .before .args .v) (c .before .before .before .loop-test .taken) (sym (c .before .contains .ensures) ∙ c .if1 .left) in
+    let at-start = c .before .before .before .before .before .before .before .before in
+    let go = free-go (at-start .args .order .now) (c .before .before .before .before .loop .i) (namedBy (at-start .args .names .now)) (at-start .args .v) (c .before .before .before .loop-test .taken) (sym (c .before .contains .ensures) ∙ c .if1 .left) in
     (omega arith, go ∙ c .before .before .before .before .loop .inv .1)
 
 returns-2 : tie.Need-returns-2 Inv-loop μ-loop
@@ -59,7 +62,7 @@ free-spec =
     (tie.spec
     Inv-loop
     μ-loop
-    mul-word
+    (λ c. search needs)
     shared-slice-read-word
     loop-holds
     shared-slice-read-w

@@ -8,12 +8,6 @@ use borrow.Author.Needs.{needs}
 use Rattle.walks.proofs.ordered.Statement.{statement}
 use Rattle.walks.proofs.ordered.Tie as tie
 
-small-requires : tie.Need-small-requires
-small-requires c κs = search needs
-
-once-requires : tie.Need-once-requires
-once-requires c κs = search needs
-
 after-requires : tie.Need-after-requires
 after-requires c κs =
     let S = c .before .before .before .before .before .before in
@@ -36,4 +30,4 @@ returns-3 c =
 
 pub ordered-spec : {M : Type 1} → statement M
 ordered-spec =
-    tie.close (tie.spec small-requires once-requires after-requires returns returns-2 returns-3)
+    tie.close (tie.spec (λ c κs. search needs) (λ c κs. search needs) after-requires returns returns-2 returns-3)

@@ -13,18 +13,6 @@ returns : tie.Need-returns
 unfolding shareOf
 returns c = simp (eq-eqb _ _ (c .if1 .taken))
 
-mul-result : tie.Need-mul-result
-mul-result c = search needs
-
-add-result : tie.Need-add-result
-add-result c = search needs
-
-mul-result-2 : tie.Need-mul-result-2
-mul-result-2 c = search needs
-
-div-result : tie.Need-div-result
-div-result c = search needs
-
 cast-result : tie.Need-cast-result
 cast-result c =
     let f : ℕ = c .before .args .full in
@@ -40,4 +28,4 @@ returns-2 c = simp (ne-eqb _ _ (c .if1 .left))
 pub share-spec : {M : Type 1} → statement M
 share-spec =
     tie.close
-    (tie.spec returns mul-result add-result mul-result-2 div-result cast-result returns-2)
+    (tie.spec returns (λ c. search needs) (λ c. search needs) (λ c. search needs) (λ c. search needs) cast-result returns-2)

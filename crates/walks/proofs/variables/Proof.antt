@@ -24,12 +24,6 @@ loop-holds c = (omega arith, refl, variables-none)
 shared-slice-read-variable-of : tie.Need-shared-slice-read-variable-of Inv-loop μ-loop
 shared-slice-read-variable-of c = omega arith
 
-variable-of-requires : tie.Need-variable-of-requires Inv-loop μ-loop
-variable-of-requires c κs = search needs
-
-array-write-vs : tie.Need-array-write-vs Inv-loop μ-loop
-array-write-vs c = search needs
-
 add-i : tie.Need-add-i Inv-loop μ-loop
 add-i c = omega arith
 
@@ -58,8 +52,8 @@ variables-spec =
     μ-loop
     loop-holds
     shared-slice-read-variable-of
-    variable-of-requires
-    array-write-vs
+    (λ c κs. search needs)
+    (λ c. search needs)
     add-i
     loop-less
     loop-again

@@ -8,9 +8,6 @@ use Rattle.words.proofs.WordsLaws.{all-ones, all-full}
 use Rattle.words.proofs.all.Statement.{statement}
 use Rattle.words.proofs.all.Tie as tie
 
-shl-result : tie.Need-shl-result
-shl-result c = search needs
-
 sub-result : tie.Need-sub-result
 sub-result c = omega (arith, shl-exact {a = 1} 1 (c .before .args .n) 64 (lit< tt) (omega arith), pow-pos (c .before .args .n))
 
@@ -21,4 +18,4 @@ returns-2 : tie.Need-returns-2
 returns-2 c = omega (arith, all-full (c .before .args .n) (c .if1 .left))
 
 pub all-spec : {M : Type 1} → statement M
-all-spec = tie.close (tie.spec shl-result sub-result returns returns-2)
+all-spec = tie.close (tie.spec (λ c. search needs) sub-result returns returns-2)

@@ -9,9 +9,6 @@ use Rattle.words.proofs.WordsLaws.{item-pow, item-none}
 use Rattle.words.proofs.item.Statement.{statement}
 use Rattle.words.proofs.item.Tie as tie
 
-shl-result : tie.Need-shl-result
-shl-result c = search needs
-
 returns : tie.Need-returns
 returns c = omega (arith, shl-exact {a = 1} 1 (c .before .args .i) 64 (lit< tt) (omega arith), item-pow (c .before .args .i) (c .if1 .taken))
 
@@ -19,4 +16,4 @@ returns-2 : tie.Need-returns-2
 returns-2 c = sym (item-none (c .before .args .i) (c .if1 .left))
 
 pub item-spec : {M : Type 1} → statement M
-item-spec = tie.close (tie.spec shl-result returns returns-2)
+item-spec = tie.close (tie.spec (λ c. search needs) returns returns-2)

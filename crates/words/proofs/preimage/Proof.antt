@@ -16,27 +16,9 @@ Inv-loop rows w n found₀ i₀ found i = (i ≤ n) × (found ≡ wordOf i (meet
 abbrev μ-loop : tie.MeasureT-loop
 μ-loop rows w n found₀ i₀ found i = n - i
 
-least-requires : tie.Need-least-requires Inv-loop μ-loop
-least-requires c κs = search needs
-
 loop-holds : tie.Need-loop-holds Inv-loop μ-loop
 unfolding wordOf
 loop-holds c = (omega arith, refl)
-
-mul-meet : tie.Need-mul-meet Inv-loop μ-loop
-mul-meet c = search needs
-
-shared-slice-read-meet : tie.Need-shared-slice-read-meet Inv-loop μ-loop
-shared-slice-read-meet c = search needs
-
-meet-requires : tie.Need-meet-requires Inv-loop μ-loop
-meet-requires c κs = search needs
-
-item-requires : tie.Need-item-requires Inv-loop μ-loop
-item-requires c κs = search needs
-
-join-requires : tie.Need-join-requires Inv-loop μ-loop
-join-requires c κs = search needs
 
 add-i : tie.Need-add-i Inv-loop μ-loop
 add-i c = omega arith
@@ -68,13 +50,13 @@ preimage-spec =
     (tie.spec
     Inv-loop
     μ-loop
-    least-requires
+    (λ c κs. search needs)
     loop-holds
-    mul-meet
-    shared-slice-read-meet
-    meet-requires
-    item-requires
-    join-requires
+    (λ c. search needs)
+    (λ c. search needs)
+    (λ c κs. search needs)
+    (λ c κs. search needs)
+    (λ c κs. search needs)
     add-i
     loop-less
     loop-again

@@ -9,55 +9,32 @@ use borrow.Author.Needs.{needs}
 use Rattle.conformance.proofs.commands.print_line.Statement.{statement}
 use Rattle.conformance.proofs.commands.print_line.Tie as tie
 
-slice-aggregate-line : tie.Need-slice-aggregate-line
-slice-aggregate-line c = search needs
-
-line-requires : tie.Need-line-requires
-line-requires c κs = search needs
-
-enum-known-n : tie.Need-enum-known-n
-enum-known-n c = search needs
-
-enum-told : tie.Need-enum-told
-enum-told c = search needs
-
-returns : tie.Need-returns
-returns c = search needs
-
-returns-2 : tie.Need-returns-2
-returns-2 c = search needs
-
 array-share-prefix-line : tie.Need-array-share-prefix-line
 array-share-prefix-line c = lent-within _ (c .before .before .before .before .before .line2 .ensures) (c .before .before .n .given .1)
 
 slice-aggregate-print-bytes : tie.Need-slice-aggregate-print-bytes
-slice-aggregate-print-bytes c = sym (length-take-le _ _ (lent-within _ (c .before .before .before .before .before .before .line2 .ensures) (c .before .before .before .n .given .1)))
+slice-aggregate-print-bytes c =
+    let at-line2 = c .before .before .before .before .before .before in
+    sym (length-take-le _ _ (lent-within _ (at-line2 .line2 .ensures) (c .before .before .before .n .given .1)))
 
 print-bytes-requires : tie.Need-print-bytes-requires
-print-bytes-requires c κs = let l : length (c .before .before .before .before .before .before .line2 .last .1 .1 .1 .0) ≡ 512 = search needs in simp length-take (omega arith)
-
-slice-aggregate-write-all : tie.Need-slice-aggregate-write-all
-slice-aggregate-write-all c = search needs
-
-write-all-requires : tie.Need-write-all-requires
-write-all-requires c κs = search needs
-
-returns-3 : tie.Need-returns-3
-returns-3 c = search needs
+print-bytes-requires c κs =
+    let at-line2 = c .before .before .before .before .before .before in
+    let l : length (at-line2 .line2 .last .1 .1 .1 .0) ≡ 512 = search needs in simp length-take (omega arith)
 
 pub print-line-spec : {M : Type 1} → statement M
 print-line-spec =
     tie.close
     (tie.spec
-    slice-aggregate-line
-    line-requires
-    enum-known-n
-    enum-told
-    returns
-    returns-2
+    (λ c. search needs)
+    (λ c κs. search needs)
+    (λ c. search needs)
+    (λ c. search needs)
+    (λ c. search needs)
+    (λ c. search needs)
     array-share-prefix-line
     slice-aggregate-print-bytes
     print-bytes-requires
-    slice-aggregate-write-all
-    write-all-requires
-    returns-3)
+    (λ c. search needs)
+    (λ c κs. search needs)
+    (λ c. search needs))

@@ -12,28 +12,19 @@ use Rattle.conformance.proofs.fields.print_bytes.Tie as tie
 slice-aggregate-write-bytes : tie.Need-slice-aggregate-write-bytes
 slice-aggregate-write-bytes c = sym (length-replicate {A = ℕ} 131073 0)
 
-write-bytes-requires : tie.Need-write-bytes-requires
-write-bytes-requires c κs = search needs
-
 array-share-prefix-text : tie.Need-array-share-prefix-text
 array-share-prefix-text c = omega (arith, c .before .write-bytes .ensures .count, c .before .write-bytes .ensures .fits, written-length (c .before .write-bytes .ensures))
 
 slice-aggregate-write-all : tie.Need-slice-aggregate-write-all
 slice-aggregate-write-all c = part-length (c .before .before .write-bytes .ensures)
 
-write-all-requires : tie.Need-write-all-requires
-write-all-requires c κs = search needs
-
-returns : tie.Need-returns
-returns c = search needs
-
 pub print-bytes-spec : {M : Type 1} → statement M
 print-bytes-spec =
     tie.close
     (tie.spec
     slice-aggregate-write-bytes
-    write-bytes-requires
+    (λ c κs. search needs)
     array-share-prefix-text
     slice-aggregate-write-all
-    write-all-requires
-    returns)
+    (λ c κs. search needs)
+    (λ c. search needs))

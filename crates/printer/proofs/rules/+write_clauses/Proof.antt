@@ -40,41 +40,49 @@ write-clauses-op-at-requires : (t : ℕ) → write-clauses-lts.Need-op-at-requir
 write-clauses-op-at-requires t c κs = ready-size (c .before .before .before .pre .1 .0)
 
 write-clauses-write-clause-requires : (t : ℕ) → write-clauses-lts.Need-write-clause-requires (write-clauses-called t) (write-clauses-at t) write-clauses.Post
-write-clauses-write-clause-requires t c κs = c .before .before .before .before .before .before .pre .1
-
-write-clauses-same-length : (t : ℕ) → write-clauses-lts.Need-same-length (write-clauses-called t) (write-clauses-at t) write-clauses.Post
-write-clauses-same-length t c = search needs
+write-clauses-write-clause-requires t c κs =
+    let at-start = c .before .before .before .before .before .before in
+    at-start .pre .1
 
 write-clauses-returns : (t : ℕ) → write-clauses-lts.Need-returns (write-clauses-called t) (write-clauses-at t) write-clauses.Post
-write-clauses-returns t c = appends-last (c .before .before .before .before .before .before .before .before .before .pre .1 .0) (c .before .before .before .before .before .op-at .ensures) (c .before .before .before .before .if1 .taken) (c .before .before .write-clause .ensures)
+write-clauses-returns t c =
+    let at-start = c .before .before .before .before .before .before .before .before .before in
+    appends-last (at-start .pre .1 .0) (c .before .before .before .before .before .op-at .ensures) (c .before .before .before .before .if1 .taken) (c .before .before .write-clause .ensures)
 
 write-clauses-left-at-requires : (t : ℕ) → write-clauses-lts.Need-left-at-requires (write-clauses-called t) (write-clauses-at t) write-clauses.Post
 write-clauses-left-at-requires t c κs = ready-size (c .before .before .before .before .before .pre .1 .0)
 
 write-clauses-write-clause-requires-2 : (t : ℕ) → write-clauses-lts.Need-write-clause-requires-2 (write-clauses-called t) (write-clauses-at t) write-clauses.Post
-write-clauses-write-clause-requires-2 t c κs = (ready-left (c .before .before .before .before .before .before .before .pre .1 .0) (c .before .left-at .ensures) (omega (arith, c .before .before .before .op-at .ensures, c .before .before .if1 .left)) .0, c .before .before .before .before .before .before .before .pre .1 .1)
-
-write-clauses-slice-aggregate-put : (t : ℕ) → write-clauses-lts.Need-slice-aggregate-put (write-clauses-called t) (write-clauses-at t) write-clauses.Post
-write-clauses-slice-aggregate-put t c = search needs
+write-clauses-write-clause-requires-2 t c κs =
+    let at-start = c .before .before .before .before .before .before .before in
+    (ready-left (at-start .pre .1 .0) (c .before .left-at .ensures) (omega (arith, c .before .before .before .op-at .ensures, c .before .before .if1 .left)) .0, at-start .pre .1 .1)
 
 write-clauses-put-requires : (t : ℕ) → write-clauses-lts.Need-put-requires (write-clauses-called t) (write-clauses-at t) write-clauses.Post
 write-clauses-put-requires t c κs = omega (arith, c .before .before .before .before .write-clause2 .ensures .room)
 
 write-clauses-right-at-requires : (t : ℕ) → write-clauses-lts.Need-right-at-requires (write-clauses-called t) (write-clauses-at t) write-clauses.Post
-write-clauses-right-at-requires t c κs = ready-size (c .before .before .before .before .before .before .before .before .before .before .before .before .before .before .before .pre .1 .0)
+write-clauses-right-at-requires t c κs =
+    let at-start = c .before .before .before .before .before .before .before .before .before .before .before .before .before .before .before in
+    ready-size (at-start .pre .1 .0)
 
 write-clauses-write-clauses-requires : (t : ℕ) → write-clauses-lts.Need-write-clauses-requires (write-clauses-called t) (write-clauses-at t) write-clauses.Post
 write-clauses-write-clauses-requires t c κs =
-    let z = ready-right (c .before .before .before .before .before .before .before .before .before .before .before .before .before .before .before .before .before .pre .1 .0) (c .before .right-at .ensures) (has-two-last _ (omega (arith, c .before .before .before .before .before .before .before .before .before .before .before .before .before .op-at .ensures, c .before .before .before .before .before .before .before .before .before .before .before .before .if1 .left))) in
-    (omega (arith, c .before .before .before .before .before .before .before .before .before .before .before .before .before .before .before .before .before .pre, z .1), (z .0, omega (arith, c .before .before .before .before .put .ensures .room)))
-
-write-clauses-same-length-2 : (t : ℕ) → write-clauses-lts.Need-same-length-2 (write-clauses-called t) (write-clauses-at t) write-clauses.Post
-write-clauses-same-length-2 t c = search needs
+    let at-if1 = c .before .before .before .before .before .before .before .before .before .before .before .before in
+    let at-op-at = at-if1 .before in
+    let at-start = at-op-at .before .before .before .before in
+    let z = ready-right (at-start .pre .1 .0) (c .before .right-at .ensures) (has-two-last _ (omega (arith, at-op-at .op-at .ensures, at-if1 .if1 .left))) in
+    (omega (arith, at-start .pre, z .1), (z .0, omega (arith, c .before .before .before .before .put .ensures .room)))
 
 write-clauses-returns-2 : (t : ℕ) → write-clauses-lts.Need-returns-2 (write-clauses-called t) (write-clauses-at t) write-clauses.Post
 write-clauses-returns-2 t c =
-    appends-also (c .before .before .before .before .before .before .before .before .before .before .before .before .before .before .before .before .before .before .before .before .pre .1 .0) (c .before .before .before .before .before .before .before .before .before .before .before .before .before .before .before .before .op-at .ensures) (c .before .before .before .before .before .before .before .before .before .before .before .before .before .before .left-at .ensures) (c .before .before .before .before .right-at .ensures) (c .before .before .before .before .before .before .before .before .before .before .before .before .before .before .before .if1 .left)
-    (appends-then (appends-add (c .before .before .before .before .before .before .before .before .before .before .before .before .write-clause2 .ensures) (c .before .before .before .before .before .before .before .put .ensures)) (c .before .before .write-clauses .ensures))
+    let at-put = c .before .before .before .before .before .before .before in
+    let at-write-clause2 = at-put .before .before .before .before .before in
+    let at-left-at = at-write-clause2 .before .before in
+    let at-if1 = at-left-at .before in
+    let at-op-at = at-if1 .before in
+    let at-start = at-op-at .before .before .before .before in
+    appends-also (at-start .pre .1 .0) (at-op-at .op-at .ensures) (at-left-at .left-at .ensures) (c .before .before .before .before .right-at .ensures) (at-if1 .if1 .left)
+    (appends-then (appends-add (at-write-clause2 .write-clause2 .ensures) (at-put .put .ensures)) (c .before .before .write-clauses .ensures))
 
 pub +write-clauses-spec : {M : Type 1} → statement M
 +write-clauses-spec = close μ-write-clauses λ t. write-clauses-lts.spec (write-clauses-called t)
@@ -82,13 +90,13 @@ pub +write-clauses-spec : {M : Type 1} → statement M
     write-clauses.Post
     (write-clauses-op-at-requires t)
     (write-clauses-write-clause-requires t)
-    (write-clauses-same-length t)
+    (λ c. search needs)
     (write-clauses-returns t)
     (write-clauses-left-at-requires t)
     (write-clauses-write-clause-requires-2 t)
-    (write-clauses-slice-aggregate-put t)
+    (λ c. search needs)
     (write-clauses-put-requires t)
     (write-clauses-right-at-requires t)
     (write-clauses-write-clauses-requires t)
-    (write-clauses-same-length-2 t)
+    (λ c. search needs)
     (write-clauses-returns-2 t)

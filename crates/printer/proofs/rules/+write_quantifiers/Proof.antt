@@ -42,29 +42,16 @@ write-quantifiers-returns t c = quantifiers-none _ (c .if1 .taken)
 write-quantifiers-write-quantifier-requires : (t : ℕ) → write-quantifiers-lts.Need-write-quantifier-requires (write-quantifiers-called t) (write-quantifiers-at t) write-quantifiers.Post
 write-quantifiers-write-quantifier-requires t c κs = ((c .before .if1 .left, omega (arith, c .before .if1 .left, c .before .before .before .before .before .pre .1 .few)), ready-choice (c .before .before .before .before .before .pre .1) (c .before .if1 .left))
 
-write-quantifiers-add-write-quantifiers : (t : ℕ) → write-quantifiers-lts.Need-add-write-quantifiers (write-quantifiers-called t) (write-quantifiers-at t) write-quantifiers.Post
-write-quantifiers-add-write-quantifiers t c = search needs
-
-write-quantifiers-sub-write-quantifiers : (t : ℕ) → write-quantifiers-lts.Need-sub-write-quantifiers (write-quantifiers-called t) (write-quantifiers-at t) write-quantifiers.Post
-write-quantifiers-sub-write-quantifiers t c = search needs
-
-write-quantifiers-part-write-quantifiers-start : (t : ℕ) → write-quantifiers-lts.Need-part-write-quantifiers-start (write-quantifiers-called t) (write-quantifiers-at t) write-quantifiers.Post
-write-quantifiers-part-write-quantifiers-start t c = search needs
-
-write-quantifiers-part-write-quantifiers-end : (t : ℕ) → write-quantifiers-lts.Need-part-write-quantifiers-end (write-quantifiers-called t) (write-quantifiers-at t) write-quantifiers.Post
-write-quantifiers-part-write-quantifiers-end t c = search needs
-
 write-quantifiers-write-quantifiers-requires : (t : ℕ) → write-quantifiers-lts.Need-write-quantifiers-requires (write-quantifiers-called t) (write-quantifiers-at t) write-quantifiers.Post
-write-quantifiers-write-quantifiers-requires t c κs = (omega (arith, c .before .before .before .before .before .before .before .before .before .pre), c .before .before .before .before .before .before .before .before .before .pre .1)
-
-write-quantifiers-add-result : (t : ℕ) → write-quantifiers-lts.Need-add-result (write-quantifiers-called t) (write-quantifiers-at t) write-quantifiers.Post
-write-quantifiers-add-result t c = search needs
-
-write-quantifiers-same-length : (t : ℕ) → write-quantifiers-lts.Need-same-length (write-quantifiers-called t) (write-quantifiers-at t) write-quantifiers.Post
-write-quantifiers-same-length t c = search needs
+write-quantifiers-write-quantifiers-requires t c κs =
+    let at-start = c .before .before .before .before .before .before .before .before .before in
+    (omega (arith, at-start .pre), at-start .pre .1)
 
 write-quantifiers-returns-2 : (t : ℕ) → write-quantifiers-lts.Need-returns-2 (write-quantifiers-called t) (write-quantifiers-at t) write-quantifiers.Post
-write-quantifiers-returns-2 t c = quantifiers-then (c .before .before .before .before .before .before .before .before .if1 .left) (c .before .before .before .before .before .before .write-quantifier .ensures) (c .before .before .write-quantifiers .ensures)
+write-quantifiers-returns-2 t c =
+    let at-write-quantifier = c .before .before .before .before .before .before in
+    let at-if1 = at-write-quantifier .before .before in
+    quantifiers-then (at-if1 .if1 .left) (at-write-quantifier .write-quantifier .ensures) (c .before .before .write-quantifiers .ensures)
 
 pub +write-quantifiers-spec : {M : Type 1} → statement M
 +write-quantifiers-spec = close μ-write-quantifiers λ t. write-quantifiers-lts.spec (write-quantifiers-called t)
@@ -72,11 +59,11 @@ pub +write-quantifiers-spec : {M : Type 1} → statement M
     write-quantifiers.Post
     (write-quantifiers-returns t)
     (write-quantifiers-write-quantifier-requires t)
-    (write-quantifiers-add-write-quantifiers t)
-    (write-quantifiers-sub-write-quantifiers t)
-    (write-quantifiers-part-write-quantifiers-start t)
-    (write-quantifiers-part-write-quantifiers-end t)
+    (λ c. search needs)
+    (λ c. search needs)
+    (λ c. search needs)
+    (λ c. search needs)
     (write-quantifiers-write-quantifiers-requires t)
-    (write-quantifiers-add-result t)
-    (write-quantifiers-same-length t)
+    (λ c. search needs)
+    (λ c. search needs)
     (write-quantifiers-returns-2 t)

@@ -7,67 +7,59 @@ use borrow.Author.Needs.{needs}
 use Rattle.printer.proofs.rules.write_right.Statement.{statement}
 use Rattle.printer.proofs.rules.write_right.Tie as tie
 
-op-at-requires : tie.Need-op-at-requires
-op-at-requires c κs = search needs
-
-right-at-requires : tie.Need-right-at-requires
-right-at-requires c κs = search needs
-
 write-term-requires : tie.Need-write-term-requires
-write-term-requires c κs = (ready-right (c .before .before .before .before .before .before .before .pre .0) (c .before .before .right-at .ensures) (has-two _ (omega (arith, c .before .before .before .before .before .before .before .pre)) (omega (arith, c .before .before .before .op-at .ensures, c .before .if1 .taken))) .0, c .before .before .before .before .before .before .before .pre .1 .1)
-
-same-length : tie.Need-same-length
-same-length c = search needs
+write-term-requires c κs =
+    let at-start = c .before .before .before .before .before .before .before in
+    (ready-right (at-start .pre .0) (c .before .before .right-at .ensures) (has-two _ (omega (arith, at-start .pre)) (omega (arith, c .before .before .before .op-at .ensures, c .before .if1 .taken))) .0, at-start .pre .1 .1)
 
 returns : tie.Need-returns
-returns c = appends-right (c .before .before .before .before .before .before .before .before .before .before .pre .0) (c .before .before .before .before .before .before .op-at .ensures) (c .before .before .before .before .before .right-at .ensures) (c .before .before .before .before .if1 .taken) (c .before .before .write-term .ensures)
-
-slice-aggregate-put : tie.Need-slice-aggregate-put
-slice-aggregate-put c = search needs
-
-put-requires : tie.Need-put-requires
-put-requires c κs = search needs
-
-same-length-2 : tie.Need-same-length-2
-same-length-2 c = search needs
+returns c =
+    let at-op-at = c .before .before .before .before .before .before in
+    let at-start = at-op-at .before .before .before .before in
+    appends-right (at-start .pre .0) (at-op-at .op-at .ensures) (c .before .before .before .before .before .right-at .ensures) (c .before .before .before .before .if1 .taken) (c .before .before .write-term .ensures)
 
 returns-2 : tie.Need-returns-2
-returns-2 c = appends-right-empty (c .before .before .before .before .before .before .before .before .before .before .before .before .pre .0) (c .before .before .before .before .before .before .before .before .op-at .ensures) (c .before .before .before .before .before .before .if1 .left) (c .before .before .before .before .before .if2 .taken) (c .before .before .put .ensures)
-
-put-number-requires : tie.Need-put-number-requires
-put-number-requires c κs = search needs
-
-same-length-3 : tie.Need-same-length-3
-same-length-3 c = search needs
+returns-2 c =
+    let at-if1 = c .before .before .before .before .before .before in
+    let at-op-at = at-if1 .before .before in
+    let at-start = at-op-at .before .before .before .before in
+    appends-right-empty (at-start .pre .0) (at-op-at .op-at .ensures) (at-if1 .if1 .left) (c .before .before .before .before .before .if2 .taken) (c .before .before .put .ensures)
 
 returns-3 : tie.Need-returns-3
-returns-3 c = appends-right-number (c .before .before .before .before .before .before .before .before .before .before .before .before .pre .0) (c .before .before .before .before .before .before .before .before .op-at .ensures) (c .before .before .before .before .before .before .before .right-at .ensures) (c .before .before .before .before .before .if2 .left) (c .before .before .before .before .if3 .taken) (c .before .before .put-number .ensures)
+returns-3 c =
+    let at-right-at = c .before .before .before .before .before .before .before in
+    let at-op-at = at-right-at .before in
+    let at-start = at-op-at .before .before .before .before in
+    appends-right-number (at-start .pre .0) (at-op-at .op-at .ensures) (at-right-at .right-at .ensures) (c .before .before .before .before .before .if2 .left) (c .before .before .before .before .if3 .taken) (c .before .before .put-number .ensures)
 
 write-count-requires : tie.Need-write-count-requires
-write-count-requires c κs = (ready-right (c .before .before .before .before .before .before .before .before .before .pre .0) (c .before .before .before .before .right-at .ensures) (has-two-last _ (omega (arith, c .before .before .before .before .before .op-at .ensures, c .before .if3 .left))) .0, c .before .before .before .before .before .before .before .before .before .pre .1 .1)
-
-same-length-4 : tie.Need-same-length-4
-same-length-4 c = search needs
+write-count-requires c κs =
+    let at-start = c .before .before .before .before .before .before .before .before .before in
+    (ready-right (at-start .pre .0) (c .before .before .before .before .right-at .ensures) (has-two-last _ (omega (arith, c .before .before .before .before .before .op-at .ensures, c .before .if3 .left))) .0, at-start .pre .1 .1)
 
 returns-4 : tie.Need-returns-4
-returns-4 c = appends-right-count (c .before .before .before .before .before .before .before .before .before .before .before .before .pre .0) (c .before .before .before .before .before .before .before .before .op-at .ensures) (c .before .before .before .before .before .before .before .right-at .ensures) (c .before .before .before .before .if3 .left) (c .before .before .write-count .ensures)
+returns-4 c =
+    let at-right-at = c .before .before .before .before .before .before .before in
+    let at-op-at = at-right-at .before in
+    let at-start = at-op-at .before .before .before .before in
+    appends-right-count (at-start .pre .0) (at-op-at .op-at .ensures) (at-right-at .right-at .ensures) (c .before .before .before .before .if3 .left) (c .before .before .write-count .ensures)
 
 pub write-right-spec : {M : Type 1} → statement M
 write-right-spec =
     tie.close
     (tie.spec
-    op-at-requires
-    right-at-requires
+    (λ c κs. search needs)
+    (λ c κs. search needs)
     write-term-requires
-    same-length
+    (λ c. search needs)
     returns
-    slice-aggregate-put
-    put-requires
-    same-length-2
+    (λ c. search needs)
+    (λ c κs. search needs)
+    (λ c. search needs)
     returns-2
-    put-number-requires
-    same-length-3
+    (λ c κs. search needs)
+    (λ c. search needs)
     returns-3
     write-count-requires
-    same-length-4
+    (λ c. search needs)
     returns-4)

@@ -8,39 +8,31 @@ use borrow.Author.Needs.{needs}
 use Rattle.printer.proofs.rules.write_test.Statement.{statement}
 use Rattle.printer.proofs.rules.write_test.Tie as tie
 
-op-at-requires : tie.Need-op-at-requires
-op-at-requires c κs = search needs
-
 returns : tie.Need-returns
 returns c = appends-never _ (c .before .before .before .before .before .pre .1) (λ p x. let z = test-range _ _ p x in omega (arith, z .0, c .before .op-at .ensures, c .if1 .taken))
 
 returns-2 : tie.Need-returns-2
-returns-2 c = appends-never _ (c .before .before .before .before .before .before .pre .1) (λ p x. let z = test-range _ _ p x in omega (arith, z .1, c .before .before .op-at .ensures, c .if2 .taken))
-
-write-left-requires : tie.Need-write-left-requires
-write-left-requires c κs = search needs
-
-put-sign-requires : tie.Need-put-sign-requires
-put-sign-requires c κs = search needs
-
-write-right-requires : tie.Need-write-right-requires
-write-right-requires c κs = search needs
-
-same-length : tie.Need-same-length
-same-length c = search needs
+returns-2 c =
+    let at-start = c .before .before .before .before .before .before in
+    appends-never _ (at-start .pre .1) (λ p x. let z = test-range _ _ p x in omega (arith, z .1, c .before .before .op-at .ensures, c .if2 .taken))
 
 returns-3 : tie.Need-returns-3
-returns-3 c = appends-test (c .before .before .before .before .before .before .before .before .before .before .before .before .before .before .before .before .before .before .pre .0) (c .before .before .before .before .before .before .before .before .before .before .before .before .before .before .op-at .ensures) (appends-then (appends-add (c .before .before .before .before .before .before .before .before .before .before .write-left .ensures) (c .before .before .before .before .before .before .put-sign .ensures)) (c .before .before .write-right .ensures))
+returns-3 c =
+    let at-put-sign = c .before .before .before .before .before .before in
+    let at-write-left = at-put-sign .before .before .before .before in
+    let at-op-at = at-write-left .before .before .before .before in
+    let at-start = at-op-at .before .before .before .before in
+    appends-test (at-start .pre .0) (at-op-at .op-at .ensures) (appends-then (appends-add (at-write-left .write-left .ensures) (at-put-sign .put-sign .ensures)) (c .before .before .write-right .ensures))
 
 pub write-test-spec : {M : Type 1} → statement M
 write-test-spec =
     tie.close
     (tie.spec
-    op-at-requires
+    (λ c κs. search needs)
     returns
     returns-2
-    write-left-requires
-    put-sign-requires
-    write-right-requires
-    same-length
+    (λ c κs. search needs)
+    (λ c κs. search needs)
+    (λ c κs. search needs)
+    (λ c. search needs)
     returns-3)

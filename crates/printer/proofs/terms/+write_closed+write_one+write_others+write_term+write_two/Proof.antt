@@ -119,22 +119,20 @@ write-closed-put-sign-requires : (t : ℕ) → write-closed-lts.Need-put-sign-re
 write-closed-put-sign-requires t c κs = (omega (arith, c .before .before .before .before .pre), c .before .before .before .before .pre .1 .1 .1)
 
 write-closed-write-term-requires : (t : ℕ) → write-closed-lts.Need-write-term-requires (write-closed-called t) (write-closed-at t) write-closed.Post
-write-closed-write-term-requires t c κs = (omega (arith, c .before .before .before .before .before .before .before .before .pre), (c .before .before .before .before .before .before .before .before .pre .1 .0, omega (arith, c .before .before .before .put-sign .ensures .room)))
-
-write-closed-slice-aggregate-put : (t : ℕ) → write-closed-lts.Need-slice-aggregate-put (write-closed-called t) (write-closed-at t) write-closed.Post
-write-closed-slice-aggregate-put t c = search needs
+write-closed-write-term-requires t c κs =
+    let at-start = c .before .before .before .before .before .before .before .before in
+    (omega (arith, at-start .pre), (at-start .pre .1 .0, omega (arith, c .before .before .before .put-sign .ensures .room)))
 
 write-closed-put-requires : (t : ℕ) → write-closed-lts.Need-put-requires (write-closed-called t) (write-closed-at t) write-closed.Post
 write-closed-put-requires t c κs = omega (arith, c .before .before .before .before .write-term .ensures .room)
 
-write-closed-same-length : (t : ℕ) → write-closed-lts.Need-same-length (write-closed-called t) (write-closed-at t) write-closed.Post
-write-closed-same-length t c = search needs
-
 write-closed-returns : (t : ℕ) → write-closed-lts.Need-returns (write-closed-called t) (write-closed-at t) write-closed.Post
 write-closed-returns t c =
+    let at-write-term = c .before .before .before .before .before .before .before in
+    let at-put-sign = at-write-term .before .before .before .before in
     appends-as
     (λ σ a y x. record { thing = a; held = x; written = simp append-assoc })
-    (appends-add (add-appends (c .before .before .before .before .before .before .before .before .before .before .before .put-sign .ensures) (c .before .before .before .before .before .before .before .write-term .ensures)) (c .before .before .put .ensures))
+    (appends-add (add-appends (at-put-sign .put-sign .ensures) (at-write-term .write-term .ensures)) (c .before .before .put .ensures))
 
 write-one-op-at-requires : (t : ℕ) → write-one-lts.Need-op-at-requires (write-one-called t) (write-one-at t) write-one.Post
 write-one-op-at-requires t c κs = ready-size (c .before .before .before .pre .1 .0)
@@ -144,72 +142,82 @@ write-one-left-at-requires t c κs = ready-size (c .before .before .before .befo
 
 write-one-write-closed-requires : (t : ℕ) → write-one-lts.Need-write-closed-requires (write-one-called t) (write-one-at t) write-one.Post
 write-one-write-closed-requires t c κs =
-    let z = ready-left (c .before .before .before .before .before .before .before .pre .1 .0) (c .before .before .left-at .ensures) (omega (arith, c .before .before .before .before .before .before .before .pre)) in
-    (omega (arith, c .before .before .before .before .before .before .before .pre, z .1), (z .0, (omega (arith, c .before .before .before .op-at .ensures, c .before .before .before .before .before .before .before .pre), c .before .before .before .before .before .before .before .pre .1 .1 .1)))
-
-write-one-same-length : (t : ℕ) → write-one-lts.Need-same-length (write-one-called t) (write-one-at t) write-one.Post
-write-one-same-length t c = search needs
+    let at-start = c .before .before .before .before .before .before .before in
+    let z = ready-left (at-start .pre .1 .0) (c .before .before .left-at .ensures) (omega (arith, at-start .pre)) in
+    (omega (arith, at-start .pre, z .1), (z .0, (omega (arith, c .before .before .before .op-at .ensures, at-start .pre), at-start .pre .1 .1 .1)))
 
 write-one-returns : (t : ℕ) → write-one-lts.Need-returns (write-one-called t) (write-one-at t) write-one.Post
-write-one-returns t c = term-call (c .before .before .before .before .before .before .before .before .before .before .pre .1 .0) (c .before .before .before .before .before .before .op-at .ensures) (c .before .before .before .before .before .left-at .ensures) (omega (arith, c .before .before .before .before .before .before .op-at .ensures, c .before .before .before .before .before .before .before .before .before .before .pre)) (c .before .before .before .before .if1 .taken) (c .before .before .write-closed .ensures)
+write-one-returns t c =
+    let at-op-at = c .before .before .before .before .before .before in
+    let at-start = at-op-at .before .before .before .before in
+    term-call (at-start .pre .1 .0) (at-op-at .op-at .ensures) (c .before .before .before .before .before .left-at .ensures) (omega (arith, at-op-at .op-at .ensures, at-start .pre)) (c .before .before .before .before .if1 .taken) (c .before .before .write-closed .ensures)
 
 write-one-cast-seek : (t : ℕ) → write-one-lts.Need-cast-seek (write-one-called t) (write-one-at t) write-one.Post
 write-one-cast-seek t c = omega (arith, c .before .left-at .ensures)
 
-write-one-seek-requires : (t : ℕ) → write-one-lts.Need-seek-requires (write-one-called t) (write-one-at t) write-one.Post
-write-one-seek-requires t c κs = search needs
-
 write-one-write-closed-requires-2 : (t : ℕ) → write-one-lts.Need-write-closed-requires-2 (write-one-called t) (write-one-at t) write-one.Post
 write-one-write-closed-requires-2 t c κs =
-    let z = ready-left (c .before .before .before .before .before .before .before .before .before .pre .1 .0) (c .before .before .before .before .left-at .ensures) (omega (arith, c .before .before .before .before .before .before .before .before .before .pre)) in
-    (omega (arith, c .before .before .before .before .before .before .before .before .before .pre, z .1), (z .0, (omega (arith, c .before .before .before .before .before .op-at .ensures, c .before .before .before .before .before .before .before .before .before .pre), c .before .before .before .before .before .before .before .before .before .pre .1 .1 .1)))
-
-write-one-same-length-2 : (t : ℕ) → write-one-lts.Need-same-length-2 (write-one-called t) (write-one-at t) write-one.Post
-write-one-same-length-2 t c = search needs
+    let at-start = c .before .before .before .before .before .before .before .before .before in
+    let z = ready-left (at-start .pre .1 .0) (c .before .before .before .before .left-at .ensures) (omega (arith, at-start .pre)) in
+    (omega (arith, at-start .pre, z .1), (z .0, (omega (arith, c .before .before .before .before .before .op-at .ensures, at-start .pre), at-start .pre .1 .1 .1)))
 
 write-one-returns-2 : (t : ℕ) → write-one-lts.Need-returns-2 (write-one-called t) (write-one-at t) write-one.Post
-write-one-returns-2 t c = term-new (c .before .before .before .before .before .before .before .before .before .before .before .before .pre .1 .0) (c .before .before .before .before .before .before .before .before .op-at .ensures) (c .before .before .before .before .before .before .before .left-at .ensures) (c .before .before .before .before .before .before .if1 .left) (c .before .before .before .before .before .seek .ensures) (omega (arith, c .before .before .before .before .before .before .before .before .op-at .ensures, c .before .before .before .before .before .before .before .before .before .before .before .before .pre)) (omega (arith, c .before .before .before .before .if2 .taken)) (c .before .before .write-closed2 .ensures)
+write-one-returns-2 t c =
+    let at-if1 = c .before .before .before .before .before .before in
+    let at-left-at = at-if1 .before in
+    let at-op-at = at-left-at .before in
+    let at-start = at-op-at .before .before .before .before in
+    term-new (at-start .pre .1 .0) (at-op-at .op-at .ensures) (at-left-at .left-at .ensures) (at-if1 .if1 .left) (c .before .before .before .before .before .seek .ensures) (omega (arith, at-op-at .op-at .ensures, at-start .pre)) (omega (arith, c .before .before .before .before .if2 .taken)) (c .before .before .write-closed2 .ensures)
 
 write-one-put-choice-requires : (t : ℕ) → write-one-lts.Need-put-choice-requires (write-one-called t) (write-one-at t) write-one.Post
-write-one-put-choice-requires t c κs = (omega (arith, c .before .before .before .before .before .before .before .before .before .before .pre .1 .0 .few, c .before .before .before .seek .ensures .within, c .before .before .if2 .left), c .before .before .before .before .before .before .before .before .before .before .pre .1 .1 .1)
-
-write-one-same-length-3 : (t : ℕ) → write-one-lts.Need-same-length-3 (write-one-called t) (write-one-at t) write-one.Post
-write-one-same-length-3 t c = search needs
+write-one-put-choice-requires t c κs =
+    let at-start = c .before .before .before .before .before .before .before .before .before .before in
+    (omega (arith, at-start .pre .1 .0 .few, c .before .before .before .seek .ensures .within, c .before .before .if2 .left), at-start .pre .1 .1 .1)
 
 write-one-returns-3 : (t : ℕ) → write-one-lts.Need-returns-3 (write-one-called t) (write-one-at t) write-one.Post
-write-one-returns-3 t c = term-choice (c .before .before .before .before .before .before .before .before .before .before .before .before .before .pre .1 .0) (c .before .before .before .before .before .before .before .before .before .op-at .ensures) (c .before .before .before .before .before .before .before .before .left-at .ensures) (c .before .before .before .before .before .before .before .if1 .left) (c .before .before .before .before .before .before .seek .ensures) (c .before .before .before .before .if3 .taken) (omega (arith, c .before .before .before .before .before .before .seek .ensures .within, c .before .before .before .before .before .if2 .left)) (c .before .before .put-choice .ensures)
+write-one-returns-3 t c =
+    let at-seek = c .before .before .before .before .before .before in
+    let at-if1 = at-seek .before in
+    let at-left-at = at-if1 .before in
+    let at-op-at = at-left-at .before in
+    let at-start = at-op-at .before .before .before .before in
+    term-choice (at-start .pre .1 .0) (at-op-at .op-at .ensures) (at-left-at .left-at .ensures) (at-if1 .if1 .left) (at-seek .seek .ensures) (c .before .before .before .before .if3 .taken) (omega (arith, at-seek .seek .ensures .within, c .before .before .before .before .before .if2 .left)) (c .before .before .put-choice .ensures)
 
 write-one-write-others-requires : (t : ℕ) → write-one-lts.Need-write-others-requires (write-one-called t) (write-one-at t) write-one.Post
 write-one-write-others-requires t c κs =
-    let z = ready-left (c .before .before .before .before .before .before .before .before .before .before .pre .1 .0) (c .before .before .before .before .before .left-at .ensures) (omega (arith, c .before .before .before .before .before .before .before .before .before .before .pre)) in
-    (omega (arith, c .before .before .before .before .before .before .before .before .before .before .pre, z .1), (z .0, (omega (arith, c .before .before .before .before .before .before .before .before .before .before .pre .1 .0 .few, c .before .before .before .seek .ensures .within, c .before .before .if2 .left), c .before .before .before .before .before .before .before .before .before .before .pre .1 .1 .1)))
-
-write-one-same-length-4 : (t : ℕ) → write-one-lts.Need-same-length-4 (write-one-called t) (write-one-at t) write-one.Post
-write-one-same-length-4 t c = search needs
+    let at-start = c .before .before .before .before .before .before .before .before .before .before in
+    let z = ready-left (at-start .pre .1 .0) (c .before .before .before .before .before .left-at .ensures) (omega (arith, at-start .pre)) in
+    (omega (arith, at-start .pre, z .1), (z .0, (omega (arith, at-start .pre .1 .0 .few, c .before .before .before .seek .ensures .within, c .before .before .if2 .left), at-start .pre .1 .1 .1)))
 
 write-one-returns-4 : (t : ℕ) → write-one-lts.Need-returns-4 (write-one-called t) (write-one-at t) write-one.Post
-write-one-returns-4 t c = term-others (c .before .before .before .before .before .before .before .before .before .before .before .before .before .pre .1 .0) (c .before .before .before .before .before .before .before .before .before .op-at .ensures) (c .before .before .before .before .before .before .before .before .left-at .ensures) (c .before .before .before .before .before .before .before .if1 .left) (c .before .before .before .before .before .before .seek .ensures) (omega (arith, c .before .before .before .before .before .before .before .if1 .left, c .before .before .before .before .if3 .left)) (omega (arith, c .before .before .before .before .before .before .before .before .before .op-at .ensures, c .before .before .before .before .before .before .before .before .before .before .before .before .before .pre)) (omega (arith, c .before .before .before .before .before .before .seek .ensures .within, c .before .before .before .before .before .if2 .left)) (c .before .before .write-others .ensures)
-
-write-others-slice-aggregate-put : (t : ℕ) → write-others-lts.Need-slice-aggregate-put (write-others-called t) (write-others-at t) write-others.Post
-write-others-slice-aggregate-put t c = search needs
+write-one-returns-4 t c =
+    let at-seek = c .before .before .before .before .before .before in
+    let at-if1 = at-seek .before in
+    let at-left-at = at-if1 .before in
+    let at-op-at = at-left-at .before in
+    let at-start = at-op-at .before .before .before .before in
+    term-others (at-start .pre .1 .0) (at-op-at .op-at .ensures) (at-left-at .left-at .ensures) (at-if1 .if1 .left) (at-seek .seek .ensures) (omega (arith, at-if1 .if1 .left, c .before .before .before .before .if3 .left)) (omega (arith, at-op-at .op-at .ensures, at-start .pre)) (omega (arith, at-seek .seek .ensures .within, c .before .before .before .before .before .if2 .left)) (c .before .before .write-others .ensures)
 
 write-others-put-requires : (t : ℕ) → write-others-lts.Need-put-requires (write-others-called t) (write-others-at t) write-others.Post
 write-others-put-requires t c κs = c .before .before .before .before .before .pre .1 .1 .1
 
 write-others-write-term-requires : (t : ℕ) → write-others-lts.Need-write-term-requires (write-others-called t) (write-others-at t) write-others.Post
-write-others-write-term-requires t c κs = (omega (arith, c .before .before .before .before .before .before .before .before .before .pre), (c .before .before .before .before .before .before .before .before .before .pre .1 .0, omega (arith, c .before .before .before .put .ensures .room)))
+write-others-write-term-requires t c κs =
+    let at-start = c .before .before .before .before .before .before .before .before .before in
+    (omega (arith, at-start .pre), (at-start .pre .1 .0, omega (arith, c .before .before .before .put .ensures .room)))
 
 write-others-put-without-requires : (t : ℕ) → write-others-lts.Need-put-without-requires (write-others-called t) (write-others-at t) write-others.Post
-write-others-put-without-requires t c κs = (c .before .before .before .before .before .before .before .before .before .before .before .before .before .pre .1 .1 .0, omega (arith, c .before .before .before .write-term .ensures .room))
-
-write-others-same-length : (t : ℕ) → write-others-lts.Need-same-length (write-others-called t) (write-others-at t) write-others.Post
-write-others-same-length t c = search needs
+write-others-put-without-requires t c κs =
+    let at-start = c .before .before .before .before .before .before .before .before .before .before .before .before .before in
+    (at-start .pre .1 .1 .0, omega (arith, c .before .before .before .write-term .ensures .room))
 
 write-others-returns : (t : ℕ) → write-others-lts.Need-returns (write-others-called t) (write-others-at t) write-others.Post
 write-others-returns t c =
+    let at-write-term = c .before .before .before .before .before .before in
+    let at-put = at-write-term .before .before .before .before in
     appends-as
     (λ σ a y x. record { thing = a; held = x; written = others-text _ _ })
-    (appends-add (add-appends (c .before .before .before .before .before .before .before .before .before .before .put .ensures) (c .before .before .before .before .before .before .write-term .ensures)) (c .before .before .put-without .ensures))
+    (appends-add (add-appends (at-put .put .ensures) (at-write-term .write-term .ensures)) (c .before .before .put-without .ensures))
 
 write-term-returns : (t : ℕ) → write-term-lts.Need-returns (write-term-called t) (write-term-at t) write-term.Post
 write-term-returns t c = appends-full _ (c .if1 .taken)
@@ -218,34 +226,35 @@ write-term-op-at-requires : (t : ℕ) → write-term-lts.Need-op-at-requires (wr
 write-term-op-at-requires t c κs = ready-size (c .before .before .before .before .pre .1 .0)
 
 write-term-put-sign-requires : (t : ℕ) → write-term-lts.Need-put-sign-requires (write-term-called t) (write-term-at t) write-term.Post
-write-term-put-sign-requires t c κs = (omega arith, c .before .before .before .before .before .before .before .pre .1 .1)
-
-write-term-same-length : (t : ℕ) → write-term-lts.Need-same-length (write-term-called t) (write-term-at t) write-term.Post
-write-term-same-length t c = search needs
+write-term-put-sign-requires t c κs =
+    let at-start = c .before .before .before .before .before .before .before in
+    (omega arith, at-start .pre .1 .1)
 
 write-term-returns-2 : (t : ℕ) → write-term-lts.Need-returns-2 (write-term-called t) (write-term-at t) write-term.Post
-write-term-returns-2 t c = term-leaf (c .before .before .before .before .before .before .before .before .before .before .pre .1 .0) (c .before .before .before .before .before .op-at .ensures) (c .before .before .before .before .if2 .taken) (c .before .before .put-sign .ensures)
+write-term-returns-2 t c =
+    let at-start = c .before .before .before .before .before .before .before .before .before .before in
+    term-leaf (at-start .pre .1 .0) (c .before .before .before .before .before .op-at .ensures) (c .before .before .before .before .if2 .taken) (c .before .before .put-sign .ensures)
 
 write-term-write-one-requires : (t : ℕ) → write-term-lts.Need-write-one-requires (write-term-called t) (write-term-at t) write-term.Post
-write-term-write-one-requires t c κs = (omega (arith, c .before .before .before .before .before .before .before .before .pre), (c .before .before .before .before .before .before .before .before .pre .1 .0, ((omega (arith, c .before .before .before .op-at .ensures, c .before .before .if2 .left), omega (arith, c .before .before .before .op-at .ensures, c .before .if3 .taken)), c .before .before .before .before .before .before .before .before .pre .1 .1)))
-
-write-term-same-length-2 : (t : ℕ) → write-term-lts.Need-same-length-2 (write-term-called t) (write-term-at t) write-term.Post
-write-term-same-length-2 t c = search needs
+write-term-write-one-requires t c κs =
+    let at-start = c .before .before .before .before .before .before .before .before in
+    (omega (arith, at-start .pre), (at-start .pre .1 .0, ((omega (arith, c .before .before .before .op-at .ensures, c .before .before .if2 .left), omega (arith, c .before .before .before .op-at .ensures, c .before .if3 .taken)), at-start .pre .1 .1)))
 
 write-term-returns-3 : (t : ℕ) → write-term-lts.Need-returns-3 (write-term-called t) (write-term-at t) write-term.Post
 write-term-returns-3 t c = c .before .before .write-one .ensures
 
 write-term-write-two-requires : (t : ℕ) → write-term-lts.Need-write-two-requires (write-term-called t) (write-term-at t) write-term.Post
-write-term-write-two-requires t c κs = (omega (arith, c .before .before .before .before .before .before .before .before .before .pre), (c .before .before .before .before .before .before .before .before .before .pre .1 .0, ((omega (arith, c .before .before .before .before .op-at .ensures, c .before .before .if3 .left), omega (arith, c .before .before .before .before .op-at .ensures, c .before .if4 .taken)), c .before .before .before .before .before .before .before .before .before .pre .1 .1)))
-
-write-term-same-length-3 : (t : ℕ) → write-term-lts.Need-same-length-3 (write-term-called t) (write-term-at t) write-term.Post
-write-term-same-length-3 t c = search needs
+write-term-write-two-requires t c κs =
+    let at-start = c .before .before .before .before .before .before .before .before .before in
+    (omega (arith, at-start .pre), (at-start .pre .1 .0, ((omega (arith, c .before .before .before .before .op-at .ensures, c .before .before .if3 .left), omega (arith, c .before .before .before .before .op-at .ensures, c .before .if4 .taken)), at-start .pre .1 .1)))
 
 write-term-returns-4 : (t : ℕ) → write-term-lts.Need-returns-4 (write-term-called t) (write-term-at t) write-term.Post
 write-term-returns-4 t c = c .before .before .write-two .ensures
 
 write-term-returns-5 : (t : ℕ) → write-term-lts.Need-returns-5 (write-term-called t) (write-term-at t) write-term.Post
-write-term-returns-5 t c = appends-never _ (c .before .before .before .before .before .before .before .before .pre .1 .1) (λ u x. no-term _ _ u (omega (arith, c .before .before .before .op-at .ensures, c .if4 .left)) x)
+write-term-returns-5 t c =
+    let at-start = c .before .before .before .before .before .before .before .before in
+    appends-never _ (at-start .pre .1 .1) (λ u x. no-term _ _ u (omega (arith, c .before .before .before .op-at .ensures, c .if4 .left)) x)
 
 write-two-op-at-requires : (t : ℕ) → write-two-lts.Need-op-at-requires (write-two-called t) (write-two-at t) write-two.Post
 write-two-op-at-requires t c κs = ready-size (c .before .before .before .pre .1 .0)
@@ -254,28 +263,37 @@ write-two-put-open-requires : (t : ℕ) → write-two-lts.Need-put-open-requires
 write-two-put-open-requires t c κs = ((omega (arith, c .before .before .before .before .before .pre, c .before .op-at .ensures), omega (arith, c .before .before .before .before .before .pre, c .before .op-at .ensures)), c .before .before .before .before .before .pre .1 .1 .1)
 
 write-two-left-at-requires : (t : ℕ) → write-two-lts.Need-left-at-requires (write-two-called t) (write-two-at t) write-two.Post
-write-two-left-at-requires t c κs = ready-size (c .before .before .before .before .before .before .before .before .pre .1 .0)
+write-two-left-at-requires t c κs =
+    let at-start = c .before .before .before .before .before .before .before .before in
+    ready-size (at-start .pre .1 .0)
 
 write-two-write-term-requires : (t : ℕ) → write-two-lts.Need-write-term-requires (write-two-called t) (write-two-at t) write-two.Post
 write-two-write-term-requires t c κs =
-    let z = ready-left (c .before .before .before .before .before .before .before .before .before .before .pre .1 .0) (c .before .left-at .ensures) (omega (arith, c .before .before .before .before .before .before .before .before .before .before .pre)) in
-    (omega (arith, c .before .before .before .before .before .before .before .before .before .before .pre, z .1), (z .0, omega (arith, c .before .before .before .before .put-open .ensures .room)))
+    let at-start = c .before .before .before .before .before .before .before .before .before .before in
+    let z = ready-left (at-start .pre .1 .0) (c .before .left-at .ensures) (omega (arith, at-start .pre)) in
+    (omega (arith, at-start .pre, z .1), (z .0, omega (arith, c .before .before .before .before .put-open .ensures .room)))
 
 write-two-right-at-requires : (t : ℕ) → write-two-lts.Need-right-at-requires (write-two-called t) (write-two-at t) write-two.Post
-write-two-right-at-requires t c κs = ready-size (c .before .before .before .before .before .before .before .before .before .before .before .before .before .pre .1 .0)
+write-two-right-at-requires t c κs =
+    let at-start = c .before .before .before .before .before .before .before .before .before .before .before .before .before in
+    ready-size (at-start .pre .1 .0)
 
 write-two-write-closed-requires : (t : ℕ) → write-two-lts.Need-write-closed-requires (write-two-called t) (write-two-at t) write-two.Post
 write-two-write-closed-requires t c κs =
-    let z = ready-right (c .before .before .before .before .before .before .before .before .before .before .before .before .before .before .before .pre .1 .0) (c .before .right-at .ensures) (has-two _ (c .before .before .before .before .before .before .before .before .before .before .before .before .before .before .before .pre .1 .1 .0 .0) (omega (arith, c .before .before .before .before .before .before .before .before .before .before .before .before .before .before .before .pre))) in
-    (omega (arith, c .before .before .before .before .before .before .before .before .before .before .before .before .before .before .before .pre, z .1), (z .0, (omega (arith, c .before .before .before .before .before .before .before .before .before .before .before .before .before .before .before .pre, c .before .before .before .before .before .before .before .before .before .before .before .op-at .ensures), omega (arith, c .before .before .before .before .write-term .ensures .room))))
-
-write-two-same-length : (t : ℕ) → write-two-lts.Need-same-length (write-two-called t) (write-two-at t) write-two.Post
-write-two-same-length t c = search needs
+    let at-op-at = c .before .before .before .before .before .before .before .before .before .before .before in
+    let at-start = at-op-at .before .before .before .before in
+    let z = ready-right (at-start .pre .1 .0) (c .before .right-at .ensures) (has-two _ (at-start .pre .1 .1 .0 .0) (omega (arith, at-start .pre))) in
+    (omega (arith, at-start .pre, z .1), (z .0, (omega (arith, at-start .pre, at-op-at .op-at .ensures), omega (arith, c .before .before .before .before .write-term .ensures .room))))
 
 write-two-returns : (t : ℕ) → write-two-lts.Need-returns (write-two-called t) (write-two-at t) write-two.Post
 write-two-returns t c =
-    term-two (c .before .before .before .before .before .before .before .before .before .before .before .before .before .before .before .before .before .before .pre .1 .0) (c .before .before .before .before .before .before .before .before .before .before .before .before .before .before .op-at .ensures) (c .before .before .before .before .before .before .before .before .before .left-at .ensures) (c .before .before .before .before .right-at .ensures) (omega (arith, c .before .before .before .before .before .before .before .before .before .before .before .before .before .before .op-at .ensures, c .before .before .before .before .before .before .before .before .before .before .before .before .before .before .before .before .before .before .pre)) (omega (arith, c .before .before .before .before .before .before .before .before .before .before .before .before .before .before .op-at .ensures, c .before .before .before .before .before .before .before .before .before .before .before .before .before .before .before .before .before .before .pre))
-    (appends-then (add-appends (c .before .before .before .before .before .before .before .before .before .before .before .before .put-open .ensures) (c .before .before .before .before .before .before .before .write-term .ensures)) (c .before .before .write-closed .ensures))
+    let at-write-term = c .before .before .before .before .before .before .before in
+    let at-left-at = at-write-term .before .before in
+    let at-put-open = at-left-at .before .before .before in
+    let at-op-at = at-put-open .before .before in
+    let at-start = at-op-at .before .before .before .before in
+    term-two (at-start .pre .1 .0) (at-op-at .op-at .ensures) (at-left-at .left-at .ensures) (c .before .before .before .before .right-at .ensures) (omega (arith, at-op-at .op-at .ensures, at-start .pre)) (omega (arith, at-op-at .op-at .ensures, at-start .pre))
+    (appends-then (add-appends (at-put-open .put-open .ensures) (at-write-term .write-term .ensures)) (c .before .before .write-closed .ensures))
 
 pub +write-closed+write-one+write-others+write-term+write-two-spec : {M : Type 1} → statement M
 +write-closed+write-one+write-others+write-term+write-two-spec =
@@ -290,9 +308,9 @@ pub +write-closed+write-one+write-others+write-term+write-two-spec : {M : Type 1
     write-closed.Post
     (write-closed-put-sign-requires t)
     (write-closed-write-term-requires t)
-    (write-closed-slice-aggregate-put t)
+    (λ c. search needs)
     (write-closed-put-requires t)
-    (write-closed-same-length t)
+    (λ c. search needs)
     (write-closed-returns t))
     (λ t. write-one-lts.spec (write-one-called t)
     (write-one-at t)
@@ -300,27 +318,27 @@ pub +write-closed+write-one+write-others+write-term+write-two-spec : {M : Type 1
     (write-one-op-at-requires t)
     (write-one-left-at-requires t)
     (write-one-write-closed-requires t)
-    (write-one-same-length t)
+    (λ c. search needs)
     (write-one-returns t)
     (write-one-cast-seek t)
-    (write-one-seek-requires t)
+    (λ c κs. search needs)
     (write-one-write-closed-requires-2 t)
-    (write-one-same-length-2 t)
+    (λ c. search needs)
     (write-one-returns-2 t)
     (write-one-put-choice-requires t)
-    (write-one-same-length-3 t)
+    (λ c. search needs)
     (write-one-returns-3 t)
     (write-one-write-others-requires t)
-    (write-one-same-length-4 t)
+    (λ c. search needs)
     (write-one-returns-4 t))
     (λ t. write-others-lts.spec (write-others-called t)
     (write-others-at t)
     write-others.Post
-    (write-others-slice-aggregate-put t)
+    (λ c. search needs)
     (write-others-put-requires t)
     (write-others-write-term-requires t)
     (write-others-put-without-requires t)
-    (write-others-same-length t)
+    (λ c. search needs)
     (write-others-returns t))
     (λ t. write-term-lts.spec (write-term-called t)
     (write-term-at t)
@@ -328,13 +346,13 @@ pub +write-closed+write-one+write-others+write-term+write-two-spec : {M : Type 1
     (write-term-returns t)
     (write-term-op-at-requires t)
     (write-term-put-sign-requires t)
-    (write-term-same-length t)
+    (λ c. search needs)
     (write-term-returns-2 t)
     (write-term-write-one-requires t)
-    (write-term-same-length-2 t)
+    (λ c. search needs)
     (write-term-returns-3 t)
     (write-term-write-two-requires t)
-    (write-term-same-length-3 t)
+    (λ c. search needs)
     (write-term-returns-4 t)
     (write-term-returns-5 t))
     λ t. write-two-lts.spec (write-two-called t)
@@ -346,5 +364,5 @@ pub +write-closed+write-one+write-others+write-term+write-two-spec : {M : Type 1
     (write-two-write-term-requires t)
     (write-two-right-at-requires t)
     (write-two-write-closed-requires t)
-    (write-two-same-length t)
+    (λ c. search needs)
     (write-two-returns t)

@@ -20,31 +20,24 @@ abbrev μ-loop : tie.MeasureT-loop
 loop-holds : tie.Need-loop-holds Inv-loop μ-loop
 loop-holds c = (omega arith, read-none _)
 
-shared-slice-read-surplus-after : tie.Need-shared-slice-read-surplus-after Inv-loop μ-loop
-shared-slice-read-surplus-after c = search needs
-
 surplus-after-requires : tie.Need-surplus-after-requires Inv-loop μ-loop
 surplus-after-requires c κs = omega (arith, read-mag (c .before .before .loop .inv .1), c .before .before .before .before .pre)
 
 returns : tie.Need-returns Inv-loop μ-loop
 returns c =
+    let at-start = c .before .before .before .before .before .before in
     let l = c .before .before .before .before .loop in
     let m = read-mag (l .inv .1) in
     let h = c .before .before .before .before .before .before .pre in
-    read-over (l .inv .1) (omega arith) (stepped-back (getD (c .before .before .before .before .before .before .args .s .now) (l .i) 0) (toZ w32 (l .surplus)) (omega arith) (c .before .surplus-after .ensures)) (c .if1 .taken)
-
-add-i : tie.Need-add-i Inv-loop μ-loop
-add-i c = search needs
-
-loop-less : tie.Need-loop-less Inv-loop μ-loop
-loop-less c = search needs
+    read-over (l .inv .1) (omega arith) (stepped-back (getD (at-start .args .s .now) (l .i) 0) (toZ w32 (l .surplus)) (omega arith) (c .before .surplus-after .ensures)) (c .if1 .taken)
 
 loop-again : tie.Need-loop-again Inv-loop μ-loop
 loop-again c =
+    let at-start = c .before .before .before .before .before .before in
     let l = c .before .before .before .before .loop in
     let m = read-mag (l .inv .1) in
     let h = c .before .before .before .before .before .before .pre in
-    (omega arith, read-next (l .inv .1) (omega arith) (stepped-back (getD (c .before .before .before .before .before .before .args .s .now) (l .i) 0) (toZ w32 (l .surplus)) (omega arith) (c .before .surplus-after .ensures)) (c .if1 .left))
+    (omega arith, read-next (l .inv .1) (omega arith) (stepped-back (getD (at-start .args .s .now) (l .i) 0) (toZ w32 (l .surplus)) (omega arith) (c .before .surplus-after .ensures)) (c .if1 .left))
 
 returns-2 : tie.Need-returns-2 Inv-loop μ-loop
 returns-2 c = read-end (c .before .loop .inv .1) (omega arith)
@@ -56,10 +49,10 @@ too-deep-spec =
     Inv-loop
     μ-loop
     loop-holds
-    shared-slice-read-surplus-after
+    (λ c. search needs)
     surplus-after-requires
     returns
-    add-i
-    loop-less
+    (λ c. search needs)
+    (λ c. search needs)
     loop-again
     returns-2)

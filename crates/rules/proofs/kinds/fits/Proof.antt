@@ -7,9 +7,6 @@ use Rattle.syntax.specs.code.Nodes.{firstAlike, firstEmpty, firstCounted, whenO
 use Rattle.rules.proofs.kinds.fits.Statement.{statement}
 use Rattle.rules.proofs.kinds.fits.Tie as tie
 
-add-result : tie.Need-add-result
-add-result c = search needs
-
 returns : tie.Need-returns
 unfolding fitsNumber
 returns c = rw (lt-ltb (c .before .before .args .op) firstAlike (c .before .if1 .taken), lt-ltb (c .before .before .args .a) firstSet (c .if2 .taken))
@@ -26,26 +23,22 @@ returns-4 : tie.Need-returns-4
 unfolding fitsNumber
 returns-4 c = rw (le-ltb (c .before .before .before .args .op) firstAlike (c .before .before .if1 .left), lt-ltb (c .before .before .before .args .op) firstEmpty (c .before .if3 .taken), le-ltb (c .before .before .before .args .a) noKind (c .if4 .left))
 
-countable-requires : tie.Need-countable-requires
-countable-requires c κs = search needs
-
 returns-5 : tie.Need-returns-5
 unfolding fitsNumber
 returns-5 c = rw (le-ltb (c .before .before .before .before .args .op) firstAlike (c .before .before .before .if1 .left), le-ltb (c .before .before .before .before .args .op) firstEmpty (c .before .before .if3 .left), lt-ltb (c .before .before .before .before .args .op) firstCounted (c .before .if5 .taken)) (c .countable .ensures)
 
-countable-requires-2 : tie.Need-countable-requires-2
-countable-requires-2 c κs = search needs
-
-countable-requires-3 : tie.Need-countable-requires-3
-countable-requires-3 c κs = search needs
-
 returns-6 : tie.Need-returns-6
 unfolding fitsNumber
-returns-6 c = rw (le-ltb (c .before .before .before .before .before .before .before .args .op) firstAlike (c .before .before .before .before .before .before .if1 .left), le-ltb (c .before .before .before .before .before .before .before .args .op) firstEmpty (c .before .before .before .before .before .if3 .left), le-ltb (c .before .before .before .before .before .before .before .args .op) firstCounted (c .before .before .before .before .if5 .left), lt-ltb (c .before .before .before .before .before .before .before .args .op) whenOp (c .before .before .before .if6 .taken), ← c .before .before .countable2 .ensures, c .before .if7 .taken) (c .countable3 .ensures)
+returns-6 c =
+    let at-if1 = c .before .before .before .before .before .before in
+    let at-start = at-if1 .before in
+    rw (le-ltb (at-start .args .op) firstAlike (at-if1 .if1 .left), le-ltb (at-start .args .op) firstEmpty (c .before .before .before .before .before .if3 .left), le-ltb (at-start .args .op) firstCounted (c .before .before .before .before .if5 .left), lt-ltb (at-start .args .op) whenOp (c .before .before .before .if6 .taken), ← c .before .before .countable2 .ensures, c .before .if7 .taken) (c .countable3 .ensures)
 
 returns-7 : tie.Need-returns-7
 unfolding fitsNumber
-returns-7 c = rw (le-ltb (c .before .before .before .before .before .before .args .op) firstAlike (c .before .before .before .before .before .if1 .left), le-ltb (c .before .before .before .before .before .before .args .op) firstEmpty (c .before .before .before .before .if3 .left), le-ltb (c .before .before .before .before .before .before .args .op) firstCounted (c .before .before .before .if5 .left), lt-ltb (c .before .before .before .before .before .before .args .op) whenOp (c .before .before .if6 .taken), ← c .before .countable2 .ensures, c .if7 .left)
+returns-7 c =
+    let at-start = c .before .before .before .before .before .before in
+    rw (le-ltb (at-start .args .op) firstAlike (c .before .before .before .before .before .if1 .left), le-ltb (at-start .args .op) firstEmpty (c .before .before .before .before .if3 .left), le-ltb (at-start .args .op) firstCounted (c .before .before .before .if5 .left), lt-ltb (at-start .args .op) whenOp (c .before .before .if6 .taken), ← c .before .countable2 .ensures, c .if7 .left)
 
 returns-8 : tie.Need-returns-8
 unfolding fitsNumber
@@ -59,15 +52,15 @@ pub fits-spec : {M : Type 1} → statement M
 fits-spec =
     tie.close
     (tie.spec
-    add-result
+    (λ c. search needs)
     returns
     returns-2
     returns-3
     returns-4
-    countable-requires
+    (λ c κs. search needs)
     returns-5
-    countable-requires-2
-    countable-requires-3
+    (λ c κs. search needs)
+    (λ c κs. search needs)
     returns-6
     returns-7
     returns-8

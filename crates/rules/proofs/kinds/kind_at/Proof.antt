@@ -9,9 +9,6 @@ use Rattle.rules.proofs.kinds.kind_at.Statement.{statement}
 use Rattle.rules.specs.code.Numbers.{noKind}
 use Rattle.rules.proofs.kinds.kind_at.Tie as tie
 
-shared-slice-read-result : tie.Need-shared-slice-read-result
-shared-slice-read-result c = search needs
-
 returns : tie.Need-returns
 returns c = getD-any (now (c .before .before .args .kinds)) (c .before .before .args .i) 0 noKind (c .before .if1 .taken)
 
@@ -19,4 +16,4 @@ returns-2 : tie.Need-returns-2
 returns-2 c = sym (List·getD-eq-default (now (c .before .args .kinds)) noKind (c .if1 .left))
 
 pub kind-at-spec : {M : Type 1} → statement M
-kind-at-spec = tie.close (tie.spec shared-slice-read-result returns returns-2)
+kind-at-spec = tie.close (tie.spec (λ c. search needs) returns returns-2)

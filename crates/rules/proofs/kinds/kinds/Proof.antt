@@ -20,38 +20,16 @@ abbrev μ-loop : tie.MeasureT-loop
 loop-holds : tie.Need-loop-holds Inv-loop μ-loop
 loop-holds c = (omega arith, refl, kind-none _ _)
 
-mul-kind-of : tie.Need-mul-kind-of Inv-loop μ-loop
-mul-kind-of c = search needs
-
-shared-slice-read-kind-of : tie.Need-shared-slice-read-kind-of Inv-loop μ-loop
-shared-slice-read-kind-of c = search needs
-
-kind-of-requires : tie.Need-kind-of-requires Inv-loop μ-loop
-kind-of-requires c κs = search needs
-
-slice-write-kinds : tie.Need-slice-write-kinds Inv-loop μ-loop
-slice-write-kinds c = search needs
-
-add-k : tie.Need-add-k Inv-loop μ-loop
-add-k c = search needs
-
-loop-less : tie.Need-loop-less Inv-loop μ-loop
-loop-less c = search needs
-
 loop-again : tie.Need-loop-again Inv-loop μ-loop
 loop-again c =
+    let at-start = c .before .before .before .before .before .before .before in
     let l = c .before .before .before .before .loop in
-    (omega arith, length-set (l .kinds) (l .k) (c .kind-of .result) ∙ l .inv .1, kind-step (c .before .before .before .before .before .before .before .args .nodes .now) (l .kinds) (l .k) (l .inv .2) (c .kind-of .ensures) (omega arith))
-
-kind-at-requires : tie.Need-kind-at-requires Inv-loop μ-loop
-kind-at-requires c κs = search needs
-
-same-length : tie.Need-same-length Inv-loop μ-loop
-same-length c = search needs
+    (omega arith, length-set (l .kinds) (l .k) (c .kind-of .result) ∙ l .inv .1, kind-step (at-start .args .nodes .now) (l .kinds) (l .k) (l .inv .2) (c .kind-of .ensures) (omega arith))
 
 returns : tie.Need-returns Inv-loop μ-loop
 returns c =
-    let e : c .before .before .before .loop .k ≡ c .before .before .before .before .before .before .args .n = omega arith in
+    let at-start = c .before .before .before .before .before .before in
+    let e : c .before .before .before .loop .k ≡ at-start .args .n = omega arith in
     record { size = c .before .before .before .loop .inv .1; kinded = rw e at (c .before .before .before .loop .inv .2); fits = ap (λ (x : ℕ). eqb x kindsFit) (c .kind-at .ensures) }
 
 pub kinds-spec : {M : Type 1} → statement M
@@ -61,13 +39,13 @@ kinds-spec =
     Inv-loop
     μ-loop
     loop-holds
-    mul-kind-of
-    shared-slice-read-kind-of
-    kind-of-requires
-    slice-write-kinds
-    add-k
-    loop-less
+    (λ c. search needs)
+    (λ c. search needs)
+    (λ c κs. search needs)
+    (λ c. search needs)
+    (λ c. search needs)
+    (λ c. search needs)
     loop-again
-    kind-at-requires
-    same-length
+    (λ c κs. search needs)
+    (λ c. search needs)
     returns)

@@ -6,21 +6,6 @@ use borrow.Author.Needs.{needs}
 use Rattle.rules.proofs.kinds.one_kind.Statement.{statement}
 use Rattle.rules.proofs.kinds.one_kind.Tie as tie
 
-sub-result : tie.Need-sub-result
-sub-result c = search needs
-
-mul-result : tie.Need-mul-result
-mul-result c = search needs
-
-cast-result : tie.Need-cast-result
-cast-result c = search needs
-
-add-result : tie.Need-add-result
-add-result c = search needs
-
-array-read-result : tie.Need-array-read-result
-array-read-result c = search needs
-
 returns : tie.Need-returns
 unfolding oneNumber oneTable
 returns c = rw (lt-ltb (c .before .args .a) noKind (c .if1 .taken))
@@ -31,4 +16,4 @@ returns-2 c = rw (le-ltb (c .before .args .a) noKind (c .if1 .left))
 
 pub one-kind-spec : {M : Type 1} → statement M
 one-kind-spec =
-    tie.close (tie.spec sub-result mul-result cast-result add-result array-read-result returns returns-2)
+    tie.close (tie.spec (λ c. search needs) (λ c. search needs) (λ c. search needs) (λ c. search needs) (λ c. search needs) returns returns-2)

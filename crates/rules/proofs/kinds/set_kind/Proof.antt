@@ -6,9 +6,6 @@ use borrow.Author.Needs.{needs}
 use Rattle.rules.proofs.kinds.set_kind.Statement.{statement}
 use Rattle.rules.proofs.kinds.set_kind.Tie as tie
 
-add-result : tie.Need-add-result
-add-result c = search needs
-
 returns : tie.Need-returns
 unfolding setNumber
 returns c = rw (lt-ltb (c .before .args .a) firstSet (c .if1 .taken))
@@ -18,4 +15,4 @@ unfolding setNumber
 returns-2 c = rw (le-ltb (c .before .args .a) firstSet (c .if1 .left))
 
 pub set-kind-spec : {M : Type 1} → statement M
-set-kind-spec = tie.close (tie.spec add-result returns returns-2)
+set-kind-spec = tie.close (tie.spec (λ c. search needs) returns returns-2)

@@ -7,18 +7,9 @@ use borrow.Author.Needs.{needs}
 use Rattle.rules.proofs.kinds.two_kind.Statement.{statement}
 use Rattle.rules.proofs.kinds.two_kind.Tie as tie
 
-call2-kind-requires : tie.Need-call2-kind-requires
-call2-kind-requires c κs = search needs
-
 returns : tie.Need-returns
 unfolding twoNumber
 returns c = rw (lt-ltb (c .before .before .args .op) firstJoin (c .before .if1 .taken)) (c .call2-kind .ensures)
-
-set-kind-requires : tie.Need-set-kind-requires
-set-kind-requires c κs = search needs
-
-set-kind-requires-2 : tie.Need-set-kind-requires-2
-set-kind-requires-2 c κs = search needs
 
 returns-2 : tie.Need-returns-2
 unfolding twoNumber
@@ -32,9 +23,9 @@ pub two-kind-spec : {M : Type 1} → statement M
 two-kind-spec =
     tie.close
     (tie.spec
-    call2-kind-requires
+    (λ c κs. search needs)
     returns
-    set-kind-requires
-    set-kind-requires-2
+    (λ c κs. search needs)
+    (λ c κs. search needs)
     returns-2
     returns-3)

@@ -14,44 +14,11 @@ Inv-loop lens vars root total₀ i₀ total i = (i ≤ length vars) × Totalled 
 abbrev μ-loop : tie.MeasureT-loop
 μ-loop lens vars root total₀ i₀ total i = length vars - i
 
-length-at-requires : tie.Need-length-at-requires Inv-loop μ-loop
-length-at-requires c κs = search needs
-
-add-at-most : tie.Need-add-at-most Inv-loop μ-loop
-add-at-most c = search needs
-
-at-most-requires : tie.Need-at-most-requires Inv-loop μ-loop
-at-most-requires c κs = search needs
-
 loop-holds : tie.Need-loop-holds Inv-loop μ-loop
 loop-holds c = (omega arith, totalled-none (c .before .length-at .ensures) (c .at-most .ensures))
 
-add-at-most-2 : tie.Need-add-at-most-2 Inv-loop μ-loop
-add-at-most-2 c = search needs
-
-mul-length-at : tie.Need-mul-length-at Inv-loop μ-loop
-mul-length-at c = search needs
-
-shared-slice-read-length-at : tie.Need-shared-slice-read-length-at Inv-loop μ-loop
-shared-slice-read-length-at c = search needs
-
 cast-length-at : tie.Need-cast-length-at Inv-loop μ-loop
 cast-length-at c = omega (arith, c .shared-slice-known3 .given (c .before .before .loop .i))
-
-length-at-requires-2 : tie.Need-length-at-requires-2 Inv-loop μ-loop
-length-at-requires-2 c κs = search needs
-
-add-at-most-3 : tie.Need-add-at-most-3 Inv-loop μ-loop
-add-at-most-3 c = search needs
-
-at-most-requires-2 : tie.Need-at-most-requires-2 Inv-loop μ-loop
-at-most-requires-2 c κs = search needs
-
-add-i : tie.Need-add-i Inv-loop μ-loop
-add-i c = search needs
-
-loop-less : tie.Need-loop-less Inv-loop μ-loop
-loop-less c = search needs
 
 loop-again : tie.Need-loop-again Inv-loop μ-loop
 loop-again c = (omega arith, totalled-next (c .before .before .before .before .loop .inv .1) (omega arith) (c .before .length-at2 .ensures) (c .at-most2 .ensures))
@@ -65,18 +32,18 @@ formula-length-spec =
     (tie.spec
     Inv-loop
     μ-loop
-    length-at-requires
-    add-at-most
-    at-most-requires
+    (λ c κs. search needs)
+    (λ c. search needs)
+    (λ c κs. search needs)
     loop-holds
-    add-at-most-2
-    mul-length-at
-    shared-slice-read-length-at
+    (λ c. search needs)
+    (λ c. search needs)
+    (λ c. search needs)
     cast-length-at
-    length-at-requires-2
-    add-at-most-3
-    at-most-requires-2
-    add-i
-    loop-less
+    (λ c κs. search needs)
+    (λ c. search needs)
+    (λ c κs. search needs)
+    (λ c. search needs)
+    (λ c. search needs)
     loop-again
     returns)

@@ -11,15 +11,9 @@ returns : tie.Need-returns
 unfolding knownLength
 returns c = rw (eq-eqb (c .before .args .op) oeOp (c .if1 .taken))
 
-add-result : tie.Need-add-result
-add-result c = search needs
-
 returns-2 : tie.Need-returns-2
 unfolding knownLength
 returns-2 c = rw (ne-eqb (c .before .before .args .op) oeOp (c .before .if1 .left), eq-eqb (c .before .before .args .op) aoOp (c .if2 .taken))
-
-plain-length-requires : tie.Need-plain-length-requires
-plain-length-requires c κs = search needs
 
 returns-3 : tie.Need-returns-3
 unfolding knownLength
@@ -27,4 +21,4 @@ returns-3 c = rw (ne-eqb (c .before .before .before .args .op) oeOp (c .before .
 
 pub known-length-spec : {M : Type 1} → statement M
 known-length-spec =
-    tie.close (tie.spec returns add-result returns-2 plain-length-requires returns-3)
+    tie.close (tie.spec returns (λ c. search needs) returns-2 (λ c κs. search needs) returns-3)

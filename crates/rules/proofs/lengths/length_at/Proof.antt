@@ -8,21 +8,9 @@ use borrow.Author.Needs.{needs}
 use Rattle.rules.proofs.lengths.length_at.Statement.{statement}
 use Rattle.rules.proofs.lengths.length_at.Tie as tie
 
-mul-at-most : tie.Need-mul-at-most
-mul-at-most c = search needs
-
-shared-slice-read-at-most : tie.Need-shared-slice-read-at-most
-shared-slice-read-at-most c = search needs
-
-at-most-requires : tie.Need-at-most-requires
-at-most-requires c κs = search needs
-
-returns : tie.Need-returns
-returns c = search needs
-
 returns-2 : tie.Need-returns-2
 returns-2 c = sym (ap capped (List·getD-eq-default (now (c .before .before .args .lens)) 0 (c .if1 .left)))
 
 pub length-at-spec : {M : Type 1} → statement M
 length-at-spec =
-    tie.close (tie.spec mul-at-most shared-slice-read-at-most at-most-requires returns returns-2)
+    tie.close (tie.spec (λ c. search needs) (λ c. search needs) (λ c κs. search needs) (λ c. search needs) returns-2)

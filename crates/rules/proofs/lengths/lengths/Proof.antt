@@ -21,37 +21,14 @@ abbrev μ-loop : tie.MeasureT-loop
 loop-holds : tie.Need-loop-holds Inv-loop μ-loop
 loop-holds c = (omega arith, refl, λ σ _. measured-none _ σ _)
 
-mul-length-of : tie.Need-mul-length-of Inv-loop μ-loop
-mul-length-of c = search needs
-
-shared-slice-read-length-of : tie.Need-shared-slice-read-length-of Inv-loop μ-loop
-shared-slice-read-length-of c = search needs
-
-length-of-requires : tie.Need-length-of-requires Inv-loop μ-loop
-length-of-requires c κs = search needs
-
-mul-lens : tie.Need-mul-lens Inv-loop μ-loop
-mul-lens c = search needs
-
-slice-write-lens : tie.Need-slice-write-lens Inv-loop μ-loop
-slice-write-lens c = search needs
-
-add-k : tie.Need-add-k Inv-loop μ-loop
-add-k c = search needs
-
-loop-less : tie.Need-loop-less Inv-loop μ-loop
-loop-less c = search needs
-
 loop-again : tie.Need-loop-again Inv-loop μ-loop
 loop-again c =
+    let at-start = c .before .before .before .before .before .before .before .before in
     let l = c .before .before .before .before .loop in (
       omega arith,
       length-set (l .lens) (l .k) (c .length-of .result) ∙ l .inv .1,
-      λ σ w. measured-next (c .before .before .before .before .before .before .before .before .pre .0 .apart) (omega arith) w (l .inv .2 σ w) (c .length-of .ensures) (omega arith),
+      λ σ w. measured-next (at-start .pre .0 .apart) (omega arith) w (l .inv .2 σ w) (c .length-of .ensures) (omega arith),
     )
-
-same-length : tie.Need-same-length Inv-loop μ-loop
-same-length c = search needs
 
 returns : tie.Need-returns Inv-loop μ-loop
 returns c =
@@ -65,13 +42,13 @@ lengths-spec =
     Inv-loop
     μ-loop
     loop-holds
-    mul-length-of
-    shared-slice-read-length-of
-    length-of-requires
-    mul-lens
-    slice-write-lens
-    add-k
-    loop-less
+    (λ c. search needs)
+    (λ c. search needs)
+    (λ c κs. search needs)
+    (λ c. search needs)
+    (λ c. search needs)
+    (λ c. search needs)
+    (λ c. search needs)
     loop-again
-    same-length
+    (λ c. search needs)
     returns)

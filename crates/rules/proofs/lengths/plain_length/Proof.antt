@@ -7,40 +7,13 @@ use Rattle.syntax.specs.code.Nodes.{firstNumbered}
 use Rattle.rules.proofs.lengths.plain_length.Statement.{statement}
 use Rattle.rules.proofs.lengths.plain_length.Tie as tie
 
-extra-of-requires : tie.Need-extra-of-requires
-extra-of-requires c κs = search needs
-
-has-two-requires : tie.Need-has-two-requires
-has-two-requires c κs = search needs
-
-add-result : tie.Need-add-result
-add-result c = search needs
-
-add-result-2 : tie.Need-add-result-2
-add-result-2 c = search needs
-
 returns : tie.Need-returns
 unfolding plainLength
 returns c = rw (← c .before .has-two .ensures, c .if1 .taken, ← c .before .before .extra-of .ensures .0)
 
-add-result-3 : tie.Need-add-result-3
-add-result-3 c = search needs
-
 returns-2 : tie.Need-returns-2
 unfolding plainLength
 returns-2 c = rw (← c .before .before .has-two .ensures, c .before .if1 .left, lt-ltb (c .before .before .before .before .args .op) firstNumbered (c .if2 .taken), ← c .before .before .before .extra-of .ensures .0)
-
-add-result-4 : tie.Need-add-result-4
-add-result-4 c = search needs
-
-add-result-5 : tie.Need-add-result-5
-add-result-5 c = search needs
-
-add-result-6 : tie.Need-add-result-6
-add-result-6 c = search needs
-
-add-result-7 : tie.Need-add-result-7
-add-result-7 c = search needs
 
 returns-3 : tie.Need-returns-3
 unfolding plainLength
@@ -54,16 +27,16 @@ pub plain-length-spec : {M : Type 1} → statement M
 plain-length-spec =
     tie.close
     (tie.spec
-    extra-of-requires
-    has-two-requires
-    add-result
-    add-result-2
+    (λ c κs. search needs)
+    (λ c κs. search needs)
+    (λ c. search needs)
+    (λ c. search needs)
     returns
-    add-result-3
+    (λ c. search needs)
     returns-2
-    add-result-4
-    add-result-5
-    add-result-6
-    add-result-7
+    (λ c. search needs)
+    (λ c. search needs)
+    (λ c. search needs)
+    (λ c. search needs)
     returns-3
     returns-4)

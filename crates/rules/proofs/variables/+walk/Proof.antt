@@ -33,25 +33,13 @@ walk-below t = and 2 walk-kinds.ps (falls 2 walk-kinds.ps _<_ μ-walk t) walk.Pr
 abbrev called : ℕ → walk-lts.Claims
 called t = (operation-reads.Asked, operation-reads.Learnt, left-reads.Asked, left-reads.Learnt, walk-below t, walk.Post, add-reads.Asked, add-reads.Learnt, has-two-reads.Asked, has-two-reads.Learnt, right-reads.Asked, right-reads.Learnt)
 
-walk-mul-v : (t : ℕ) → walk-lts.Need-mul-v (called t) (walk-at t) walk.Post
-walk-mul-v t c = search needs
-
 walk-shared-slice-read-v : (t : ℕ) → walk-lts.Need-shared-slice-read-v (called t) (walk-at t) walk.Post
 walk-shared-slice-read-v t c =
     let f = c .before .before .before .pre .1 .0 .fits in
     omega (arith, c .before .before .before .pre)
 
-walk-operation-requires : (t : ℕ) → walk-lts.Need-operation-requires (called t) (walk-at t) walk.Post
-walk-operation-requires t c κs = search needs
-
 walk-returns : (t : ℕ) → walk-lts.Need-returns (called t) (walk-at t) walk.Post
 walk-returns t c = walked-bare (c .before .operation .ensures) (c .if1 .taken)
-
-walk-left-requires : (t : ℕ) → walk-lts.Need-left-requires (called t) (walk-at t) walk.Post
-walk-left-requires t c κs = search needs
-
-walk-cast-walk : (t : ℕ) → walk-lts.Need-cast-walk (called t) (walk-at t) walk.Post
-walk-cast-walk t c = search needs
 
 walk-walk-requires : (t : ℕ) → walk-lts.Need-walk-requires (called t) (walk-at t) walk.Post
 walk-walk-requires t c κs =
@@ -59,72 +47,73 @@ walk-walk-requires t c κs =
     let l = left-below (P .1 .0) (P .1 .1 .0) (c .before .before .before .operation .ensures) (c .before .left .ensures) (c .before .before .if1 .left) in
     (omega (arith, P), (P .1 .0, (omega (arith, P), P .1 .1 .1)))
 
-walk-same-length : (t : ℕ) → walk-lts.Need-same-length (called t) (walk-at t) walk.Post
-walk-same-length t c = search needs
-
 walk-returns-2 : (t : ℕ) → walk-lts.Need-returns-2 (called t) (walk-at t) walk.Post
-walk-returns-2 t c = walked-single (c .before .before .before .before .before .before .before .operation .ensures) (c .before .before .before .before .before .left .ensures) (c .before .before .before .walk .ensures) (c .before .before .before .before .before .before .if1 .left) (λ h. absurd (omega arith)) (two-less _ (omega arith))
+walk-returns-2 t c =
+    let at-if1 = c .before .before .before .before .before .before in
+    let at-operation = at-if1 .before in
+    walked-single (at-operation .operation .ensures) (c .before .before .before .before .before .left .ensures) (c .before .before .before .walk .ensures) (at-if1 .if1 .left) (λ h. absurd (omega arith)) (two-less _ (omega arith))
 
 walk-add-requires : (t : ℕ) → walk-lts.Need-add-requires (called t) (walk-at t) walk.Post
-walk-add-requires t c κs = c .before .before .before .before .before .walk .ensures .size ∙ c .before .before .before .before .before .before .before .before .before .before .before .before .before .pre .1 .1 .1
-
-walk-same-length-2 : (t : ℕ) → walk-lts.Need-same-length-2 (called t) (walk-at t) walk.Post
-walk-same-length-2 t c = search needs
+walk-add-requires t c κs =
+    let at-start = c .before .before .before .before .before .before .before .before .before .before .before .before .before in
+    c .before .before .before .before .before .walk .ensures .size ∙ at-start .pre .1 .1 .1
 
 walk-returns-3 : (t : ℕ) → walk-lts.Need-returns-3 (called t) (walk-at t) walk.Post
 walk-returns-3 t c =
+    let at-walk = c .before .before .before .before .before .before .before .before in
+    let at-left = at-walk .before .before in
+    let at-if1 = at-left .before in
+    let at-operation = at-if1 .before in
     let P = c .before .before .before .before .before .before .before .before .before .before .before .before .before .before .before .before .pre in
-    let l = left-below (P .1 .0) (P .1 .1 .0) (c .before .before .before .before .before .before .before .before .before .before .before .before .operation .ensures) (c .before .before .before .before .before .before .before .before .before .before .left .ensures) (c .before .before .before .before .before .before .before .before .before .before .before .if1 .left) in
-    walked-choosing (c .before .before .before .before .before .before .before .before .before .before .before .before .operation .ensures) (c .before .before .before .before .before .before .before .before .before .before .left .ensures) (c .before .before .before .before .before .before .before .before .walk .ensures) (c .before .before .before .before .before .if2 .left) (c .before .before .before .before .if3 .taken) (P .1 .0 .apart) (omega (arith, P)) (P .1 .1 .1) (c .before .before .add .ensures)
-
-walk-has-two-requires : (t : ℕ) → walk-lts.Need-has-two-requires (called t) (walk-at t) walk.Post
-walk-has-two-requires t c κs = search needs
-
-walk-right-requires : (t : ℕ) → walk-lts.Need-right-requires (called t) (walk-at t) walk.Post
-walk-right-requires t c κs = search needs
-
-walk-cast-walk-2 : (t : ℕ) → walk-lts.Need-cast-walk-2 (called t) (walk-at t) walk.Post
-walk-cast-walk-2 t c = search needs
+    let l = left-below (P .1 .0) (P .1 .1 .0) (at-operation .operation .ensures) (at-left .left .ensures) (at-if1 .if1 .left) in
+    walked-choosing (at-operation .operation .ensures) (at-left .left .ensures) (at-walk .walk .ensures) (c .before .before .before .before .before .if2 .left) (c .before .before .before .before .if3 .taken) (P .1 .0 .apart) (omega (arith, P)) (P .1 .1 .1) (c .before .before .add .ensures)
 
 walk-walk-requires-2 : (t : ℕ) → walk-lts.Need-walk-requires-2 (called t) (walk-at t) walk.Post
 walk-walk-requires-2 t c κs =
+    let at-walk = c .before .before .before .before .before .before .before .before in
+    let at-operation = at-walk .before .before .before .before in
     let P = c .before .before .before .before .before .before .before .before .before .before .before .before .before .before .before .before .pre in
-    let l = right-below (P .1 .0) (P .1 .1 .0) (c .before .before .before .before .before .before .before .before .before .before .before .before .operation .ensures) (c .before .right .ensures) (sym (c .before .before .before .has-two .ensures) ∙ c .before .before .if4 .taken) in
-    (omega (arith, P), (P .1 .0, (omega (arith, P), c .before .before .before .before .before .before .before .before .walk .ensures .size ∙ P .1 .1 .1)))
-
-walk-same-length-3 : (t : ℕ) → walk-lts.Need-same-length-3 (called t) (walk-at t) walk.Post
-walk-same-length-3 t c = search needs
+    let l = right-below (P .1 .0) (P .1 .1 .0) (at-operation .operation .ensures) (c .before .right .ensures) (sym (c .before .before .before .has-two .ensures) ∙ c .before .before .if4 .taken) in
+    (omega (arith, P), (P .1 .0, (omega (arith, P), at-walk .walk .ensures .size ∙ P .1 .1 .1)))
 
 walk-returns-4 : (t : ℕ) → walk-lts.Need-returns-4 (called t) (walk-at t) walk.Post
-walk-returns-4 t c = walked-double (c .before .before .before .before .before .before .before .before .before .before .before .before .before .before .before .operation .ensures) (c .before .before .before .before .before .before .before .before .before .before .before .before .before .left .ensures) (c .before .before .before .before .before .before .before .before .before .before .before .walk .ensures) (sym (c .before .before .before .before .before .before .has-two .ensures) ∙ c .before .before .before .before .before .if4 .taken) (c .before .before .before .before .before .before .before .if3 .left) (c .before .before .before .before .right .ensures) (c .before .before .walk2 .ensures)
-
-walk-same-length-4 : (t : ℕ) → walk-lts.Need-same-length-4 (called t) (walk-at t) walk.Post
-walk-same-length-4 t c = search needs
+walk-returns-4 t c =
+    let at-has-two = c .before .before .before .before .before .before in
+    let at-if3 = at-has-two .before in
+    let at-walk = at-if3 .before .before .before .before in
+    let at-left = at-walk .before .before in
+    let at-operation = at-left .before .before in
+    walked-double (at-operation .operation .ensures) (at-left .left .ensures) (at-walk .walk .ensures) (sym (at-has-two .has-two .ensures) ∙ c .before .before .before .before .before .if4 .taken) (at-if3 .if3 .left) (c .before .before .before .before .right .ensures) (c .before .before .walk2 .ensures)
 
 walk-returns-5 : (t : ℕ) → walk-lts.Need-returns-5 (called t) (walk-at t) walk.Post
-walk-returns-5 t c = walked-single (c .before .before .before .before .before .before .before .before .before .before .operation .ensures) (c .before .before .before .before .before .before .before .before .left .ensures) (c .before .before .before .before .before .before .walk .ensures) (c .before .before .before .before .before .before .before .before .before .if1 .left) (λ _. c .before .before .if3 .left) (sym (c .before .has-two .ensures) ∙ c .if4 .left)
+walk-returns-5 t c =
+    let at-walk = c .before .before .before .before .before .before in
+    let at-left = at-walk .before .before in
+    let at-if1 = at-left .before in
+    let at-operation = at-if1 .before in
+    walked-single (at-operation .operation .ensures) (at-left .left .ensures) (at-walk .walk .ensures) (at-if1 .if1 .left) (λ _. c .before .before .if3 .left) (sym (c .before .has-two .ensures) ∙ c .if4 .left)
 
 pub +walk-spec : {M : Type 1} → statement M
 +walk-spec = close μ-walk λ t. walk-lts.spec (called t)
     (walk-at t)
     walk.Post
-    (walk-mul-v t)
+    (λ c. search needs)
     (walk-shared-slice-read-v t)
-    (walk-operation-requires t)
+    (λ c κs. search needs)
     (walk-returns t)
-    (walk-left-requires t)
-    (walk-cast-walk t)
+    (λ c κs. search needs)
+    (λ c. search needs)
     (walk-walk-requires t)
-    (walk-same-length t)
+    (λ c. search needs)
     (walk-returns-2 t)
     (walk-add-requires t)
-    (walk-same-length-2 t)
+    (λ c. search needs)
     (walk-returns-3 t)
-    (walk-has-two-requires t)
-    (walk-right-requires t)
-    (walk-cast-walk-2 t)
+    (λ c κs. search needs)
+    (λ c κs. search needs)
+    (λ c. search needs)
     (walk-walk-requires-2 t)
-    (walk-same-length-3 t)
+    (λ c. search needs)
     (walk-returns-4 t)
-    (walk-same-length-4 t)
+    (λ c. search needs)
     (walk-returns-5 t)

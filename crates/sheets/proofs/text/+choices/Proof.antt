@@ -27,63 +27,47 @@ choices-below t = and 2 choices-kinds.ps (falls 2 choices-kinds.ps _<_ μ-choice
 choices-returns : (t : ℕ) → choices-lts.Need-returns (choice-reads.Asked, choice-reads.Learnt, choices-below t, choices.Post) (choices-at t) choices.Post
 choices-returns t c = none-left _ _ _ (c .if1 .taken)
 
-choices-shared-slice-read-x : (t : ℕ) → choices-lts.Need-shared-slice-read-x (choice-reads.Asked, choice-reads.Learnt, choices-below t, choices.Post) (choices-at t) choices.Post
-choices-shared-slice-read-x t c = search needs
-
 choices-returns-2 : (t : ℕ) → choices-lts.Need-returns-2 (choice-reads.Asked, choice-reads.Learnt, choices-below t, choices.Post) (choices-at t) choices.Post
 choices-returns-2 t c = none-chosen _ _ _ (c .before .before .if1 .left) (c .if2 .taken)
 
-choices-add-choice : (t : ℕ) → choices-lts.Need-add-choice (choice-reads.Asked, choice-reads.Learnt, choices-below t, choices.Post) (choices-at t) choices.Post
-choices-add-choice t c = search needs
-
 choices-choice-requires : (t : ℕ) → choices-lts.Need-choice-requires (choice-reads.Asked, choice-reads.Learnt, choices-below t, choices.Post) (choices-at t) choices.Post
-choices-choice-requires t c κs = omega (arith, c .before .before .before .before .before .before .pre .1 .0, c .before .before .before .before .before .before .pre .1 .1, c .before .before .before .if1 .left)
-
-choices-add-choices : (t : ℕ) → choices-lts.Need-add-choices (choice-reads.Asked, choice-reads.Learnt, choices-below t, choices.Post) (choices-at t) choices.Post
-choices-add-choices t c = search needs
-
-choices-sub-choices : (t : ℕ) → choices-lts.Need-sub-choices (choice-reads.Asked, choice-reads.Learnt, choices-below t, choices.Post) (choices-at t) choices.Post
-choices-sub-choices t c = search needs
-
-choices-part-choices-start : (t : ℕ) → choices-lts.Need-part-choices-start (choice-reads.Asked, choice-reads.Learnt, choices-below t, choices.Post) (choices-at t) choices.Post
-choices-part-choices-start t c = search needs
-
-choices-part-choices-end : (t : ℕ) → choices-lts.Need-part-choices-end (choice-reads.Asked, choice-reads.Learnt, choices-below t, choices.Post) (choices-at t) choices.Post
-choices-part-choices-end t c = search needs
+choices-choice-requires t c κs =
+    let at-start = c .before .before .before .before .before .before in
+    omega (arith, at-start .pre .1 .0, at-start .pre .1 .1, c .before .before .before .if1 .left)
 
 choices-choices-requires : (t : ℕ) → choices-lts.Need-choices-requires (choice-reads.Asked, choice-reads.Learnt, choices-below t, choices.Post) (choices-at t) choices.Post
-choices-choices-requires t c κs = (
-  omega (arith, c .before .before .before .before .before .before .before .before .before .before .pre .0, c .before .before .before .before .before .before .before .if1 .left),
-  (
-    c .before .before .before .before .before .before .before .before .before .before .pre .1 .0,
-    rest-room (43 * (length (c .before .before .before .before .before .before .before .before .before .before .args .first .now) - (c .before .before .before .before .before .before .before .before .before .before .args .k + 1))) (c .before .before .before .choice .ensures)
-        (omega (arith, c .before .before .before .before .before .before .before .before .before .before .pre .1 .1, c .before .before .before .before .before .before .before .if1 .left, choice-short (c .before .before .before .before .before .before .before .before .before .before .args .k + 1) (getD (c .before .before .before .before .before .before .before .before .before .before .args .first .now) (c .before .before .before .before .before .before .before .before .before .before .args .k) 0))),
-  ),
-)
-
-choices-add-result : (t : ℕ) → choices-lts.Need-add-result (choice-reads.Asked, choice-reads.Learnt, choices-below t, choices.Post) (choices-at t) choices.Post
-choices-add-result t c = search needs
-
-choices-same-length : (t : ℕ) → choices-lts.Need-same-length (choice-reads.Asked, choice-reads.Learnt, choices-below t, choices.Post) (choices-at t) choices.Post
-choices-same-length t c = search needs
+choices-choices-requires t c κs =
+    let at-if1 = c .before .before .before .before .before .before .before in
+    let at-start = at-if1 .before .before .before in (
+      omega (arith, at-start .pre .0, at-if1 .if1 .left),
+      (
+        at-start .pre .1 .0,
+        rest-room (43 * (length (at-start .args .first .now) - (at-start .args .k + 1))) (c .before .before .before .choice .ensures)
+            (omega (arith, at-start .pre .1 .1, at-if1 .if1 .left, choice-short (at-start .args .k + 1) (getD (at-start .args .first .now) (at-start .args .k) 0))),
+      ),
+    )
 
 choices-returns-3 : (t : ℕ) → choices-lts.Need-returns-3 (choice-reads.Asked, choice-reads.Learnt, choices-below t, choices.Post) (choices-at t) choices.Post
-choices-returns-3 t c = one-chosen _ _ (c .before .before .before .before .before .before .before .before .before .before .if1 .left) (c .before .before .before .before .before .before .before .before .if2 .left) (written-rest (c .before .before .before .before .before .before .choice .ensures) (c .before .before .choices .ensures))
+choices-returns-3 t c =
+    let at-choice = c .before .before .before .before .before .before in
+    let at-if2 = at-choice .before .before in
+    let at-if1 = at-if2 .before .before in
+    one-chosen _ _ (at-if1 .if1 .left) (at-if2 .if2 .left) (written-rest (at-choice .choice .ensures) (c .before .before .choices .ensures))
 
 pub +choices-spec : {M : Type 1} → statement M
 +choices-spec = close μ-choices λ t. choices-lts.spec (choice-reads.Asked, choice-reads.Learnt, choices-below t, choices.Post)
     (choices-at t)
     choices.Post
     (choices-returns t)
-    (choices-shared-slice-read-x t)
+    (λ c. search needs)
     (choices-returns-2 t)
-    (choices-add-choice t)
+    (λ c. search needs)
     (choices-choice-requires t)
-    (choices-add-choices t)
-    (choices-sub-choices t)
-    (choices-part-choices-start t)
-    (choices-part-choices-end t)
+    (λ c. search needs)
+    (λ c. search needs)
+    (λ c. search needs)
+    (λ c. search needs)
     (choices-choices-requires t)
-    (choices-add-result t)
-    (choices-same-length t)
+    (λ c. search needs)
+    (λ c. search needs)
     (choices-returns-3 t)

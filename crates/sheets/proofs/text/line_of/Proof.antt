@@ -7,39 +7,25 @@ use borrow.Author.Needs.{needs}
 use Rattle.sheets.proofs.text.line_of.Statement.{statement}
 use Rattle.sheets.proofs.text.line_of.Tie as tie
 
-decimal-requires : tie.Need-decimal-requires
-decimal-requires c κs = search needs
-
-sub-says : tie.Need-sub-says
-sub-says c = search needs
-
-part-says-start : tie.Need-part-says-start
-part-says-start c = search needs
-
-part-says-end : tie.Need-part-says-end
-part-says-end c = search needs
-
 says-requires : tie.Need-says-requires
-says-requires c κs = rest-room 480 (c .before .before .before .decimal .ensures) (omega (arith, c .before .before .before .before .before .before .pre, digits-short 20 (c .before .before .before .before .before .before .args .place)))
-
-add-result : tie.Need-add-result
-add-result c = search needs
-
-same-length : tie.Need-same-length
-same-length c = search needs
+says-requires c κs =
+    let at-start = c .before .before .before .before .before .before in
+    rest-room 480 (c .before .before .before .decimal .ensures) (omega (arith, at-start .pre, digits-short 20 (at-start .args .place)))
 
 returns : tie.Need-returns
-returns c = written-rest (c .before .before .before .before .before .before .decimal .ensures) (c .before .before .says .ensures)
+returns c =
+    let at-decimal = c .before .before .before .before .before .before in
+    written-rest (at-decimal .decimal .ensures) (c .before .before .says .ensures)
 
 pub line-of-spec : {M : Type 1} → statement M
 line-of-spec =
     tie.close
     (tie.spec
-    decimal-requires
-    sub-says
-    part-says-start
-    part-says-end
+    (λ c κs. search needs)
+    (λ c. search needs)
+    (λ c. search needs)
+    (λ c. search needs)
     says-requires
-    add-result
-    same-length
+    (λ c. search needs)
+    (λ c. search needs)
     returns)

@@ -12,29 +12,8 @@ use borrow.Author.Needs.{needs}
 use Rattle.syntax.proofs.arena.intern.Statement.{statement}
 use Rattle.syntax.proofs.arena.intern.Tie as tie
 
-pack-requires : tie.Need-pack-requires
-pack-requires c κs = search needs
-
-seek-requires : tie.Need-seek-requires
-seek-requires c κs = search needs
-
-same-length : tie.Need-same-length
-same-length c = search needs
-
 returns : tie.Need-returns
 returns c = put {k = c .before .seek .result} {n = c .before .before .before .before .before .args .n} (record { within = search needs; few = search needs; at = c .before .seek .ensures .found (c .if1 .taken) ∙ c .before .before .before .pack .ensures; stays = stays-refl _; tidy = c .before .before .before .before .before .pre .tidy })
-
-mul-nodes : tie.Need-mul-nodes
-mul-nodes c = search needs
-
-slice-write-nodes : tie.Need-slice-write-nodes
-slice-write-nodes c = search needs
-
-add-t12 : tie.Need-add-t12
-add-t12 c = search needs
-
-same-length-2 : tie.Need-same-length-2
-same-length-2 c = search needs
 
 returns-2 : tie.Need-returns-2
 returns-2 c =
@@ -55,12 +34,12 @@ pub intern-spec : {M : Type 1} → statement M
 intern-spec =
     tie.close
     (tie.spec
-    pack-requires
-    seek-requires
-    same-length
+    (λ c κs. search needs)
+    (λ c κs. search needs)
+    (λ c. search needs)
     returns
-    mul-nodes
-    slice-write-nodes
-    add-t12
-    same-length-2
+    (λ c. search needs)
+    (λ c. search needs)
+    (λ c. search needs)
+    (λ c. search needs)
     returns-2)

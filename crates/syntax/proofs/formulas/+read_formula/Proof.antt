@@ -40,161 +40,166 @@ read-formula-below t =
     (falls 3 read-formula-kinds.ps _<_ μ-read-formula t)
     read-formula.Pre
 
-read-formula-slice-aggregate-stands : (t : ℕ) → read-formula-lts.Need-slice-aggregate-stands (stands-reads.Asked, stands-reads.Learnt, read-body-reads.Asked, read-body-reads.Learnt, read-set-reads.Asked, read-set-reads.Learnt, read-formula-below t, read-formula.Post) (read-formula-at t) read-formula.Post
-read-formula-slice-aggregate-stands t c = search needs
-
 read-formula-stands-requires : (t : ℕ) → read-formula-lts.Need-stands-requires (stands-reads.Asked, stands-reads.Learnt, read-body-reads.Asked, read-body-reads.Learnt, read-set-reads.Asked, read-set-reads.Learnt, read-formula-below t, read-formula.Post) (read-formula-at t) read-formula.Post
 read-formula-stands-requires t c κs = c .before .before .before .before .pre .1 .0 .within
 
-read-formula-slice-aggregate-stands-2 : (t : ℕ) → read-formula-lts.Need-slice-aggregate-stands-2 (stands-reads.Asked, stands-reads.Learnt, read-body-reads.Asked, read-body-reads.Learnt, read-set-reads.Asked, read-set-reads.Learnt, read-formula-below t, read-formula.Post) (read-formula-at t) read-formula.Post
-read-formula-slice-aggregate-stands-2 t c = search needs
-
 read-formula-stands-requires-2 : (t : ℕ) → read-formula-lts.Need-stands-requires-2 (stands-reads.Asked, stands-reads.Learnt, read-body-reads.Asked, read-body-reads.Learnt, read-set-reads.Asked, read-set-reads.Learnt, read-formula-below t, read-formula.Post) (read-formula-at t) read-formula.Post
-read-formula-stands-requires-2 t c κs = c .before .before .before .before .before .before .before .pre .1 .0 .within
+read-formula-stands-requires-2 t c κs =
+    let at-start = c .before .before .before .before .before .before .before in
+    at-start .pre .1 .0 .within
 
 read-formula-returns : (t : ℕ) → read-formula-lts.Need-returns (stands-reads.Asked, stands-reads.Learnt, read-body-reads.Asked, read-body-reads.Learnt, read-set-reads.Asked, read-set-reads.Learnt, read-formula-below t, read-formula.Post) (read-formula-at t) read-formula.Post
-read-formula-returns t c = λ σ w.
-    noThing (formula-open (c .before .before .before .before .before .before .before .before .before .args .k) (c .before .before .before .before .before .before .before .before .before .pre .1 .1 .1) σ (now (c .before .before .before .before .before .before .before .before .before .args .s)) (c .before .before .before .before .before .before .before .before .before .args .at) (miss (c .before .before .before .before .stands .ensures) (not-true _ (c .before .before .before .if1 .taken))) (miss (c .before .stands2 .ensures) (not-true _ (c .if2 .taken))))
+read-formula-returns t c =
+    let at-start = c .before .before .before .before .before .before .before .before .before in
+    λ σ w.
+    noThing (formula-open (at-start .args .k) (at-start .pre .1 .1 .1) σ (now (at-start .args .s)) (at-start .args .at) (miss (c .before .before .before .before .stands .ensures) (not-true _ (c .before .before .before .if1 .taken))) (miss (c .before .stands2 .ensures) (not-true _ (c .if2 .taken))))
 
 read-formula-add-read-body : (t : ℕ) → read-formula-lts.Need-add-read-body (stands-reads.Asked, stands-reads.Learnt, read-body-reads.Asked, read-body-reads.Learnt, read-set-reads.Asked, read-set-reads.Learnt, read-formula-below t, read-formula.Post) (read-formula-at t) read-formula.Post
-read-formula-add-read-body t c = omega (arith, c .before .before .before .before .before .before .before .before .before .pre .1 .0 .room, c .before .before .before .before .before .before .before .before .before .pre .1 .0 .within, c .before .before .before .before .before .before .before .before .before .pre .1 .0 .tidy .size)
-
-read-formula-slice-reshare-prefix-read-body : (t : ℕ) → read-formula-lts.Need-slice-reshare-prefix-read-body (stands-reads.Asked, stands-reads.Learnt, read-body-reads.Asked, read-body-reads.Learnt, read-set-reads.Asked, read-set-reads.Learnt, read-formula-below t, read-formula.Post) (read-formula-at t) read-formula.Post
-read-formula-slice-reshare-prefix-read-body t c = search needs
+read-formula-add-read-body t c =
+    let at-start = c .before .before .before .before .before .before .before .before .before in
+    omega (arith, at-start .pre .1 .0 .room, at-start .pre .1 .0 .within, at-start .pre .1 .0 .tidy .size)
 
 read-formula-slice-aggregate-read-body : (t : ℕ) → read-formula-lts.Need-slice-aggregate-read-body (stands-reads.Asked, stands-reads.Learnt, read-body-reads.Asked, read-body-reads.Learnt, read-set-reads.Asked, read-set-reads.Learnt, read-formula-below t, read-formula.Post) (read-formula-at t) read-formula.Post
-read-formula-slice-aggregate-read-body t c = sym (length-take-le (c .before .before .before .before .before .before .before .before .before .before .args .k) (now (c .before .before .before .before .before .before .before .before .before .before .args .vars)) (omega (arith, c .before .before .before .before .before .before .before .before .before .before .pre .1 .1)))
+read-formula-slice-aggregate-read-body t c =
+    let at-start = c .before .before .before .before .before .before .before .before .before .before in
+    sym (length-take-le (at-start .args .k) (now (at-start .args .vars)) (omega (arith, at-start .pre .1 .1)))
 
 read-formula-read-body-requires : (t : ℕ) → read-formula-lts.Need-read-body-requires (stands-reads.Asked, stands-reads.Learnt, read-body-reads.Asked, read-body-reads.Learnt, read-set-reads.Asked, read-set-reads.Learnt, read-formula-below t, read-formula.Post) (read-formula-at t) read-formula.Post
 read-formula-read-body-requires t c κs =
-    let h = hit (c .before .before .before .stands2 .ensures) (not-false _ (c .before .before .if2 .left)) (c .before .before .before .before .before .before .before .before .before .before .before .pre .1 .0 .within) in
-    ready-at (c .before .before .before .before .before .before .before .before .before .before .before .pre .1 .0) (omega arith) (h .fits)
-
-read-formula-same-length : (t : ℕ) → read-formula-lts.Need-same-length (stands-reads.Asked, stands-reads.Learnt, read-body-reads.Asked, read-body-reads.Learnt, read-set-reads.Asked, read-set-reads.Learnt, read-formula-below t, read-formula.Post) (read-formula-at t) read-formula.Post
-read-formula-same-length t c = search needs
-
-read-formula-same-length-2 : (t : ℕ) → read-formula-lts.Need-same-length-2 (stands-reads.Asked, stands-reads.Learnt, read-body-reads.Asked, read-body-reads.Learnt, read-set-reads.Asked, read-set-reads.Learnt, read-formula-below t, read-formula.Post) (read-formula-at t) read-formula.Post
-read-formula-same-length-2 t c = search needs
+    let at-start = c .before .before .before .before .before .before .before .before .before .before .before in
+    let h = hit (c .before .before .before .stands2 .ensures) (not-false _ (c .before .before .if2 .left)) (at-start .pre .1 .0 .within) in
+    ready-at (at-start .pre .1 .0) (omega arith) (h .fits)
 
 read-formula-returns-2 : (t : ℕ) → read-formula-lts.Need-returns-2 (stands-reads.Asked, stands-reads.Learnt, read-body-reads.Asked, read-body-reads.Learnt, read-set-reads.Asked, read-set-reads.Learnt, read-formula-below t, read-formula.Post) (read-formula-at t) read-formula.Post
-read-formula-returns-2 t c = λ σ w.
-    let h = hit (c .before .before .before .before .before .before .stands2 .ensures) (not-false _ (c .before .before .before .before .before .if2 .left)) (c .before .before .before .before .before .before .before .before .before .before .before .before .before .before .pre .1 .0 .within) in
-    rw (formula-rule (c .before .before .before .before .before .before .before .before .before .before .before .before .before .before .args .k) (c .before .before .before .before .before .before .before .before .before .before .before .before .before .before .pre .1 .1 .1) σ (now (c .before .before .before .before .before .before .before .before .before .before .before .before .before .before .args .s)) (c .before .before .before .before .before .before .before .before .before .before .before .before .before .before .args .at) (miss (c .before .before .before .before .before .before .before .before .before .stands .ensures) (not-true _ (c .before .before .before .before .before .before .before .before .if1 .taken))) h)
+read-formula-returns-2 t c =
+    let at-stands2 = c .before .before .before .before .before .before in
+    let at-if1 = at-stands2 .before .before in
+    let at-stands = at-if1 .before in
+    let at-start = at-stands .before .before .before .before .before in
+    λ σ w.
+    let h = hit (at-stands2 .stands2 .ensures) (not-false _ (c .before .before .before .before .before .if2 .left)) (at-start .pre .1 .0 .within) in
+    rw (formula-rule (at-start .args .k) (at-start .pre .1 .1 .1) σ (now (at-start .args .s)) (at-start .args .at) (miss (at-stands .stands .ensures) (not-true _ (at-if1 .if1 .taken))) h)
     (agree-from (stays-refl _) (omega arith) (c .before .before .read-body .ensures σ w))
 
 read-formula-returns-3 : (t : ℕ) → read-formula-lts.Need-returns-3 (stands-reads.Asked, stands-reads.Learnt, read-body-reads.Asked, read-body-reads.Learnt, read-set-reads.Asked, read-set-reads.Learnt, read-formula-below t, read-formula.Post) (read-formula-at t) read-formula.Post
-read-formula-returns-3 t c = λ σ w.
-    let h = hit (c .before .before .stands .ensures) (not-false _ (c .before .if1 .left)) (c .before .before .before .before .before .before .before .pre .1 .0 .within) in
-    noThing (formula-full (c .before .before .before .before .before .before .before .args .k) (c .before .before .before .before .before .before .before .pre .1 .1 .1) σ (now (c .before .before .before .before .before .before .before .args .s)) (c .before .before .before .before .before .before .before .args .at) h (c .if3 .taken))
+read-formula-returns-3 t c =
+    let at-start = c .before .before .before .before .before .before .before in
+    λ σ w.
+    let h = hit (c .before .before .stands .ensures) (not-false _ (c .before .if1 .left)) (at-start .pre .1 .0 .within) in
+    noThing (formula-full (at-start .args .k) (at-start .pre .1 .1 .1) σ (now (at-start .args .s)) (at-start .args .at) h (c .if3 .taken))
 
 read-formula-add-read-set : (t : ℕ) → read-formula-lts.Need-add-read-set (stands-reads.Asked, stands-reads.Learnt, read-body-reads.Asked, read-body-reads.Learnt, read-set-reads.Asked, read-set-reads.Learnt, read-formula-below t, read-formula.Post) (read-formula-at t) read-formula.Post
-read-formula-add-read-set t c = omega (arith, c .before .before .before .before .before .before .before .pre .1 .0 .room, c .before .before .before .before .before .before .before .pre .1 .0 .within, c .before .before .before .before .before .before .before .pre .1 .0 .tidy .size)
-
-read-formula-slice-reshare-prefix-read-set : (t : ℕ) → read-formula-lts.Need-slice-reshare-prefix-read-set (stands-reads.Asked, stands-reads.Learnt, read-body-reads.Asked, read-body-reads.Learnt, read-set-reads.Asked, read-set-reads.Learnt, read-formula-below t, read-formula.Post) (read-formula-at t) read-formula.Post
-read-formula-slice-reshare-prefix-read-set t c = search needs
+read-formula-add-read-set t c =
+    let at-start = c .before .before .before .before .before .before .before in
+    omega (arith, at-start .pre .1 .0 .room, at-start .pre .1 .0 .within, at-start .pre .1 .0 .tidy .size)
 
 read-formula-slice-aggregate-read-set : (t : ℕ) → read-formula-lts.Need-slice-aggregate-read-set (stands-reads.Asked, stands-reads.Learnt, read-body-reads.Asked, read-body-reads.Learnt, read-set-reads.Asked, read-set-reads.Learnt, read-formula-below t, read-formula.Post) (read-formula-at t) read-formula.Post
-read-formula-slice-aggregate-read-set t c = sym (length-take-le (c .before .before .before .before .before .before .before .before .args .k) (now (c .before .before .before .before .before .before .before .before .args .vars)) (omega (arith, c .before .before .before .before .before .before .before .before .pre .1 .1)))
+read-formula-slice-aggregate-read-set t c =
+    let at-start = c .before .before .before .before .before .before .before .before in
+    sym (length-take-le (at-start .args .k) (now (at-start .args .vars)) (omega (arith, at-start .pre .1 .1)))
 
 read-formula-read-set-requires : (t : ℕ) → read-formula-lts.Need-read-set-requires (stands-reads.Asked, stands-reads.Learnt, read-body-reads.Asked, read-body-reads.Learnt, read-set-reads.Asked, read-set-reads.Learnt, read-formula-below t, read-formula.Post) (read-formula-at t) read-formula.Post
 read-formula-read-set-requires t c κs =
-    let h = hit (c .before .before .before .before .stands .ensures) (not-false _ (c .before .before .before .if1 .left)) (c .before .before .before .before .before .before .before .before .before .pre .1 .0 .within) in
-    (ready-at (c .before .before .before .before .before .before .before .before .before .pre .1 .0) (omega arith) (h .fits), simp length-take (omega (arith, c .before .before .before .before .before .before .before .before .before .pre .1 .1)))
-
-read-formula-enum-known-p : (t : ℕ) → read-formula-lts.Need-enum-known-p (stands-reads.Asked, stands-reads.Learnt, read-body-reads.Asked, read-body-reads.Learnt, read-set-reads.Asked, read-set-reads.Learnt, read-formula-below t, read-formula.Post) (read-formula-at t) read-formula.Post
-read-formula-enum-known-p t c = search needs
-
-read-formula-enum-told : (t : ℕ) → read-formula-lts.Need-enum-told (stands-reads.Asked, stands-reads.Learnt, read-body-reads.Asked, read-body-reads.Learnt, read-set-reads.Asked, read-set-reads.Learnt, read-formula-below t, read-formula.Post) (read-formula-at t) read-formula.Post
-read-formula-enum-told t c = search needs
-
-read-formula-same-length-3 : (t : ℕ) → read-formula-lts.Need-same-length-3 (stands-reads.Asked, stands-reads.Learnt, read-body-reads.Asked, read-body-reads.Learnt, read-set-reads.Asked, read-set-reads.Learnt, read-formula-below t, read-formula.Post) (read-formula-at t) read-formula.Post
-read-formula-same-length-3 t c = search needs
-
-read-formula-same-length-4 : (t : ℕ) → read-formula-lts.Need-same-length-4 (stands-reads.Asked, stands-reads.Learnt, read-body-reads.Asked, read-body-reads.Learnt, read-set-reads.Asked, read-set-reads.Learnt, read-formula-below t, read-formula.Post) (read-formula-at t) read-formula.Post
-read-formula-same-length-4 t c = search needs
+    let at-start = c .before .before .before .before .before .before .before .before .before in
+    let h = hit (c .before .before .before .before .stands .ensures) (not-false _ (c .before .before .before .if1 .left)) (at-start .pre .1 .0 .within) in
+    (ready-at (at-start .pre .1 .0) (omega arith) (h .fits), simp length-take (omega (arith, at-start .pre .1 .1)))
 
 read-formula-returns-4 : (t : ℕ) → read-formula-lts.Need-returns-4 (stands-reads.Asked, stands-reads.Learnt, read-body-reads.Asked, read-body-reads.Learnt, read-set-reads.Asked, read-set-reads.Learnt, read-formula-below t, read-formula.Post) (read-formula-at t) read-formula.Post
-read-formula-returns-4 t c = λ σ w.
-    let h = hit (c .before .before .before .before .before .before .before .before .before .stands .ensures) (not-false _ (c .before .before .before .before .before .before .before .before .if1 .left)) (c .before .before .before .before .before .before .before .before .before .before .before .before .before .before .pre .1 .0 .within) in
-    noThing (formula-lost (c .before .before .before .before .before .before .before .before .before .before .before .before .before .before .args .k) (c .before .before .before .before .before .before .before .before .before .before .before .before .before .before .pre .1 .1 .1) σ (now (c .before .before .before .before .before .before .before .before .before .before .before .before .before .before .args .s)) (c .before .before .before .before .before .before .before .before .before .before .before .before .before .before .args .at) h (as-none (c .before .before .before .before .read-set .ensures σ w) (c .enum-told .given .1)))
+read-formula-returns-4 t c =
+    let at-if1 = c .before .before .before .before .before .before .before .before in
+    let at-stands = at-if1 .before in
+    let at-start = at-stands .before .before .before .before .before in
+    λ σ w.
+    let h = hit (at-stands .stands .ensures) (not-false _ (at-if1 .if1 .left)) (at-start .pre .1 .0 .within) in
+    noThing (formula-lost (at-start .args .k) (at-start .pre .1 .1 .1) σ (now (at-start .args .s)) (at-start .args .at) h (as-none (c .before .before .before .before .read-set .ensures σ w) (c .enum-told .given .1)))
 
 read-formula-cast-vars : (t : ℕ) → read-formula-lts.Need-cast-vars (stands-reads.Asked, stands-reads.Learnt, read-body-reads.Asked, read-body-reads.Learnt, read-set-reads.Asked, read-set-reads.Learnt, read-formula-below t, read-formula.Post) (read-formula-at t) read-formula.Post
 read-formula-cast-vars t c =
-    let f = as-some (c .before .before .before .before .before .read-set .ensures (c .before .before .before .before .before .before .before .before .before .before .before .before .before .before .before .pre .1 .0 .choices) (c .before .before .before .before .before .before .before .before .before .before .before .before .before .before .before .pre .1 .0 .knows)) (c .before .p .given .1) in
+    let at-start = c .before .before .before .before .before .before .before .before .before .before .before .before .before .before .before in
+    let f = as-some (c .before .before .before .before .before .read-set .ensures (at-start .pre .1 .0 .choices) (at-start .pre .1 .0 .knows)) (c .before .p .given .1) in
     omega (arith, f .within, f .tidy .fits, f .tidy .size)
 
-read-formula-mul-vars : (t : ℕ) → read-formula-lts.Need-mul-vars (stands-reads.Asked, stands-reads.Learnt, read-body-reads.Asked, read-body-reads.Learnt, read-set-reads.Asked, read-set-reads.Learnt, read-formula-below t, read-formula.Post) (read-formula-at t) read-formula.Post
-read-formula-mul-vars t c = search needs
-
 read-formula-slice-write-vars : (t : ℕ) → read-formula-lts.Need-slice-write-vars (stands-reads.Asked, stands-reads.Learnt, read-body-reads.Asked, read-body-reads.Learnt, read-set-reads.Asked, read-set-reads.Learnt, read-formula-below t, read-formula.Post) (read-formula-at t) read-formula.Post
-read-formula-slice-write-vars t c = omega (arith, c .before .before .before .before .before .before .before .before .before .before .before .before .before .before .before .pre .1 .1, c .before .before .before .before .before .before .before .before .if3 .left)
+read-formula-slice-write-vars t c =
+    let at-if3 = c .before .before .before .before .before .before .before .before in
+    let at-start = at-if3 .before .before .before .before .before .before .before in
+    omega (arith, at-start .pre .1 .1, at-if3 .if3 .left)
 
 read-formula-add-read-formula : (t : ℕ) → read-formula-lts.Need-add-read-formula (stands-reads.Asked, stands-reads.Learnt, read-body-reads.Asked, read-body-reads.Learnt, read-set-reads.Asked, read-set-reads.Learnt, read-formula-below t, read-formula.Post) (read-formula-at t) read-formula.Post
-read-formula-add-read-formula t c = omega (arith, c .before .before .before .before .before .before .before .before .before .before .before .before .before .before .before .before .pre .1 .1)
+read-formula-add-read-formula t c =
+    let at-start = c .before .before .before .before .before .before .before .before .before .before .before .before .before .before .before .before in
+    omega (arith, at-start .pre .1 .1)
 
 read-formula-read-formula-requires : (t : ℕ) → read-formula-lts.Need-read-formula-requires (stands-reads.Asked, stands-reads.Learnt, read-body-reads.Asked, read-body-reads.Learnt, read-set-reads.Asked, read-set-reads.Learnt, read-formula-below t, read-formula.Post) (read-formula-at t) read-formula.Post
 read-formula-read-formula-requires t c κs =
-    let f = as-some (c .before .before .before .before .before .before .before .read-set .ensures (c .before .before .before .before .before .before .before .before .before .before .before .before .before .before .before .before .before .pre .1 .0 .choices) (c .before .before .before .before .before .before .before .before .before .before .before .before .before .before .before .before .before .pre .1 .0 .knows)) (c .before .before .before .p .given .1) in
-    let l : c .before .before .before .before .before .before .before .before .before .before .before .before .before .before .before .before .before .args .k < length (now (c .before .before .before .before .before .before .before .before .before .before .before .before .before .before .before .before .before .args .vars)) = omega (arith, c .before .before .before .before .before .before .before .before .before .before .before .before .before .before .before .before .before .pre .1 .1, c .before .before .before .before .before .before .before .before .before .before .if3 .left) in (
-      omega (arith, c .before .before .before .before .before .before .before .before .before .before .before .before .before .before .before .before .before .pre, c .before .before .before .before .before .before .before .before .before .before .if3 .left),
+    let at-read-set = c .before .before .before .before .before .before .before in
+    let at-if3 = at-read-set .before .before .before in
+    let at-start = at-if3 .before .before .before .before .before .before .before in
+    let f = as-some (at-read-set .read-set .ensures (at-start .pre .1 .0 .choices) (at-start .pre .1 .0 .knows)) (c .before .before .before .p .given .1) in
+    let l : at-start .args .k < length (now (at-start .args .vars)) = omega (arith, at-start .pre .1 .1, at-if3 .if3 .left) in (
+      omega (arith, at-start .pre, at-if3 .if3 .left),
       (
         record {
-          room = omega (arith, c .before .before .before .before .before .before .before .before .before .before .before .before .before .before .before .before .before .pre .1 .0 .room, f .stays .size);
+          room = omega (arith, at-start .pre .1 .0 .room, f .stays .size);
           within = f .end;
-          count = omega (arith, c .before .before .before .before .before .before .before .before .before .before .before .before .before .before .before .before .before .pre .1 .0 .count, f .count);
+          count = omega (arith, at-start .pre .1 .0 .count, f .count);
           tidy = f .tidy;
-          choices = c .before .before .before .before .before .before .before .before .before .before .before .before .before .before .before .before .before .pre .1 .0 .choices ++ (f .thing ∷ []);
-          knows = knows-more (now (c .before .before .before .before .before .before .before .before .before .before .before .before .before .before .before .before .before .args .vars)) (c .before .before .before .before .before .before .before .before .before .before .before .before .before .before .before .before .before .args .k) (c .before .before .before .before .before .before .before .before .before .before .before .before .before .before .before .before .before .pre .1 .0 .choices) l (c .before .before .before .before .before .before .before .before .before .before .before .before .before .before .before .before .before .pre .1 .0 .knows) f;
+          choices = at-start .pre .1 .0 .choices ++ (f .thing ∷ []);
+          knows = knows-more (now (at-start .args .vars)) (at-start .args .k) (at-start .pre .1 .0 .choices) l (at-start .pre .1 .0 .knows) f;
         },
-        (simp length-set (c .before .before .before .before .before .before .before .before .before .before .before .before .before .before .before .before .before .pre .1 .1 .0), omega (arith, c .before .before .before .before .before .before .before .before .before .before .before .before .before .before .before .before .before .pre .1 .1, c .before .before .before .before .before .before .before .before .before .before .if3 .left)),
+        (simp length-set (at-start .pre .1 .1 .0), omega (arith, at-start .pre .1 .1, at-if3 .if3 .left)),
       ),
     )
 
 read-formula-same-length-5 : (t : ℕ) → read-formula-lts.Need-same-length-5 (stands-reads.Asked, stands-reads.Learnt, read-body-reads.Asked, read-body-reads.Learnt, read-set-reads.Asked, read-set-reads.Learnt, read-formula-below t, read-formula.Post) (read-formula-at t) read-formula.Post
 read-formula-same-length-5 t c = c .before .before .before .before .read-formula .kept .1 .1 .0 ∙ simp length-set
 
-read-formula-same-length-6 : (t : ℕ) → read-formula-lts.Need-same-length-6 (stands-reads.Asked, stands-reads.Learnt, read-body-reads.Asked, read-body-reads.Learnt, read-set-reads.Asked, read-set-reads.Learnt, read-formula-below t, read-formula.Post) (read-formula-at t) read-formula.Post
-read-formula-same-length-6 t c = search needs
-
 read-formula-returns-5 : (t : ℕ) → read-formula-lts.Need-returns-5 (stands-reads.Asked, stands-reads.Learnt, read-body-reads.Asked, read-body-reads.Learnt, read-set-reads.Asked, read-set-reads.Learnt, read-formula-below t, read-formula.Post) (read-formula-at t) read-formula.Post
-read-formula-returns-5 t c = λ σ w.
-    let f = as-some (c .before .before .before .before .before .before .before .before .before .before .before .before .read-set .ensures σ w) (c .before .before .before .before .before .before .before .before .p .given .1) in
-    let h = hit (c .before .before .before .before .before .before .before .before .before .before .before .before .before .before .before .before .before .stands .ensures) (not-false _ (c .before .before .before .before .before .before .before .before .before .before .before .before .before .before .before .before .if1 .left)) (c .before .before .before .before .before .before .before .before .before .before .before .before .before .before .before .before .before .before .before .before .before .before .pre .1 .0 .within) in
-    let l : c .before .before .before .before .before .before .before .before .before .before .before .before .before .before .before .before .before .before .before .before .before .before .args .k < length (now (c .before .before .before .before .before .before .before .before .before .before .before .before .before .before .before .before .before .before .before .before .before .before .args .vars)) = omega (arith, c .before .before .before .before .before .before .before .before .before .before .before .before .before .before .before .before .before .before .before .before .before .before .pre .1 .1, c .before .before .before .before .before .before .before .before .before .before .before .before .before .before .before .if3 .left) in
-    rw (formula-more (c .before .before .before .before .before .before .before .before .before .before .before .before .before .before .before .before .before .before .before .before .before .before .args .k) (c .before .before .before .before .before .before .before .before .before .before .before .before .before .before .before .before .before .before .before .before .before .before .pre .1 .1 .1) σ (now (c .before .before .before .before .before .before .before .before .before .before .before .before .before .before .before .before .before .before .before .before .before .before .args .s)) (c .before .before .before .before .before .before .before .before .before .before .before .before .before .before .before .before .before .before .before .before .before .before .args .at) h f)
-    (agree-from (f .stays) (omega (arith, f .count)) (c .before .before .before .before .read-formula .ensures (σ ++ (f .thing ∷ [])) (knows-more (now (c .before .before .before .before .before .before .before .before .before .before .before .before .before .before .before .before .before .before .before .before .before .before .args .vars)) (c .before .before .before .before .before .before .before .before .before .before .before .before .before .before .before .before .before .before .before .before .before .before .args .k) σ l w f)))
+read-formula-returns-5 t c =
+    let at-p = c .before .before .before .before .before .before .before .before in
+    let at-read-set = at-p .before .before .before .before in
+    let at-if3 = at-read-set .before .before .before in
+    let at-if1 = at-if3 .before in
+    let at-stands = at-if1 .before in
+    let at-start = at-stands .before .before .before .before .before in
+    λ σ w.
+    let f = as-some (at-read-set .read-set .ensures σ w) (at-p .p .given .1) in
+    let h = hit (at-stands .stands .ensures) (not-false _ (at-if1 .if1 .left)) (at-start .pre .1 .0 .within) in
+    let l : at-start .args .k < length (now (at-start .args .vars)) = omega (arith, at-start .pre .1 .1, at-if3 .if3 .left) in
+    rw (formula-more (at-start .args .k) (at-start .pre .1 .1 .1) σ (now (at-start .args .s)) (at-start .args .at) h f)
+    (agree-from (f .stays) (omega (arith, f .count)) (c .before .before .before .before .read-formula .ensures (σ ++ (f .thing ∷ [])) (knows-more (now (at-start .args .vars)) (at-start .args .k) σ l w f)))
 
 pub +read-formula-spec : {M : Type 1} → statement M
 +read-formula-spec = close μ-read-formula λ t. read-formula-lts.spec (stands-reads.Asked, stands-reads.Learnt, read-body-reads.Asked, read-body-reads.Learnt, read-set-reads.Asked, read-set-reads.Learnt, read-formula-below t, read-formula.Post)
     (read-formula-at t)
     read-formula.Post
-    (read-formula-slice-aggregate-stands t)
+    (λ c. search needs)
     (read-formula-stands-requires t)
-    (read-formula-slice-aggregate-stands-2 t)
+    (λ c. search needs)
     (read-formula-stands-requires-2 t)
     (read-formula-returns t)
     (read-formula-add-read-body t)
-    (read-formula-slice-reshare-prefix-read-body t)
+    (λ c. search needs)
     (read-formula-slice-aggregate-read-body t)
     (read-formula-read-body-requires t)
-    (read-formula-same-length t)
-    (read-formula-same-length-2 t)
+    (λ c. search needs)
+    (λ c. search needs)
     (read-formula-returns-2 t)
     (read-formula-returns-3 t)
     (read-formula-add-read-set t)
-    (read-formula-slice-reshare-prefix-read-set t)
+    (λ c. search needs)
     (read-formula-slice-aggregate-read-set t)
     (read-formula-read-set-requires t)
-    (read-formula-enum-known-p t)
-    (read-formula-enum-told t)
-    (read-formula-same-length-3 t)
-    (read-formula-same-length-4 t)
+    (λ c. search needs)
+    (λ c. search needs)
+    (λ c. search needs)
+    (λ c. search needs)
     (read-formula-returns-4 t)
     (read-formula-cast-vars t)
-    (read-formula-mul-vars t)
+    (λ c. search needs)
     (read-formula-slice-write-vars t)
     (read-formula-add-read-formula t)
     (read-formula-read-formula-requires t)
     (read-formula-same-length-5 t)
-    (read-formula-same-length-6 t)
+    (λ c. search needs)
     (read-formula-returns-5 t)

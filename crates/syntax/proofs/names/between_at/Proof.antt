@@ -36,40 +36,13 @@ from3 : (c : tie.Else3) → At (start3 c) (drop 3 betweens)
 unfolding betweens spellBetween
 from3 c = past (isSign isnt) (drop 3 betweens) (from2 (c .before .before .before)) (c .before .stands3 .ensures) (c .if3 .left)
 
-slice-aggregate-stands : tie.Need-slice-aggregate-stands
-slice-aggregate-stands c = search needs
-
-stands-requires : tie.Need-stands-requires
-stands-requires c κs = search needs
-
-add-t9 : tie.Need-add-t9
-add-t9 c = search needs
-
 returns : tie.Need-returns
 unfolding betweens spellBetween betweenOp alikeOp
 returns c = here (isIn) (drop 1 betweens) (from-all betweens (c .before .before .before .before .pre)) (c .before .stands .ensures) (c .if1 .taken) (omega arith)
 
-slice-aggregate-stands-2 : tie.Need-slice-aggregate-stands-2
-slice-aggregate-stands-2 c = search needs
-
-stands-requires-2 : tie.Need-stands-requires-2
-stands-requires-2 c κs = search needs
-
-add-t13 : tie.Need-add-t13
-add-t13 c = search needs
-
 returns-2 : tie.Need-returns-2
 unfolding betweens spellBetween betweenOp alikeOp
 returns-2 c = here (isSign is) (drop 2 betweens) (from1 (c .before .before .before)) (c .before .stands2 .ensures) (c .if2 .taken) (omega arith)
-
-slice-aggregate-stands-3 : tie.Need-slice-aggregate-stands-3
-slice-aggregate-stands-3 c = search needs
-
-stands-requires-3 : tie.Need-stands-requires-3
-stands-requires-3 c κs = search needs
-
-add-t17 : tie.Need-add-t17
-add-t17 c = search needs
 
 returns-3 : tie.Need-returns-3
 unfolding betweens spellBetween betweenOp alikeOp
@@ -83,16 +56,16 @@ pub between-at-spec : {M : Type 1} → statement M
 between-at-spec =
     tie.close
     (tie.spec
-    slice-aggregate-stands
-    stands-requires
-    add-t9
+    (λ c. search needs)
+    (λ c κs. search needs)
+    (λ c. search needs)
     returns
-    slice-aggregate-stands-2
-    stands-requires-2
-    add-t13
+    (λ c. search needs)
+    (λ c κs. search needs)
+    (λ c. search needs)
     returns-2
-    slice-aggregate-stands-3
-    stands-requires-3
-    add-t17
+    (λ c. search needs)
+    (λ c κs. search needs)
+    (λ c. search needs)
     returns-3
     returns-4)

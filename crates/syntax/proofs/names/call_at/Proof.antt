@@ -64,99 +64,33 @@ from7 : (c : tie.Else7) → At (start7 c) (drop 7 callHeads)
 unfolding callHeads spell
 from7 c = past (isCall object) (drop 7 callHeads) (from6 (c .before .before .before)) (c .before .stands7 .ensures) (c .if7 .left)
 
-slice-aggregate-stands : tie.Need-slice-aggregate-stands
-slice-aggregate-stands c = search needs
-
-stands-requires : tie.Need-stands-requires
-stands-requires c κs = search needs
-
-add-t13 : tie.Need-add-t13
-add-t13 c = search needs
-
 returns : tie.Need-returns
 unfolding callHeads spell headOp baseOp fnOp
 returns c = here (isCall user) (drop 1 callHeads) (from-all callHeads (c .before .before .before .before .pre)) (c .before .stands .ensures) (c .if1 .taken) (omega arith)
-
-slice-aggregate-stands-2 : tie.Need-slice-aggregate-stands-2
-slice-aggregate-stands-2 c = search needs
-
-stands-requires-2 : tie.Need-stands-requires-2
-stands-requires-2 c κs = search needs
-
-add-t17 : tie.Need-add-t17
-add-t17 c = search needs
 
 returns-2 : tie.Need-returns-2
 unfolding callHeads spell headOp baseOp fnOp
 returns-2 c = here (isCall roles*) (drop 2 callHeads) (from1 (c .before .before .before)) (c .before .stands2 .ensures) (c .if2 .taken) (omega arith)
 
-slice-aggregate-stands-3 : tie.Need-slice-aggregate-stands-3
-slice-aggregate-stands-3 c = search needs
-
-stands-requires-3 : tie.Need-stands-requires-3
-stands-requires-3 c κs = search needs
-
-add-t21 : tie.Need-add-t21
-add-t21 c = search needs
-
 returns-3 : tie.Need-returns-3
 unfolding callHeads spell headOp baseOp fnOp
 returns-3 c = here (isCall roles) (drop 3 callHeads) (from2 (c .before .before .before)) (c .before .stands3 .ensures) (c .if3 .taken) (omega arith)
-
-slice-aggregate-stands-4 : tie.Need-slice-aggregate-stands-4
-slice-aggregate-stands-4 c = search needs
-
-stands-requires-4 : tie.Need-stands-requires-4
-stands-requires-4 c κs = search needs
-
-add-t25 : tie.Need-add-t25
-add-t25 c = search needs
 
 returns-4 : tie.Need-returns-4
 unfolding callHeads spell headOp baseOp fnOp
 returns-4 c = here (isCall sessions) (drop 4 callHeads) (from3 (c .before .before .before)) (c .before .stands4 .ensures) (c .if4 .taken) (omega arith)
 
-slice-aggregate-stands-5 : tie.Need-slice-aggregate-stands-5
-slice-aggregate-stands-5 c = search needs
-
-stands-requires-5 : tie.Need-stands-requires-5
-stands-requires-5 c κs = search needs
-
-add-t29 : tie.Need-add-t29
-add-t29 c = search needs
-
 returns-5 : tie.Need-returns-5
 unfolding callHeads spell headOp baseOp fnOp
 returns-5 c = here (isCall permissions*) (drop 5 callHeads) (from4 (c .before .before .before)) (c .before .stands5 .ensures) (c .if5 .taken) (omega arith)
-
-slice-aggregate-stands-6 : tie.Need-slice-aggregate-stands-6
-slice-aggregate-stands-6 c = search needs
-
-stands-requires-6 : tie.Need-stands-requires-6
-stands-requires-6 c κs = search needs
-
-add-t33 : tie.Need-add-t33
-add-t33 c = search needs
 
 returns-6 : tie.Need-returns-6
 unfolding callHeads spell headOp baseOp fnOp
 returns-6 c = here (isCall permissions) (drop 6 callHeads) (from5 (c .before .before .before)) (c .before .stands6 .ensures) (c .if6 .taken) (omega arith)
 
-slice-aggregate-stands-7 : tie.Need-slice-aggregate-stands-7
-slice-aggregate-stands-7 c = search needs
-
-stands-requires-7 : tie.Need-stands-requires-7
-stands-requires-7 c κs = search needs
-
-add-t37 : tie.Need-add-t37
-add-t37 c = search needs
-
 returns-7 : tie.Need-returns-7
 unfolding callHeads spell headOp baseOp fnOp
 returns-7 c = here (isCall object) (drop 7 callHeads) (from6 (c .before .before .before)) (c .before .stands7 .ensures) (c .if7 .taken) (omega arith)
-
-bracket-at-requires : tie.Need-bracket-at-requires
-bracket-at-requires c κs = search needs
 
 returns-8 : tie.Need-returns-8
 unfolding callHeads
@@ -166,33 +100,33 @@ pub call-at-spec : {M : Type 1} → statement M
 call-at-spec =
     tie.close
     (tie.spec
-    slice-aggregate-stands
-    stands-requires
-    add-t13
+    (λ c. search needs)
+    (λ c κs. search needs)
+    (λ c. search needs)
     returns
-    slice-aggregate-stands-2
-    stands-requires-2
-    add-t17
+    (λ c. search needs)
+    (λ c κs. search needs)
+    (λ c. search needs)
     returns-2
-    slice-aggregate-stands-3
-    stands-requires-3
-    add-t21
+    (λ c. search needs)
+    (λ c κs. search needs)
+    (λ c. search needs)
     returns-3
-    slice-aggregate-stands-4
-    stands-requires-4
-    add-t25
+    (λ c. search needs)
+    (λ c κs. search needs)
+    (λ c. search needs)
     returns-4
-    slice-aggregate-stands-5
-    stands-requires-5
-    add-t29
+    (λ c. search needs)
+    (λ c κs. search needs)
+    (λ c. search needs)
     returns-5
-    slice-aggregate-stands-6
-    stands-requires-6
-    add-t33
+    (λ c. search needs)
+    (λ c κs. search needs)
+    (λ c. search needs)
     returns-6
-    slice-aggregate-stands-7
-    stands-requires-7
-    add-t37
+    (λ c. search needs)
+    (λ c κs. search needs)
+    (λ c. search needs)
     returns-7
-    bracket-at-requires
+    (λ c κs. search needs)
     returns-8)

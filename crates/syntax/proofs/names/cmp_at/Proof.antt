@@ -56,79 +56,25 @@ from6 : (c : tie.Else6) → At (start6 c) (drop 6 cmps)
 unfolding cmps spellCmp
 from6 c = past (ne) (drop 6 cmps) (from5 (c .before .before .before)) (c .before .stands6 .ensures) (c .if6 .left)
 
-slice-aggregate-stands : tie.Need-slice-aggregate-stands
-slice-aggregate-stands c = search needs
-
-stands-requires : tie.Need-stands-requires
-stands-requires c κs = search needs
-
-add-t12 : tie.Need-add-t12
-add-t12 c = search needs
-
 returns : tie.Need-returns
 unfolding cmps spellCmp cmpNumber
 returns c = here (le) (drop 1 cmps) (from-all cmps (c .before .before .before .before .pre)) (c .before .stands .ensures) (c .if1 .taken) (omega arith)
-
-slice-aggregate-stands-2 : tie.Need-slice-aggregate-stands-2
-slice-aggregate-stands-2 c = search needs
-
-stands-requires-2 : tie.Need-stands-requires-2
-stands-requires-2 c κs = search needs
-
-add-t16 : tie.Need-add-t16
-add-t16 c = search needs
 
 returns-2 : tie.Need-returns-2
 unfolding cmps spellCmp cmpNumber
 returns-2 c = here (lt) (drop 2 cmps) (from1 (c .before .before .before)) (c .before .stands2 .ensures) (c .if2 .taken) (omega arith)
 
-slice-aggregate-stands-3 : tie.Need-slice-aggregate-stands-3
-slice-aggregate-stands-3 c = search needs
-
-stands-requires-3 : tie.Need-stands-requires-3
-stands-requires-3 c κs = search needs
-
-add-t20 : tie.Need-add-t20
-add-t20 c = search needs
-
 returns-3 : tie.Need-returns-3
 unfolding cmps spellCmp cmpNumber
 returns-3 c = here (ge) (drop 3 cmps) (from2 (c .before .before .before)) (c .before .stands3 .ensures) (c .if3 .taken) (omega arith)
-
-slice-aggregate-stands-4 : tie.Need-slice-aggregate-stands-4
-slice-aggregate-stands-4 c = search needs
-
-stands-requires-4 : tie.Need-stands-requires-4
-stands-requires-4 c κs = search needs
-
-add-t24 : tie.Need-add-t24
-add-t24 c = search needs
 
 returns-4 : tie.Need-returns-4
 unfolding cmps spellCmp cmpNumber
 returns-4 c = here (gt) (drop 4 cmps) (from3 (c .before .before .before)) (c .before .stands4 .ensures) (c .if4 .taken) (omega arith)
 
-slice-aggregate-stands-5 : tie.Need-slice-aggregate-stands-5
-slice-aggregate-stands-5 c = search needs
-
-stands-requires-5 : tie.Need-stands-requires-5
-stands-requires-5 c κs = search needs
-
-add-t28 : tie.Need-add-t28
-add-t28 c = search needs
-
 returns-5 : tie.Need-returns-5
 unfolding cmps spellCmp cmpNumber
 returns-5 c = here (eq) (drop 5 cmps) (from4 (c .before .before .before)) (c .before .stands5 .ensures) (c .if5 .taken) (omega arith)
-
-slice-aggregate-stands-6 : tie.Need-slice-aggregate-stands-6
-slice-aggregate-stands-6 c = search needs
-
-stands-requires-6 : tie.Need-stands-requires-6
-stands-requires-6 c κs = search needs
-
-add-t32 : tie.Need-add-t32
-add-t32 c = search needs
 
 returns-6 : tie.Need-returns-6
 unfolding cmps spellCmp cmpNumber
@@ -142,28 +88,28 @@ pub cmp-at-spec : {M : Type 1} → statement M
 cmp-at-spec =
     tie.close
     (tie.spec
-    slice-aggregate-stands
-    stands-requires
-    add-t12
+    (λ c. search needs)
+    (λ c κs. search needs)
+    (λ c. search needs)
     returns
-    slice-aggregate-stands-2
-    stands-requires-2
-    add-t16
+    (λ c. search needs)
+    (λ c κs. search needs)
+    (λ c. search needs)
     returns-2
-    slice-aggregate-stands-3
-    stands-requires-3
-    add-t20
+    (λ c. search needs)
+    (λ c κs. search needs)
+    (λ c. search needs)
     returns-3
-    slice-aggregate-stands-4
-    stands-requires-4
-    add-t24
+    (λ c. search needs)
+    (λ c κs. search needs)
+    (λ c. search needs)
     returns-4
-    slice-aggregate-stands-5
-    stands-requires-5
-    add-t28
+    (λ c. search needs)
+    (λ c κs. search needs)
+    (λ c. search needs)
     returns-5
-    slice-aggregate-stands-6
-    stands-requires-6
-    add-t32
+    (λ c. search needs)
+    (λ c κs. search needs)
+    (λ c. search needs)
     returns-6
     returns-7)

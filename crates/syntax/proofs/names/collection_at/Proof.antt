@@ -50,73 +50,25 @@ from5 : (c : tie.Else5) → At (start5 c) (drop 5 collectionHeads)
 unfolding collectionHeads spell
 from5 c = past (isAO) (drop 5 collectionHeads) (from4 (c .before .before .before)) (c .before .stands5 .ensures) (c .if5 .left)
 
-slice-aggregate-stands : tie.Need-slice-aggregate-stands
-slice-aggregate-stands c = search needs
-
-stands-requires : tie.Need-stands-requires
-stands-requires c κs = search needs
-
-add-t11 : tie.Need-add-t11
-add-t11 c = search needs
-
 returns : tie.Need-returns
 unfolding collectionHeads spell headOp baseOp fnOp
 returns c = here (isBase bCR) (drop 1 collectionHeads) (from-all collectionHeads (c .before .before .before .before .pre)) (c .before .stands .ensures) (c .if1 .taken) (omega arith)
-
-slice-aggregate-stands-2 : tie.Need-slice-aggregate-stands-2
-slice-aggregate-stands-2 c = search needs
-
-stands-requires-2 : tie.Need-stands-requires-2
-stands-requires-2 c κs = search needs
-
-add-t15 : tie.Need-add-t15
-add-t15 c = search needs
 
 returns-2 : tie.Need-returns-2
 unfolding collectionHeads spell headOp baseOp fnOp
 returns-2 c = here (isBase bCP) (drop 2 collectionHeads) (from1 (c .before .before .before)) (c .before .stands2 .ensures) (c .if2 .taken) (omega arith)
 
-slice-aggregate-stands-3 : tie.Need-slice-aggregate-stands-3
-slice-aggregate-stands-3 c = search needs
-
-stands-requires-3 : tie.Need-stands-requires-3
-stands-requires-3 c κs = search needs
-
-add-t19 : tie.Need-add-t19
-add-t19 c = search needs
-
 returns-3 : tie.Need-returns-3
 unfolding collectionHeads spell headOp baseOp fnOp
 returns-3 c = here (isBase bCU) (drop 3 collectionHeads) (from2 (c .before .before .before)) (c .before .stands3 .ensures) (c .if3 .taken) (omega arith)
-
-slice-aggregate-stands-4 : tie.Need-slice-aggregate-stands-4
-slice-aggregate-stands-4 c = search needs
-
-stands-requires-4 : tie.Need-stands-requires-4
-stands-requires-4 c κs = search needs
-
-add-t23 : tie.Need-add-t23
-add-t23 c = search needs
 
 returns-4 : tie.Need-returns-4
 unfolding collectionHeads spell headOp baseOp fnOp
 returns-4 c = here (isOE) (drop 4 collectionHeads) (from3 (c .before .before .before)) (c .before .stands4 .ensures) (c .if4 .taken) (omega arith)
 
-slice-aggregate-stands-5 : tie.Need-slice-aggregate-stands-5
-slice-aggregate-stands-5 c = search needs
-
-stands-requires-5 : tie.Need-stands-requires-5
-stands-requires-5 c κs = search needs
-
-add-t27 : tie.Need-add-t27
-add-t27 c = search needs
-
 returns-5 : tie.Need-returns-5
 unfolding collectionHeads spell headOp baseOp fnOp
 returns-5 c = here (isAO) (drop 5 collectionHeads) (from4 (c .before .before .before)) (c .before .stands5 .ensures) (c .if5 .taken) (omega arith)
-
-call-at-requires : tie.Need-call-at-requires
-call-at-requires c κs = search needs
 
 returns-6 : tie.Need-returns-6
 unfolding collectionHeads
@@ -126,25 +78,25 @@ pub collection-at-spec : {M : Type 1} → statement M
 collection-at-spec =
     tie.close
     (tie.spec
-    slice-aggregate-stands
-    stands-requires
-    add-t11
+    (λ c. search needs)
+    (λ c κs. search needs)
+    (λ c. search needs)
     returns
-    slice-aggregate-stands-2
-    stands-requires-2
-    add-t15
+    (λ c. search needs)
+    (λ c κs. search needs)
+    (λ c. search needs)
     returns-2
-    slice-aggregate-stands-3
-    stands-requires-3
-    add-t19
+    (λ c. search needs)
+    (λ c κs. search needs)
+    (λ c. search needs)
     returns-3
-    slice-aggregate-stands-4
-    stands-requires-4
-    add-t23
+    (λ c. search needs)
+    (λ c κs. search needs)
+    (λ c. search needs)
     returns-4
-    slice-aggregate-stands-5
-    stands-requires-5
-    add-t27
+    (λ c. search needs)
+    (λ c κs. search needs)
+    (λ c. search needs)
     returns-5
-    call-at-requires
+    (λ c κs. search needs)
     returns-6)

@@ -57,86 +57,29 @@ from6 : (c : tie.Else6) → At (start6 c) (drop 6 heads)
 unfolding heads spell
 from6 c = past (isBase bS) (drop 6 heads) (from5 (c .before .before .before)) (c .before .stands6 .ensures) (c .if6 .left)
 
-slice-aggregate-stands : tie.Need-slice-aggregate-stands
-slice-aggregate-stands c = search needs
-
-stands-requires : tie.Need-stands-requires
-stands-requires c κs = search needs
-
-add-t12 : tie.Need-add-t12
-add-t12 c = search needs
-
 returns : tie.Need-returns
 unfolding heads spell headOp baseOp fnOp
 returns c = here (isBase bU) (drop 1 heads) (from-all heads (c .before .before .before .before .pre)) (c .before .stands .ensures) (c .if1 .taken) (omega arith)
-
-slice-aggregate-stands-2 : tie.Need-slice-aggregate-stands-2
-slice-aggregate-stands-2 c = search needs
-
-stands-requires-2 : tie.Need-stands-requires-2
-stands-requires-2 c κs = search needs
-
-add-t16 : tie.Need-add-t16
-add-t16 c = search needs
 
 returns-2 : tie.Need-returns-2
 unfolding heads spell headOp baseOp fnOp
 returns-2 c = here (isBase bR) (drop 2 heads) (from1 (c .before .before .before)) (c .before .stands2 .ensures) (c .if2 .taken) (omega arith)
 
-slice-aggregate-stands-3 : tie.Need-slice-aggregate-stands-3
-slice-aggregate-stands-3 c = search needs
-
-stands-requires-3 : tie.Need-stands-requires-3
-stands-requires-3 c κs = search needs
-
-add-t20 : tie.Need-add-t20
-add-t20 c = search needs
-
 returns-3 : tie.Need-returns-3
 unfolding heads spell headOp baseOp fnOp
 returns-3 c = here (isBase bOBJ) (drop 3 heads) (from2 (c .before .before .before)) (c .before .stands3 .ensures) (c .if3 .taken) (omega arith)
-
-slice-aggregate-stands-4 : tie.Need-slice-aggregate-stands-4
-slice-aggregate-stands-4 c = search needs
-
-stands-requires-4 : tie.Need-stands-requires-4
-stands-requires-4 c κs = search needs
-
-add-t24 : tie.Need-add-t24
-add-t24 c = search needs
 
 returns-4 : tie.Need-returns-4
 unfolding heads spell headOp baseOp fnOp
 returns-4 c = here (isBase bOP) (drop 4 heads) (from3 (c .before .before .before)) (c .before .stands4 .ensures) (c .if4 .taken) (omega arith)
 
-slice-aggregate-stands-5 : tie.Need-slice-aggregate-stands-5
-slice-aggregate-stands-5 c = search needs
-
-stands-requires-5 : tie.Need-stands-requires-5
-stands-requires-5 c κs = search needs
-
-add-t28 : tie.Need-add-t28
-add-t28 c = search needs
-
 returns-5 : tie.Need-returns-5
 unfolding heads spell headOp baseOp fnOp
 returns-5 c = here (isBase bP) (drop 5 heads) (from4 (c .before .before .before)) (c .before .stands5 .ensures) (c .if5 .taken) (omega arith)
 
-slice-aggregate-stands-6 : tie.Need-slice-aggregate-stands-6
-slice-aggregate-stands-6 c = search needs
-
-stands-requires-6 : tie.Need-stands-requires-6
-stands-requires-6 c κs = search needs
-
-add-t32 : tie.Need-add-t32
-add-t32 c = search needs
-
 returns-6 : tie.Need-returns-6
 unfolding heads spell headOp baseOp fnOp
 returns-6 c = here (isBase bS) (drop 6 heads) (from5 (c .before .before .before)) (c .before .stands6 .ensures) (c .if6 .taken) (omega arith)
-
-collection-at-requires : tie.Need-collection-at-requires
-collection-at-requires c κs = search needs
 
 returns-7 : tie.Need-returns-7
 unfolding heads
@@ -146,29 +89,29 @@ pub head-at-spec : {M : Type 1} → statement M
 head-at-spec =
     tie.close
     (tie.spec
-    slice-aggregate-stands
-    stands-requires
-    add-t12
+    (λ c. search needs)
+    (λ c κs. search needs)
+    (λ c. search needs)
     returns
-    slice-aggregate-stands-2
-    stands-requires-2
-    add-t16
+    (λ c. search needs)
+    (λ c κs. search needs)
+    (λ c. search needs)
     returns-2
-    slice-aggregate-stands-3
-    stands-requires-3
-    add-t20
+    (λ c. search needs)
+    (λ c κs. search needs)
+    (λ c. search needs)
     returns-3
-    slice-aggregate-stands-4
-    stands-requires-4
-    add-t24
+    (λ c. search needs)
+    (λ c κs. search needs)
+    (λ c. search needs)
     returns-4
-    slice-aggregate-stands-5
-    stands-requires-5
-    add-t28
+    (λ c. search needs)
+    (λ c κs. search needs)
+    (λ c. search needs)
     returns-5
-    slice-aggregate-stands-6
-    stands-requires-6
-    add-t32
+    (λ c. search needs)
+    (λ c κs. search needs)
+    (λ c. search needs)
     returns-6
-    collection-at-requires
+    (λ c κs. search needs)
     returns-7)

@@ -17,15 +17,6 @@ use borrow.Author.Needs.{needs}
 use Rattle.syntax.proofs.names.middle_at.Statement.{statement}
 use Rattle.syntax.proofs.names.middle_at.Tie as tie
 
-slice-aggregate-stands : tie.Need-slice-aggregate-stands
-slice-aggregate-stands c = search needs
-
-stands-requires : tie.Need-stands-requires
-stands-requires c κs = search needs
-
-add-t12 : tie.Need-add-t12
-add-t12 c = search needs
-
 returns : tie.Need-returns
 unfolding spellJoint parting
 returns c =
@@ -39,54 +30,37 @@ returns-2 : tie.Need-returns-2
 unfolding spellJoint parting
 returns-2 c = nowhere (past (pair (calls (fn2At _))) [] (from-these (joints-comma _ (c .before .before .before .if1 .taken)) (c .before .before .before .before .before .pre .0)) (c .before .stands .ensures) (c .if2 .left))
 
-slice-aggregate-stands-2 : tie.Need-slice-aggregate-stands-2
-slice-aggregate-stands-2 c = search needs
-
-stands-requires-2 : tie.Need-stands-requires-2
-stands-requires-2 c κs = search needs
-
-add-t16 : tie.Need-add-t16
-add-t16 c = search needs
-
 returns-3 : tie.Need-returns-3
 unfolding spellJoint parting spellMiddle jointOp twoOp
 returns-3 c = here (pair (joins meet)) (pair (joins join) ∷ away ∷ []) (from-these (joints-sign _ (c .before .before .before .if1 .left)) (c .before .before .before .before .before .pre .0)) (c .before .stands2 .ensures) (c .if3 .taken) (omega arith)
 
-slice-aggregate-stands-3 : tie.Need-slice-aggregate-stands-3
-slice-aggregate-stands-3 c = search needs
-
-stands-requires-3 : tie.Need-stands-requires-3
-stands-requires-3 c κs = search needs
-
-add-t20 : tie.Need-add-t20
-add-t20 c = search needs
-
 returns-4 : tie.Need-returns-4
 unfolding spellJoint parting spellMiddle jointOp twoOp
 returns-4 c =
-    let f = past (pair (joins meet)) (pair (joins join) ∷ away ∷ []) (from-these (joints-sign _ (c .before .before .before .before .before .before .if1 .left)) (c .before .before .before .before .before .before .before .before .pre .0)) (c .before .before .before .before .stands2 .ensures) (c .before .before .before .if3 .left) in
+    let at-if1 = c .before .before .before .before .before .before in
+    let at-start = at-if1 .before .before in
+    let f = past (pair (joins meet)) (pair (joins join) ∷ away ∷ []) (from-these (joints-sign _ (at-if1 .if1 .left)) (at-start .pre .0)) (c .before .before .before .before .stands2 .ensures) (c .before .before .before .if3 .left) in
     here (pair (joins join)) (away ∷ []) f (c .before .stands3 .ensures) (c .if4 .taken) (omega arith)
-
-slice-aggregate-stands-4 : tie.Need-slice-aggregate-stands-4
-slice-aggregate-stands-4 c = search needs
-
-stands-requires-4 : tie.Need-stands-requires-4
-stands-requires-4 c κs = search needs
-
-add-t24 : tie.Need-add-t24
-add-t24 c = search needs
 
 returns-5 : tie.Need-returns-5
 unfolding spellJoint parting spellMiddle jointOp
 returns-5 c =
-    let f = past (pair (joins meet)) (pair (joins join) ∷ away ∷ []) (from-these (joints-sign _ (c .before .before .before .before .before .before .before .before .before .if1 .left)) (c .before .before .before .before .before .before .before .before .before .before .before .pre .0)) (c .before .before .before .before .before .before .before .stands2 .ensures) (c .before .before .before .before .before .before .if3 .left) in
+    let at-if3 = c .before .before .before .before .before .before in
+    let at-stands2 = at-if3 .before in
+    let at-if1 = at-stands2 .before .before in
+    let at-start = at-if1 .before .before in
+    let f = past (pair (joins meet)) (pair (joins join) ∷ away ∷ []) (from-these (joints-sign _ (at-if1 .if1 .left)) (at-start .pre .0)) (at-stands2 .stands2 .ensures) (at-if3 .if3 .left) in
     let f′ = past (pair (joins join)) (away ∷ []) f (c .before .before .before .before .stands3 .ensures) (c .before .before .before .if4 .left) in
     here away [] f′ (c .before .stands4 .ensures) (c .if5 .taken) (omega arith)
 
 returns-6 : tie.Need-returns-6
 unfolding spellJoint parting spellMiddle
 returns-6 c =
-    let f = past (pair (joins meet)) (pair (joins join) ∷ away ∷ []) (from-these (joints-sign _ (c .before .before .before .before .before .before .before .before .before .if1 .left)) (c .before .before .before .before .before .before .before .before .before .before .before .pre .0)) (c .before .before .before .before .before .before .before .stands2 .ensures) (c .before .before .before .before .before .before .if3 .left) in
+    let at-if3 = c .before .before .before .before .before .before in
+    let at-stands2 = at-if3 .before in
+    let at-if1 = at-stands2 .before .before in
+    let at-start = at-if1 .before .before in
+    let f = past (pair (joins meet)) (pair (joins join) ∷ away ∷ []) (from-these (joints-sign _ (at-if1 .if1 .left)) (at-start .pre .0)) (at-stands2 .stands2 .ensures) (at-if3 .if3 .left) in
     let f′ = past (pair (joins join)) (away ∷ []) f (c .before .before .before .before .stands3 .ensures) (c .before .before .before .if4 .left) in
     nowhere (past away [] f′ (c .before .stands4 .ensures) (c .if5 .left))
 
@@ -94,21 +68,21 @@ pub middle-at-spec : {M : Type 1} → statement M
 middle-at-spec =
     tie.close
     (tie.spec
-    slice-aggregate-stands
-    stands-requires
-    add-t12
+    (λ c. search needs)
+    (λ c κs. search needs)
+    (λ c. search needs)
     returns
     returns-2
-    slice-aggregate-stands-2
-    stands-requires-2
-    add-t16
+    (λ c. search needs)
+    (λ c κs. search needs)
+    (λ c. search needs)
     returns-3
-    slice-aggregate-stands-3
-    stands-requires-3
-    add-t20
+    (λ c. search needs)
+    (λ c κs. search needs)
+    (λ c. search needs)
     returns-4
-    slice-aggregate-stands-4
-    stands-requires-4
-    add-t24
+    (λ c. search needs)
+    (λ c κs. search needs)
+    (λ c. search needs)
     returns-5
     returns-6)

@@ -66,224 +66,239 @@ read-two-below t =
 read-call-read-term-requires : (t : ℕ) → read-call-lts.Need-read-term-requires (read-term-below t, read-term.Post, stands-reads.Asked, stands-reads.Learnt, intern-reads.Asked, intern-reads.Learnt) (read-call-at t) read-call.Post
 read-call-read-term-requires t c κs = (omega (arith, c .before .before .before .before .pre), c .before .before .before .before .pre .1 .0)
 
-read-call-enum-known-p : (t : ℕ) → read-call-lts.Need-enum-known-p (read-term-below t, read-term.Post, stands-reads.Asked, stands-reads.Learnt, intern-reads.Asked, intern-reads.Learnt) (read-call-at t) read-call.Post
-read-call-enum-known-p t c = search needs
-
-read-call-enum-told : (t : ℕ) → read-call-lts.Need-enum-told (read-term-below t, read-term.Post, stands-reads.Asked, stands-reads.Learnt, intern-reads.Asked, intern-reads.Learnt) (read-call-at t) read-call.Post
-read-call-enum-told t c = search needs
-
-read-call-same-length : (t : ℕ) → read-call-lts.Need-same-length (read-term-below t, read-term.Post, stands-reads.Asked, stands-reads.Learnt, intern-reads.Asked, intern-reads.Learnt) (read-call-at t) read-call.Post
-read-call-same-length t c = search needs
-
 read-call-returns : (t : ℕ) → read-call-lts.Need-returns (read-term-below t, read-term.Post, stands-reads.Asked, stands-reads.Learnt, intern-reads.Asked, intern-reads.Learnt) (read-call-at t) read-call.Post
 read-call-returns t c = λ σ make w k. noThing (closed-none _ make _ (as-none (c .before .before .before .before .read-term .ensures σ w) (c .enum-told .given .1)))
 
-read-call-slice-aggregate-stands : (t : ℕ) → read-call-lts.Need-slice-aggregate-stands (read-term-below t, read-term.Post, stands-reads.Asked, stands-reads.Learnt, intern-reads.Asked, intern-reads.Learnt) (read-call-at t) read-call.Post
-read-call-slice-aggregate-stands t c = search needs
-
 read-call-stands-requires : (t : ℕ) → read-call-lts.Need-stands-requires (read-term-below t, read-term.Post, stands-reads.Asked, stands-reads.Learnt, intern-reads.Asked, intern-reads.Learnt) (read-call-at t) read-call.Post
-read-call-stands-requires t c κs = as-some (c .before .before .before .before .before .before .read-term .ensures (c .before .before .before .before .before .before .before .before .before .before .before .pre .1 .0 .choices) (c .before .before .before .before .before .before .before .before .before .before .before .pre .1 .0 .knows)) (c .before .before .p .given .1) .end
-
-read-call-same-length-2 : (t : ℕ) → read-call-lts.Need-same-length-2 (read-term-below t, read-term.Post, stands-reads.Asked, stands-reads.Learnt, intern-reads.Asked, intern-reads.Learnt) (read-call-at t) read-call.Post
-read-call-same-length-2 t c = search needs
+read-call-stands-requires t c κs =
+    let at-read-term = c .before .before .before .before .before .before in
+    let at-start = at-read-term .before .before .before .before .before in
+    as-some (at-read-term .read-term .ensures (at-start .pre .1 .0 .choices) (at-start .pre .1 .0 .knows)) (c .before .before .p .given .1) .end
 
 read-call-returns-2 : (t : ℕ) → read-call-lts.Need-returns-2 (read-term-below t, read-term.Post, stands-reads.Asked, stands-reads.Learnt, intern-reads.Asked, intern-reads.Learnt) (read-call-at t) read-call.Post
-read-call-returns-2 t c = λ σ make w k.
-    let f = as-some (c .before .before .before .before .before .before .before .before .read-term .ensures σ w) (c .before .before .before .before .p .given .1) in
+read-call-returns-2 t c =
+    let at-read-term = c .before .before .before .before .before .before .before .before in
+    λ σ make w k.
+    let f = as-some (at-read-term .read-term .ensures σ w) (c .before .before .before .before .p .given .1) in
     noThing (closed-lost _ make _ (f .reads) (miss (c .before .stands .ensures) (not-true _ (c .if1 .taken))))
 
 read-call-add-intern : (t : ℕ) → read-call-lts.Need-add-intern (read-term-below t, read-term.Post, stands-reads.Asked, stands-reads.Learnt, intern-reads.Asked, intern-reads.Learnt) (read-call-at t) read-call.Post
 read-call-add-intern t c =
-    let f = as-some (c .before .before .before .before .before .before .before .before .before .read-term .ensures (c .before .before .before .before .before .before .before .before .before .before .before .before .before .before .pre .1 .0 .choices) (c .before .before .before .before .before .before .before .before .before .before .before .before .before .before .pre .1 .0 .knows)) (c .before .before .before .before .before .p .given .1) in
+    let at-read-term = c .before .before .before .before .before .before .before .before .before in
+    let at-start = at-read-term .before .before .before .before .before in
+    let f = as-some (at-read-term .read-term .ensures (at-start .pre .1 .0 .choices) (at-start .pre .1 .0 .knows)) (c .before .before .before .before .before .p .given .1) in
     omega (arith, hit (c .before .before .stands .ensures) (not-false _ (c .before .if1 .left)) (f .end) .fits)
 
 read-call-intern-requires : (t : ℕ) → read-call-lts.Need-intern-requires (read-term-below t, read-term.Post, stands-reads.Asked, stands-reads.Learnt, intern-reads.Asked, intern-reads.Learnt) (read-call-at t) read-call.Post
 read-call-intern-requires t c κs =
-    let f = as-some (c .before .before .before .before .before .before .before .before .before .read-term .ensures (c .before .before .before .before .before .before .before .before .before .before .before .before .before .before .pre .1 .0 .choices) (c .before .before .before .before .before .before .before .before .before .before .before .before .before .before .pre .1 .0 .knows)) (c .before .before .before .before .before .p .given .1) in
+    let at-read-term = c .before .before .before .before .before .before .before .before .before in
+    let at-start = at-read-term .before .before .before .before .before in
+    let f = as-some (at-read-term .read-term .ensures (at-start .pre .1 .0 .choices) (at-start .pre .1 .0 .knows)) (c .before .before .before .before .before .p .given .1) in
     let h = hit (c .before .before .stands .ensures) (not-false _ (c .before .if1 .left)) (f .end) in
-    fresh-on (c .before .before .before .before .before .before .before .before .before .before .before .before .before .before .pre .1 .0) f (h .fits) (omega (arith, c .before .before .before .before .before .before .before .before .before .before .before .before .before .before .pre .1 .1 .1)) (omega (arith, f .within))
-
-read-call-same-length-3 : (t : ℕ) → read-call-lts.Need-same-length-3 (read-term-below t, read-term.Post, stands-reads.Asked, stands-reads.Learnt, intern-reads.Asked, intern-reads.Learnt) (read-call-at t) read-call.Post
-read-call-same-length-3 t c = search needs
+    fresh-on (at-start .pre .1 .0) f (h .fits) (omega (arith, at-start .pre .1 .1 .1)) (omega (arith, f .within))
 
 read-call-returns-3 : (t : ℕ) → read-call-lts.Need-returns-3 (read-term-below t, read-term.Post, stands-reads.Asked, stands-reads.Learnt, intern-reads.Asked, intern-reads.Learnt) (read-call-at t) read-call.Post
-read-call-returns-3 t c = λ σ make w k.
-    let f = as-some (c .before .before .before .before .before .before .before .before .before .before .before .before .read-term .ensures σ w) (c .before .before .before .before .before .before .before .before .p .given .1) in
+read-call-returns-3 t c =
+    let at-p = c .before .before .before .before .before .before .before .before in
+    let at-read-term = at-p .before .before .before .before in
+    let at-start = at-read-term .before .before .before .before .before in
+    λ σ make w k.
+    let f = as-some (at-read-term .read-term .ensures σ w) (at-p .p .given .1) in
     let h = hit (c .before .before .before .before .before .stands .ensures) (not-false _ (c .before .before .before .before .if1 .left)) (f .end) in
-    call-found (readTerm σ) make k (c .before .before .before .before .before .before .before .before .before .before .before .before .before .before .before .before .before .pre .1 .1 .0) (omega (arith, c .before .before .before .before .before .before .before .before .before .before .before .before .before .before .before .before .before .pre .1 .1 .1)) f h (c .before .before .intern .ensures)
+    call-found (readTerm σ) make k (at-start .pre .1 .1 .0) (omega (arith, at-start .pre .1 .1 .1)) f h (c .before .before .intern .ensures)
 
 read-term-head-at-requires : (t : ℕ) → read-term-lts.Need-head-at-requires (head-at-reads.Asked, head-at-reads.Learnt, intern-reads.Asked, intern-reads.Learnt, read-call-below t, read-call.Post, read-two-below t, read-two.Post, read-choice-reads.Asked, read-choice-reads.Learnt) (read-term-at t) read-term.Post
 read-term-head-at-requires t c κs = c .before .before .before .pre .1 .within
 
-read-term-enum-known-h : (t : ℕ) → read-term-lts.Need-enum-known-h (head-at-reads.Asked, head-at-reads.Learnt, intern-reads.Asked, intern-reads.Learnt, read-call-below t, read-call.Post, read-two-below t, read-two.Post, read-choice-reads.Asked, read-choice-reads.Learnt) (read-term-at t) read-term.Post
-read-term-enum-known-h t c = search needs
-
-read-term-enum-told : (t : ℕ) → read-term-lts.Need-enum-told (head-at-reads.Asked, head-at-reads.Learnt, intern-reads.Asked, intern-reads.Learnt, read-call-below t, read-call.Post, read-two-below t, read-two.Post, read-choice-reads.Asked, read-choice-reads.Learnt) (read-term-at t) read-term.Post
-read-term-enum-told t c = search needs
-
 read-term-returns : (t : ℕ) → read-term-lts.Need-returns (head-at-reads.Asked, head-at-reads.Learnt, intern-reads.Asked, intern-reads.Learnt, read-call-below t, read-call.Post, read-two-below t, read-two.Post, read-choice-reads.Asked, read-choice-reads.Learnt) (read-term-at t) read-term.Post
-read-term-returns t c = λ σ w. noThing (read-unknown σ (now (c .before .before .before .before .before .before .args .s)) (c .before .before .before .before .before .before .args .at) (as-unknown (c .before .before .head-at .ensures) (c .enum-told .given .1)))
+read-term-returns t c =
+    let at-start = c .before .before .before .before .before .before in
+    λ σ w. noThing (read-unknown σ (now (at-start .args .s)) (at-start .args .at) (as-unknown (c .before .before .head-at .ensures) (c .enum-told .given .1)))
 
 read-term-intern-requires : (t : ℕ) → read-term-lts.Need-intern-requires (head-at-reads.Asked, head-at-reads.Learnt, intern-reads.Asked, intern-reads.Learnt, read-call-below t, read-call.Post, read-two-below t, read-two.Post, read-choice-reads.Asked, read-choice-reads.Learnt) (read-term-at t) read-term.Post
 read-term-intern-requires t c κs =
+    let at-start = c .before .before .before .before .before .before .before .before .before in
     let x = as-name (c .before .before .before .before .before .head-at .ensures) (c .before .before .before .h .given .1) in
-    fresh-leaf (omega (arith, c .before .before .before .before .before .before .before .before .before .pre .1 .room, c .before .before .before .before .before .before .before .before .before .pre .1 .count, x .more, x .fits)) (c .before .before .before .before .before .before .before .before .before .pre .1 .tidy) (c .before .if1 .taken)
-
-read-term-same-length : (t : ℕ) → read-term-lts.Need-same-length (head-at-reads.Asked, head-at-reads.Learnt, intern-reads.Asked, intern-reads.Learnt, read-call-below t, read-call.Post, read-two-below t, read-two.Post, read-choice-reads.Asked, read-choice-reads.Learnt) (read-term-at t) read-term.Post
-read-term-same-length t c = search needs
+    fresh-leaf (omega (arith, at-start .pre .1 .room, at-start .pre .1 .count, x .more, x .fits)) (at-start .pre .1 .tidy) (c .before .if1 .taken)
 
 read-term-returns-2 : (t : ℕ) → read-term-lts.Need-returns-2 (head-at-reads.Asked, head-at-reads.Learnt, intern-reads.Asked, intern-reads.Learnt, read-call-below t, read-call.Post, read-two-below t, read-two.Post, read-choice-reads.Asked, read-choice-reads.Learnt) (read-term-at t) read-term.Post
-read-term-returns-2 t c = λ σ w. leaf-found σ (as-name (c .before .before .before .before .before .before .before .before .head-at .ensures) (c .before .before .before .before .before .before .h .given .1)) (c .before .before .before .before .if1 .taken) (c .before .before .intern .ensures)
+read-term-returns-2 t c =
+    let at-h = c .before .before .before .before .before .before in
+    let at-head-at = at-h .before .before in
+    λ σ w. leaf-found σ (as-name (at-head-at .head-at .ensures) (at-h .h .given .1)) (c .before .before .before .before .if1 .taken) (c .before .before .intern .ensures)
 
 read-term-read-call-requires : (t : ℕ) → read-term-lts.Need-read-call-requires (head-at-reads.Asked, head-at-reads.Learnt, intern-reads.Asked, intern-reads.Learnt, read-call-below t, read-call.Post, read-two-below t, read-two.Post, read-choice-reads.Asked, read-choice-reads.Learnt) (read-term-at t) read-term.Post
 read-term-read-call-requires t c κs =
-    let x = as-name (c .before .before .before .before .before .before .head-at .ensures) (c .before .before .before .before .h .given .1) in
-    (omega (arith, c .before .before .before .before .before .before .before .before .before .before .pre, x .more, x .fits), (ready-at (c .before .before .before .before .before .before .before .before .before .before .pre .1) (omega (arith, x .more)) (x .fits), (c .before .before .if1 .left, c .before .if2 .taken)))
-
-read-term-same-length-2 : (t : ℕ) → read-term-lts.Need-same-length-2 (head-at-reads.Asked, head-at-reads.Learnt, intern-reads.Asked, intern-reads.Learnt, read-call-below t, read-call.Post, read-two-below t, read-two.Post, read-choice-reads.Asked, read-choice-reads.Learnt) (read-term-at t) read-term.Post
-read-term-same-length-2 t c = search needs
+    let at-head-at = c .before .before .before .before .before .before in
+    let at-start = at-head-at .before .before .before .before in
+    let x = as-name (at-head-at .head-at .ensures) (c .before .before .before .before .h .given .1) in
+    (omega (arith, at-start .pre, x .more, x .fits), (ready-at (at-start .pre .1) (omega (arith, x .more)) (x .fits), (c .before .before .if1 .left, c .before .if2 .taken)))
 
 read-term-returns-3 : (t : ℕ) → read-term-lts.Need-returns-3 (head-at-reads.Asked, head-at-reads.Learnt, intern-reads.Asked, intern-reads.Learnt, read-call-below t, read-call.Post, read-two-below t, read-two.Post, read-choice-reads.Asked, read-choice-reads.Learnt) (read-term-at t) read-term.Post
-read-term-returns-3 t c = λ σ w.
-    let x = as-name (c .before .before .before .before .before .before .before .before .before .head-at .ensures) (c .before .before .before .before .before .before .before .h .given .1) in
+read-term-returns-3 t c =
+    let at-h = c .before .before .before .before .before .before .before in
+    let at-head-at = at-h .before .before in
+    λ σ w.
+    let x = as-name (at-head-at .head-at .ensures) (at-h .h .given .1) in
     let y = read-one σ _ _ x (c .before .before .before .before .before .if1 .left) (c .before .before .before .before .if2 .taken) in
     rw (y .is) (agree-from (stays-refl _) (omega (arith, x .more)) (c .before .before .read-call .ensures σ (y .make) w (y .makes)))
 
 read-term-read-two-requires : (t : ℕ) → read-term-lts.Need-read-two-requires (head-at-reads.Asked, head-at-reads.Learnt, intern-reads.Asked, intern-reads.Learnt, read-call-below t, read-call.Post, read-two-below t, read-two.Post, read-choice-reads.Asked, read-choice-reads.Learnt) (read-term-at t) read-term.Post
 read-term-read-two-requires t c κs =
-    let x = as-name (c .before .before .before .before .before .before .before .head-at .ensures) (c .before .before .before .before .before .h .given .1) in
-    (omega (arith, c .before .before .before .before .before .before .before .before .before .before .before .pre, x .more, x .fits), (ready-at (c .before .before .before .before .before .before .before .before .before .before .before .pre .1) (omega (arith, x .more)) (x .fits), c .before .before .if2 .left))
-
-read-term-same-length-3 : (t : ℕ) → read-term-lts.Need-same-length-3 (head-at-reads.Asked, head-at-reads.Learnt, intern-reads.Asked, intern-reads.Learnt, read-call-below t, read-call.Post, read-two-below t, read-two.Post, read-choice-reads.Asked, read-choice-reads.Learnt) (read-term-at t) read-term.Post
-read-term-same-length-3 t c = search needs
+    let at-head-at = c .before .before .before .before .before .before .before in
+    let at-start = at-head-at .before .before .before .before in
+    let x = as-name (at-head-at .head-at .ensures) (c .before .before .before .before .before .h .given .1) in
+    (omega (arith, at-start .pre, x .more, x .fits), (ready-at (at-start .pre .1) (omega (arith, x .more)) (x .fits), c .before .before .if2 .left))
 
 read-term-returns-4 : (t : ℕ) → read-term-lts.Need-returns-4 (head-at-reads.Asked, head-at-reads.Learnt, intern-reads.Asked, intern-reads.Learnt, read-call-below t, read-call.Post, read-two-below t, read-two.Post, read-choice-reads.Asked, read-choice-reads.Learnt) (read-term-at t) read-term.Post
-read-term-returns-4 t c = λ σ w.
-    let x = as-name (c .before .before .before .before .before .before .before .before .before .before .head-at .ensures) (c .before .before .before .before .before .before .before .before .h .given .1) in
+read-term-returns-4 t c =
+    let at-h = c .before .before .before .before .before .before .before .before in
+    let at-head-at = at-h .before .before in
+    λ σ w.
+    let x = as-name (at-head-at .head-at .ensures) (at-h .h .given .1) in
     rw (read-pair σ _ _ x (c .before .before .before .before .before .if2 .left) (c .before .before .before .before .if3 .taken)) (agree-from (stays-refl _) (omega (arith, x .more)) (c .before .before .read-two .ensures σ w))
 
 read-term-read-choice-requires : (t : ℕ) → read-term-lts.Need-read-choice-requires (head-at-reads.Asked, head-at-reads.Learnt, intern-reads.Asked, intern-reads.Learnt, read-call-below t, read-call.Post, read-two-below t, read-two.Post, read-choice-reads.Asked, read-choice-reads.Learnt) (read-term-at t) read-term.Post
 read-term-read-choice-requires t c κs =
-    let x = as-name (c .before .before .before .before .before .before .before .head-at .ensures) (c .before .before .before .before .before .h .given .1) in
-    ready-at (c .before .before .before .before .before .before .before .before .before .before .before .pre .1) (omega (arith, x .more)) (x .fits)
-
-read-term-same-length-4 : (t : ℕ) → read-term-lts.Need-same-length-4 (head-at-reads.Asked, head-at-reads.Learnt, intern-reads.Asked, intern-reads.Learnt, read-call-below t, read-call.Post, read-two-below t, read-two.Post, read-choice-reads.Asked, read-choice-reads.Learnt) (read-term-at t) read-term.Post
-read-term-same-length-4 t c = search needs
+    let at-head-at = c .before .before .before .before .before .before .before in
+    let at-start = at-head-at .before .before .before .before in
+    let x = as-name (at-head-at .head-at .ensures) (c .before .before .before .before .before .h .given .1) in
+    ready-at (at-start .pre .1) (omega (arith, x .more)) (x .fits)
 
 read-term-returns-5 : (t : ℕ) → read-term-lts.Need-returns-5 (head-at-reads.Asked, head-at-reads.Learnt, intern-reads.Asked, intern-reads.Learnt, read-call-below t, read-call.Post, read-two-below t, read-two.Post, read-choice-reads.Asked, read-choice-reads.Learnt) (read-term-at t) read-term.Post
-read-term-returns-5 t c = λ σ w.
-    let x = as-name (c .before .before .before .before .before .before .before .before .before .before .head-at .ensures) (c .before .before .before .before .before .before .before .before .h .given .1) in
+read-term-returns-5 t c =
+    let at-h = c .before .before .before .before .before .before .before .before in
+    let at-head-at = at-h .before .before in
+    λ σ w.
+    let x = as-name (at-head-at .head-at .ensures) (at-h .h .given .1) in
     rw (read-known σ _ _ x (c .before .before .before .before .if3 .left)) (agree-from (stays-refl _) (omega (arith, x .more)) (c .before .before .read-choice .ensures σ w))
 
 read-two-read-term-requires : (t : ℕ) → read-two-lts.Need-read-term-requires (read-term-below t, read-term.Post, middle-at-reads.Asked, middle-at-reads.Learnt, read-less-reads.Asked, read-less-reads.Learnt, stands-reads.Asked, stands-reads.Learnt, intern-reads.Asked, intern-reads.Learnt) (read-two-at t) read-two.Post
 read-two-read-term-requires t c κs = (omega (arith, c .before .before .before .before .pre), c .before .before .before .before .pre .1 .0)
 
-read-two-enum-known-p : (t : ℕ) → read-two-lts.Need-enum-known-p (read-term-below t, read-term.Post, middle-at-reads.Asked, middle-at-reads.Learnt, read-less-reads.Asked, read-less-reads.Learnt, stands-reads.Asked, stands-reads.Learnt, intern-reads.Asked, intern-reads.Learnt) (read-two-at t) read-two.Post
-read-two-enum-known-p t c = search needs
-
-read-two-enum-told : (t : ℕ) → read-two-lts.Need-enum-told (read-term-below t, read-term.Post, middle-at-reads.Asked, middle-at-reads.Learnt, read-less-reads.Asked, read-less-reads.Learnt, stands-reads.Asked, stands-reads.Learnt, intern-reads.Asked, intern-reads.Learnt) (read-two-at t) read-two.Post
-read-two-enum-told t c = search needs
-
-read-two-same-length : (t : ℕ) → read-two-lts.Need-same-length (read-term-below t, read-term.Post, middle-at-reads.Asked, middle-at-reads.Learnt, read-less-reads.Asked, read-less-reads.Learnt, stands-reads.Asked, stands-reads.Learnt, intern-reads.Asked, intern-reads.Learnt) (read-two-at t) read-two.Post
-read-two-same-length t c = search needs
-
 read-two-returns : (t : ℕ) → read-two-lts.Need-returns (read-term-below t, read-term.Post, middle-at-reads.Asked, middle-at-reads.Learnt, read-less-reads.Asked, read-less-reads.Learnt, stands-reads.Asked, stands-reads.Learnt, intern-reads.Asked, intern-reads.Learnt) (read-two-at t) read-two.Post
 read-two-returns t c = λ σ w. noThing (paired-none _ σ _ _ (as-none (c .before .before .before .before .read-term .ensures σ w) (c .enum-told .given .1)))
 
 read-two-middle-at-requires : (t : ℕ) → read-two-lts.Need-middle-at-requires (read-term-below t, read-term.Post, middle-at-reads.Asked, middle-at-reads.Learnt, read-less-reads.Asked, read-less-reads.Learnt, stands-reads.Asked, stands-reads.Learnt, intern-reads.Asked, intern-reads.Learnt) (read-two-at t) read-two.Post
-read-two-middle-at-requires t c κs = (as-some (c .before .before .before .before .before .read-term .ensures (c .before .before .before .before .before .before .before .before .before .before .pre .1 .0 .choices) (c .before .before .before .before .before .before .before .before .before .before .pre .1 .0 .knows)) (c .before .p .given .1) .end, c .before .before .before .before .before .before .before .before .before .before .pre .1 .1)
-
-read-two-enum-known-h : (t : ℕ) → read-two-lts.Need-enum-known-h (read-term-below t, read-term.Post, middle-at-reads.Asked, middle-at-reads.Learnt, read-less-reads.Asked, read-less-reads.Learnt, stands-reads.Asked, stands-reads.Learnt, intern-reads.Asked, intern-reads.Learnt) (read-two-at t) read-two.Post
-read-two-enum-known-h t c = search needs
-
-read-two-enum-told-2 : (t : ℕ) → read-two-lts.Need-enum-told-2 (read-term-below t, read-term.Post, middle-at-reads.Asked, middle-at-reads.Learnt, read-less-reads.Asked, read-less-reads.Learnt, stands-reads.Asked, stands-reads.Learnt, intern-reads.Asked, intern-reads.Learnt) (read-two-at t) read-two.Post
-read-two-enum-told-2 t c = search needs
-
-read-two-same-length-2 : (t : ℕ) → read-two-lts.Need-same-length-2 (read-term-below t, read-term.Post, middle-at-reads.Asked, middle-at-reads.Learnt, read-less-reads.Asked, read-less-reads.Learnt, stands-reads.Asked, stands-reads.Learnt, intern-reads.Asked, intern-reads.Learnt) (read-two-at t) read-two.Post
-read-two-same-length-2 t c = search needs
+read-two-middle-at-requires t c κs =
+    let at-start = c .before .before .before .before .before .before .before .before .before .before in
+    (as-some (c .before .before .before .before .before .read-term .ensures (at-start .pre .1 .0 .choices) (at-start .pre .1 .0 .knows)) (c .before .p .given .1) .end, at-start .pre .1 .1)
 
 read-two-returns-2 : (t : ℕ) → read-two-lts.Need-returns-2 (read-term-below t, read-term.Post, middle-at-reads.Asked, middle-at-reads.Learnt, read-less-reads.Asked, read-less-reads.Learnt, stands-reads.Asked, stands-reads.Learnt, intern-reads.Asked, intern-reads.Learnt) (read-two-at t) read-two.Post
-read-two-returns-2 t c = λ σ w.
-    let f = as-some (c .before .before .before .before .before .before .before .before .read-term .ensures σ w) (c .before .before .before .before .p .given .1) in
-    noThing (two-lost (readTerm σ) σ (c .before .before .before .before .before .before .before .before .before .before .before .before .before .args .op) f (as-unknown (c .before .before .middle-at .ensures) (c .enum-told2 .given .1)))
+read-two-returns-2 t c =
+    let at-read-term = c .before .before .before .before .before .before .before .before in
+    let at-start = at-read-term .before .before .before .before .before in
+    λ σ w.
+    let f = as-some (at-read-term .read-term .ensures σ w) (c .before .before .before .before .p .given .1) in
+    noThing (two-lost (readTerm σ) σ (at-start .args .op) f (as-unknown (c .before .before .middle-at .ensures) (c .enum-told2 .given .1)))
 
 read-two-read-less-requires : (t : ℕ) → read-two-lts.Need-read-less-requires (read-term-below t, read-term.Post, middle-at-reads.Asked, middle-at-reads.Learnt, read-less-reads.Asked, read-less-reads.Learnt, stands-reads.Asked, stands-reads.Learnt, intern-reads.Asked, intern-reads.Learnt) (read-two-at t) read-two.Post
 read-two-read-less-requires t c κs =
-    let f = as-some (c .before .before .before .before .before .before .before .before .before .before .before .read-term .ensures (c .before .before .before .before .before .before .before .before .before .before .before .before .before .before .before .before .pre .1 .0 .choices) (c .before .before .before .before .before .before .before .before .before .before .before .before .before .before .before .before .pre .1 .0 .knows)) (c .before .before .before .before .before .before .before .p .given .1) in
+    let at-p = c .before .before .before .before .before .before .before in
+    let at-read-term = at-p .before .before .before .before in
+    let at-start = at-read-term .before .before .before .before .before in
+    let f = as-some (at-read-term .read-term .ensures (at-start .pre .1 .0 .choices) (at-start .pre .1 .0 .knows)) (at-p .p .given .1) in
     let x = as-name (c .before .before .before .before .before .middle-at .ensures) (c .before .before .before .h .given .1) in
-    (ready-on (c .before .before .before .before .before .before .before .before .before .before .before .before .before .before .before .before .pre .1 .0) f (omega (arith, x .more)) (x .fits), f .within)
-
-read-two-same-length-3 : (t : ℕ) → read-two-lts.Need-same-length-3 (read-term-below t, read-term.Post, middle-at-reads.Asked, middle-at-reads.Learnt, read-less-reads.Asked, read-less-reads.Learnt, stands-reads.Asked, stands-reads.Learnt, intern-reads.Asked, intern-reads.Learnt) (read-two-at t) read-two.Post
-read-two-same-length-3 t c = search needs
+    (ready-on (at-start .pre .1 .0) f (omega (arith, x .more)) (x .fits), f .within)
 
 read-two-returns-3 : (t : ℕ) → read-two-lts.Need-returns-3 (read-term-below t, read-term.Post, middle-at-reads.Asked, middle-at-reads.Learnt, read-less-reads.Asked, read-less-reads.Learnt, stands-reads.Asked, stands-reads.Learnt, intern-reads.Asked, intern-reads.Learnt) (read-two-at t) read-two.Post
-read-two-returns-3 t c = λ σ w.
-    let f = as-some (c .before .before .before .before .before .before .before .before .before .before .before .before .before .before .read-term .ensures σ w) (c .before .before .before .before .before .before .before .before .before .before .p .given .1) in
-    let x = as-name (c .before .before .before .before .before .before .before .before .middle-at .ensures) (c .before .before .before .before .before .before .h .given .1) in
-    away-found (readTerm σ) σ (c .before .before .before .before .before .before .before .before .before .before .before .before .before .before .before .before .before .before .before .args .op) f x (c .before .before .before .before .if1 .taken) (c .before .before .read-less .ensures σ (f .thing) (knows-later (f .stays) w) (f .holds))
+read-two-returns-3 t c =
+    let at-h = c .before .before .before .before .before .before in
+    let at-middle-at = at-h .before .before in
+    let at-p = at-middle-at .before .before in
+    let at-read-term = at-p .before .before .before .before in
+    let at-start = at-read-term .before .before .before .before .before in
+    λ σ w.
+    let f = as-some (at-read-term .read-term .ensures σ w) (at-p .p .given .1) in
+    let x = as-name (at-middle-at .middle-at .ensures) (at-h .h .given .1) in
+    away-found (readTerm σ) σ (at-start .args .op) f x (c .before .before .before .before .if1 .taken) (c .before .before .read-less .ensures σ (f .thing) (knows-later (f .stays) w) (f .holds))
 
 read-two-read-term-requires-2 : (t : ℕ) → read-two-lts.Need-read-term-requires-2 (read-term-below t, read-term.Post, middle-at-reads.Asked, middle-at-reads.Learnt, read-less-reads.Asked, read-less-reads.Learnt, stands-reads.Asked, stands-reads.Learnt, intern-reads.Asked, intern-reads.Learnt) (read-two-at t) read-two.Post
 read-two-read-term-requires-2 t c κs =
-    let f = as-some (c .before .before .before .before .before .before .before .before .before .before .before .read-term .ensures (c .before .before .before .before .before .before .before .before .before .before .before .before .before .before .before .before .pre .1 .0 .choices) (c .before .before .before .before .before .before .before .before .before .before .before .before .before .before .before .before .pre .1 .0 .knows)) (c .before .before .before .before .before .before .before .p .given .1) in
+    let at-p = c .before .before .before .before .before .before .before in
+    let at-read-term = at-p .before .before .before .before in
+    let at-start = at-read-term .before .before .before .before .before in
+    let f = as-some (at-read-term .read-term .ensures (at-start .pre .1 .0 .choices) (at-start .pre .1 .0 .knows)) (at-p .p .given .1) in
     let x = as-name (c .before .before .before .before .before .middle-at .ensures) (c .before .before .before .h .given .1) in
-    (omega (arith, c .before .before .before .before .before .before .before .before .before .before .before .before .before .before .before .before .pre, f .count, f .stays .more, x .more, x .fits), ready-on (c .before .before .before .before .before .before .before .before .before .before .before .before .before .before .before .before .pre .1 .0) f (omega (arith, x .more)) (x .fits))
-
-read-two-enum-known-q : (t : ℕ) → read-two-lts.Need-enum-known-q (read-term-below t, read-term.Post, middle-at-reads.Asked, middle-at-reads.Learnt, read-less-reads.Asked, read-less-reads.Learnt, stands-reads.Asked, stands-reads.Learnt, intern-reads.Asked, intern-reads.Learnt) (read-two-at t) read-two.Post
-read-two-enum-known-q t c = search needs
-
-read-two-enum-told-3 : (t : ℕ) → read-two-lts.Need-enum-told-3 (read-term-below t, read-term.Post, middle-at-reads.Asked, middle-at-reads.Learnt, read-less-reads.Asked, read-less-reads.Learnt, stands-reads.Asked, stands-reads.Learnt, intern-reads.Asked, intern-reads.Learnt) (read-two-at t) read-two.Post
-read-two-enum-told-3 t c = search needs
-
-read-two-same-length-4 : (t : ℕ) → read-two-lts.Need-same-length-4 (read-term-below t, read-term.Post, middle-at-reads.Asked, middle-at-reads.Learnt, read-less-reads.Asked, read-less-reads.Learnt, stands-reads.Asked, stands-reads.Learnt, intern-reads.Asked, intern-reads.Learnt) (read-two-at t) read-two.Post
-read-two-same-length-4 t c = search needs
+    (omega (arith, at-start .pre, f .count, f .stays .more, x .more, x .fits), ready-on (at-start .pre .1 .0) f (omega (arith, x .more)) (x .fits))
 
 read-two-returns-4 : (t : ℕ) → read-two-lts.Need-returns-4 (read-term-below t, read-term.Post, middle-at-reads.Asked, middle-at-reads.Learnt, read-less-reads.Asked, read-less-reads.Learnt, stands-reads.Asked, stands-reads.Learnt, intern-reads.Asked, intern-reads.Learnt) (read-two-at t) read-two.Post
-read-two-returns-4 t c = λ σ w.
-    let f = as-some (c .before .before .before .before .before .before .before .before .before .before .before .before .before .before .before .before .read-term .ensures σ w) (c .before .before .before .before .before .before .before .before .before .before .before .before .p .given .1) in
-    let x = as-name (c .before .before .before .before .before .before .before .before .before .before .middle-at .ensures) (c .before .before .before .before .before .before .before .before .h .given .1) in
-    noThing (two-none (readTerm σ) σ (c .before .before .before .before .before .before .before .before .before .before .before .before .before .before .before .before .before .before .before .before .before .args .op) f x (c .before .before .before .before .before .before .if1 .left) (as-none (c .before .before .before .before .read-term2 .ensures σ (knows-later (f .stays) w)) (c .enum-told3 .given .1)))
-
-read-two-slice-aggregate-stands : (t : ℕ) → read-two-lts.Need-slice-aggregate-stands (read-term-below t, read-term.Post, middle-at-reads.Asked, middle-at-reads.Learnt, read-less-reads.Asked, read-less-reads.Learnt, stands-reads.Asked, stands-reads.Learnt, intern-reads.Asked, intern-reads.Learnt) (read-two-at t) read-two.Post
-read-two-slice-aggregate-stands t c = search needs
+read-two-returns-4 t c =
+    let at-if1 = c .before .before .before .before .before .before in
+    let at-h = at-if1 .before .before in
+    let at-middle-at = at-h .before .before in
+    let at-p = at-middle-at .before .before in
+    let at-read-term = at-p .before .before .before .before in
+    let at-start = at-read-term .before .before .before .before .before in
+    λ σ w.
+    let f = as-some (at-read-term .read-term .ensures σ w) (at-p .p .given .1) in
+    let x = as-name (at-middle-at .middle-at .ensures) (at-h .h .given .1) in
+    noThing (two-none (readTerm σ) σ (at-start .args .op) f x (at-if1 .if1 .left) (as-none (c .before .before .before .before .read-term2 .ensures σ (knows-later (f .stays) w)) (c .enum-told3 .given .1)))
 
 read-two-stands-requires : (t : ℕ) → read-two-lts.Need-stands-requires (read-term-below t, read-term.Post, middle-at-reads.Asked, middle-at-reads.Learnt, read-less-reads.Asked, read-less-reads.Learnt, stands-reads.Asked, stands-reads.Learnt, intern-reads.Asked, intern-reads.Learnt) (read-two-at t) read-two.Post
 read-two-stands-requires t c κs =
-    let f = as-some (c .before .before .before .before .before .before .before .before .before .before .before .before .before .before .before .before .before .before .read-term .ensures (c .before .before .before .before .before .before .before .before .before .before .before .before .before .before .before .before .before .before .before .before .before .before .before .pre .1 .0 .choices) (c .before .before .before .before .before .before .before .before .before .before .before .before .before .before .before .before .before .before .before .before .before .before .before .pre .1 .0 .knows)) (c .before .before .before .before .before .before .before .before .before .before .before .before .before .before .p .given .1) in
-    as-some (c .before .before .before .before .before .before .read-term2 .ensures (c .before .before .before .before .before .before .before .before .before .before .before .before .before .before .before .before .before .before .before .before .before .before .before .pre .1 .0 .choices) (knows-later (f .stays) (c .before .before .before .before .before .before .before .before .before .before .before .before .before .before .before .before .before .before .before .before .before .before .before .pre .1 .0 .knows))) (c .before .before .q .given .1) .end
-
-read-two-same-length-5 : (t : ℕ) → read-two-lts.Need-same-length-5 (read-term-below t, read-term.Post, middle-at-reads.Asked, middle-at-reads.Learnt, read-less-reads.Asked, read-less-reads.Learnt, stands-reads.Asked, stands-reads.Learnt, intern-reads.Asked, intern-reads.Learnt) (read-two-at t) read-two.Post
-read-two-same-length-5 t c = search needs
+    let at-read-term2 = c .before .before .before .before .before .before in
+    let at-p = at-read-term2 .before .before .before .before .before .before .before .before in
+    let at-read-term = at-p .before .before .before .before in
+    let at-start = at-read-term .before .before .before .before .before in
+    let f = as-some (at-read-term .read-term .ensures (at-start .pre .1 .0 .choices) (at-start .pre .1 .0 .knows)) (at-p .p .given .1) in
+    as-some (at-read-term2 .read-term2 .ensures (at-start .pre .1 .0 .choices) (knows-later (f .stays) (at-start .pre .1 .0 .knows))) (c .before .before .q .given .1) .end
 
 read-two-returns-5 : (t : ℕ) → read-two-lts.Need-returns-5 (read-term-below t, read-term.Post, middle-at-reads.Asked, middle-at-reads.Learnt, read-less-reads.Asked, read-less-reads.Learnt, stands-reads.Asked, stands-reads.Learnt, intern-reads.Asked, intern-reads.Learnt) (read-two-at t) read-two.Post
-read-two-returns-5 t c = λ σ w.
-    let f = as-some (c .before .before .before .before .before .before .before .before .before .before .before .before .before .before .before .before .before .before .before .before .read-term .ensures σ w) (c .before .before .before .before .before .before .before .before .before .before .before .before .before .before .before .before .p .given .1) in
-    let x = as-name (c .before .before .before .before .before .before .before .before .before .before .before .before .before .before .middle-at .ensures) (c .before .before .before .before .before .before .before .before .before .before .before .before .h .given .1) in
-    let f′ = as-some (c .before .before .before .before .before .before .before .before .read-term2 .ensures σ (knows-later (f .stays) w)) (c .before .before .before .before .q .given .1) in
-    noThing (two-open (readTerm σ) σ (c .before .before .before .before .before .before .before .before .before .before .before .before .before .before .before .before .before .before .before .before .before .before .before .before .before .args .op) f x (c .before .before .before .before .before .before .before .before .before .before .if1 .left) f′ (miss (c .before .stands .ensures) (not-true _ (c .if2 .taken))))
+read-two-returns-5 t c =
+    let at-read-term2 = c .before .before .before .before .before .before .before .before in
+    let at-if1 = at-read-term2 .before .before in
+    let at-h = at-if1 .before .before in
+    let at-middle-at = at-h .before .before in
+    let at-p = at-middle-at .before .before in
+    let at-read-term = at-p .before .before .before .before in
+    let at-start = at-read-term .before .before .before .before .before in
+    λ σ w.
+    let f = as-some (at-read-term .read-term .ensures σ w) (at-p .p .given .1) in
+    let x = as-name (at-middle-at .middle-at .ensures) (at-h .h .given .1) in
+    let f′ = as-some (at-read-term2 .read-term2 .ensures σ (knows-later (f .stays) w)) (c .before .before .before .before .q .given .1) in
+    noThing (two-open (readTerm σ) σ (at-start .args .op) f x (at-if1 .if1 .left) f′ (miss (c .before .stands .ensures) (not-true _ (c .if2 .taken))))
 
 read-two-add-intern : (t : ℕ) → read-two-lts.Need-add-intern (read-term-below t, read-term.Post, middle-at-reads.Asked, middle-at-reads.Learnt, read-less-reads.Asked, read-less-reads.Learnt, stands-reads.Asked, stands-reads.Learnt, intern-reads.Asked, intern-reads.Learnt) (read-two-at t) read-two.Post
 read-two-add-intern t c =
-    let f = as-some (c .before .before .before .before .before .before .before .before .before .before .before .before .before .before .before .before .before .before .before .before .before .read-term .ensures (c .before .before .before .before .before .before .before .before .before .before .before .before .before .before .before .before .before .before .before .before .before .before .before .before .before .before .pre .1 .0 .choices) (c .before .before .before .before .before .before .before .before .before .before .before .before .before .before .before .before .before .before .before .before .before .before .before .before .before .before .pre .1 .0 .knows)) (c .before .before .before .before .before .before .before .before .before .before .before .before .before .before .before .before .before .p .given .1) in
-    let f′ = as-some (c .before .before .before .before .before .before .before .before .before .read-term2 .ensures (c .before .before .before .before .before .before .before .before .before .before .before .before .before .before .before .before .before .before .before .before .before .before .before .before .before .before .pre .1 .0 .choices) (knows-later (f .stays) (c .before .before .before .before .before .before .before .before .before .before .before .before .before .before .before .before .before .before .before .before .before .before .before .before .before .before .pre .1 .0 .knows))) (c .before .before .before .before .before .q .given .1) in
-    omega (arith, c .before .before .before .before .before .before .before .before .before .before .before .before .before .before .before .before .before .before .before .before .before .before .before .before .before .before .pre .1 .0 .room, c .before .before .before .before .before .before .before .before .before .before .before .before .before .before .before .before .before .before .before .before .before .before .before .before .before .before .pre .1 .0 .tidy .size, hit (c .before .before .stands .ensures) (not-false _ (c .before .if2 .left)) (f′ .end) .fits)
+    let at-read-term2 = c .before .before .before .before .before .before .before .before .before in
+    let at-p = at-read-term2 .before .before .before .before .before .before .before .before in
+    let at-read-term = at-p .before .before .before .before in
+    let at-start = at-read-term .before .before .before .before .before in
+    let f = as-some (at-read-term .read-term .ensures (at-start .pre .1 .0 .choices) (at-start .pre .1 .0 .knows)) (at-p .p .given .1) in
+    let f′ = as-some (at-read-term2 .read-term2 .ensures (at-start .pre .1 .0 .choices) (knows-later (f .stays) (at-start .pre .1 .0 .knows))) (c .before .before .before .before .before .q .given .1) in
+    omega (arith, at-start .pre .1 .0 .room, at-start .pre .1 .0 .tidy .size, hit (c .before .before .stands .ensures) (not-false _ (c .before .if2 .left)) (f′ .end) .fits)
 
 read-two-intern-requires : (t : ℕ) → read-two-lts.Need-intern-requires (read-term-below t, read-term.Post, middle-at-reads.Asked, middle-at-reads.Learnt, read-less-reads.Asked, read-less-reads.Learnt, stands-reads.Asked, stands-reads.Learnt, intern-reads.Asked, intern-reads.Learnt) (read-two-at t) read-two.Post
 read-two-intern-requires t c κs =
-    let f = as-some (c .before .before .before .before .before .before .before .before .before .before .before .before .before .before .before .before .before .before .before .before .before .read-term .ensures (c .before .before .before .before .before .before .before .before .before .before .before .before .before .before .before .before .before .before .before .before .before .before .before .before .before .before .pre .1 .0 .choices) (c .before .before .before .before .before .before .before .before .before .before .before .before .before .before .before .before .before .before .before .before .before .before .before .before .before .before .pre .1 .0 .knows)) (c .before .before .before .before .before .before .before .before .before .before .before .before .before .before .before .before .before .p .given .1) in
-    let x = as-name (c .before .before .before .before .before .before .before .before .before .before .before .before .before .before .before .middle-at .ensures) (c .before .before .before .before .before .before .before .before .before .before .before .before .before .h .given .1) in
-    let f′ = as-some (c .before .before .before .before .before .before .before .before .before .read-term2 .ensures (c .before .before .before .before .before .before .before .before .before .before .before .before .before .before .before .before .before .before .before .before .before .before .before .before .before .before .pre .1 .0 .choices) (knows-later (f .stays) (c .before .before .before .before .before .before .before .before .before .before .before .before .before .before .before .before .before .before .before .before .before .before .before .before .before .before .pre .1 .0 .knows))) (c .before .before .before .before .before .q .given .1) in
-    fresh-pair (c .before .before .before .before .before .before .before .before .before .before .before .before .before .before .before .before .before .before .before .before .before .before .before .before .before .before .pre .1 .0) f f′ (x .more) (two-small (readTerm (c .before .before .before .before .before .before .before .before .before .before .before .before .before .before .before .before .before .before .before .before .before .before .before .before .before .before .pre .1 .0 .choices)) (c .before .before .before .before .before .before .before .before .before .before .before .before .before .before .before .before .before .before .before .before .before .before .before .before .before .before .pre .1 .0 .choices) (c .before .before .before .before .before .before .before .before .before .before .before .before .before .before .before .before .before .before .before .before .before .before .before .before .before .before .args .op) f x (c .before .before .before .before .before .before .before .before .before .before .before .if1 .left) f′)
-
-read-two-same-length-6 : (t : ℕ) → read-two-lts.Need-same-length-6 (read-term-below t, read-term.Post, middle-at-reads.Asked, middle-at-reads.Learnt, read-less-reads.Asked, read-less-reads.Learnt, stands-reads.Asked, stands-reads.Learnt, intern-reads.Asked, intern-reads.Learnt) (read-two-at t) read-two.Post
-read-two-same-length-6 t c = search needs
+    let at-read-term2 = c .before .before .before .before .before .before .before .before .before in
+    let at-if1 = at-read-term2 .before .before in
+    let at-h = at-if1 .before .before in
+    let at-middle-at = at-h .before .before in
+    let at-p = at-middle-at .before .before in
+    let at-read-term = at-p .before .before .before .before in
+    let at-start = at-read-term .before .before .before .before .before in
+    let f = as-some (at-read-term .read-term .ensures (at-start .pre .1 .0 .choices) (at-start .pre .1 .0 .knows)) (at-p .p .given .1) in
+    let x = as-name (at-middle-at .middle-at .ensures) (at-h .h .given .1) in
+    let f′ = as-some (at-read-term2 .read-term2 .ensures (at-start .pre .1 .0 .choices) (knows-later (f .stays) (at-start .pre .1 .0 .knows))) (c .before .before .before .before .before .q .given .1) in
+    fresh-pair (at-start .pre .1 .0) f f′ (x .more) (two-small (readTerm (at-start .pre .1 .0 .choices)) (at-start .pre .1 .0 .choices) (at-start .args .op) f x (at-if1 .if1 .left) f′)
 
 read-two-returns-6 : (t : ℕ) → read-two-lts.Need-returns-6 (read-term-below t, read-term.Post, middle-at-reads.Asked, middle-at-reads.Learnt, read-less-reads.Asked, read-less-reads.Learnt, stands-reads.Asked, stands-reads.Learnt, intern-reads.Asked, intern-reads.Learnt) (read-two-at t) read-two.Post
-read-two-returns-6 t c = λ σ w.
-    let f = as-some (c .before .before .before .before .before .before .before .before .before .before .before .before .before .before .before .before .before .before .before .before .before .before .before .before .read-term .ensures σ w) (c .before .before .before .before .before .before .before .before .before .before .before .before .before .before .before .before .before .before .before .before .p .given .1) in
-    let x = as-name (c .before .before .before .before .before .before .before .before .before .before .before .before .before .before .before .before .before .before .middle-at .ensures) (c .before .before .before .before .before .before .before .before .before .before .before .before .before .before .before .before .h .given .1) in
-    let f′ = as-some (c .before .before .before .before .before .before .before .before .before .before .before .before .read-term2 .ensures σ (knows-later (f .stays) w)) (c .before .before .before .before .before .before .before .before .q .given .1) in
+read-two-returns-6 t c =
+    let at-q = c .before .before .before .before .before .before .before .before in
+    let at-read-term2 = at-q .before .before .before .before in
+    let at-if1 = at-read-term2 .before .before in
+    let at-h = at-if1 .before .before in
+    let at-middle-at = at-h .before .before in
+    let at-p = at-middle-at .before .before in
+    let at-read-term = at-p .before .before .before .before in
+    let at-start = at-read-term .before .before .before .before .before in
+    λ σ w.
+    let f = as-some (at-read-term .read-term .ensures σ w) (at-p .p .given .1) in
+    let x = as-name (at-middle-at .middle-at .ensures) (at-h .h .given .1) in
+    let f′ = as-some (at-read-term2 .read-term2 .ensures σ (knows-later (f .stays) w)) (at-q .q .given .1) in
     let h = hit (c .before .before .before .before .before .stands .ensures) (not-false _ (c .before .before .before .before .if2 .left)) (f′ .end) in
-    two-found (readTerm σ) σ (c .before .before .before .before .before .before .before .before .before .before .before .before .before .before .before .before .before .before .before .before .before .before .before .before .before .before .before .before .before .args .op) f x (c .before .before .before .before .before .before .before .before .before .before .before .before .before .before .if1 .left) f′ h (c .before .before .intern .ensures)
+    two-found (readTerm σ) σ (at-start .args .op) f x (at-if1 .if1 .left) f′ h (c .before .before .intern .ensures)
 
 pub +read-call+read-term+read-two-spec : {M : Type 1} → statement M
 +read-call+read-term+read-two-spec =
@@ -291,63 +306,63 @@ pub +read-call+read-term+read-two-spec : {M : Type 1} → statement M
     (read-call-at t)
     read-call.Post
     (read-call-read-term-requires t)
-    (read-call-enum-known-p t)
-    (read-call-enum-told t)
-    (read-call-same-length t)
+    (λ c. search needs)
+    (λ c. search needs)
+    (λ c. search needs)
     (read-call-returns t)
-    (read-call-slice-aggregate-stands t)
+    (λ c. search needs)
     (read-call-stands-requires t)
-    (read-call-same-length-2 t)
+    (λ c. search needs)
     (read-call-returns-2 t)
     (read-call-add-intern t)
     (read-call-intern-requires t)
-    (read-call-same-length-3 t)
+    (λ c. search needs)
     (read-call-returns-3 t))
     (λ t. read-term-lts.spec (head-at-reads.Asked, head-at-reads.Learnt, intern-reads.Asked, intern-reads.Learnt, read-call-below t, read-call.Post, read-two-below t, read-two.Post, read-choice-reads.Asked, read-choice-reads.Learnt)
     (read-term-at t)
     read-term.Post
     (read-term-head-at-requires t)
-    (read-term-enum-known-h t)
-    (read-term-enum-told t)
+    (λ c. search needs)
+    (λ c. search needs)
     (read-term-returns t)
     (read-term-intern-requires t)
-    (read-term-same-length t)
+    (λ c. search needs)
     (read-term-returns-2 t)
     (read-term-read-call-requires t)
-    (read-term-same-length-2 t)
+    (λ c. search needs)
     (read-term-returns-3 t)
     (read-term-read-two-requires t)
-    (read-term-same-length-3 t)
+    (λ c. search needs)
     (read-term-returns-4 t)
     (read-term-read-choice-requires t)
-    (read-term-same-length-4 t)
+    (λ c. search needs)
     (read-term-returns-5 t))
     λ t. read-two-lts.spec (read-term-below t, read-term.Post, middle-at-reads.Asked, middle-at-reads.Learnt, read-less-reads.Asked, read-less-reads.Learnt, stands-reads.Asked, stands-reads.Learnt, intern-reads.Asked, intern-reads.Learnt)
     (read-two-at t)
     read-two.Post
     (read-two-read-term-requires t)
-    (read-two-enum-known-p t)
-    (read-two-enum-told t)
-    (read-two-same-length t)
+    (λ c. search needs)
+    (λ c. search needs)
+    (λ c. search needs)
     (read-two-returns t)
     (read-two-middle-at-requires t)
-    (read-two-enum-known-h t)
-    (read-two-enum-told-2 t)
-    (read-two-same-length-2 t)
+    (λ c. search needs)
+    (λ c. search needs)
+    (λ c. search needs)
     (read-two-returns-2 t)
     (read-two-read-less-requires t)
-    (read-two-same-length-3 t)
+    (λ c. search needs)
     (read-two-returns-3 t)
     (read-two-read-term-requires-2 t)
-    (read-two-enum-known-q t)
-    (read-two-enum-told-3 t)
-    (read-two-same-length-4 t)
+    (λ c. search needs)
+    (λ c. search needs)
+    (λ c. search needs)
     (read-two-returns-4 t)
-    (read-two-slice-aggregate-stands t)
+    (λ c. search needs)
     (read-two-stands-requires t)
-    (read-two-same-length-5 t)
+    (λ c. search needs)
     (read-two-returns-5 t)
     (read-two-add-intern t)
     (read-two-intern-requires t)
-    (read-two-same-length-6 t)
+    (λ c. search needs)
     (read-two-returns-6 t)

@@ -9,9 +9,6 @@ use Rattle.syntax.proofs.terms.choice_at.Tie as tie
 returns : tie.Need-returns
 returns c = choice-end (c .if1 .taken)
 
-shared-slice-read-c : tie.Need-shared-slice-read-c
-shared-slice-read-c c = search needs
-
 returns-2 : tie.Need-returns-2
 returns-2 c = choice-low (omega arith) (c .if2 .taken)
 
@@ -21,15 +18,6 @@ cast-k c = omega (arith, c .before .shared-slice-known .given (c .before .before
 returns-3 : tie.Need-returns-3
 returns-3 c = choice-high (omega arith) (c .before .if2 .left) (c .if3 .taken)
 
-mul-t6 : tie.Need-mul-t6
-mul-t6 c = search needs
-
-shared-slice-read-t11 : tie.Need-shared-slice-read-t11
-shared-slice-read-t11 c = search needs
-
-add-t12 : tie.Need-add-t12
-add-t12 c = search needs
-
 returns-4 : tie.Need-returns-4
 returns-4 c = choice-is (omega arith) (c .before .before .if2 .left) (c .before .if3 .left)
 
@@ -38,11 +26,11 @@ choice-at-spec =
     tie.close
     (tie.spec
     returns
-    shared-slice-read-c
+    (λ c. search needs)
     returns-2
     cast-k
     returns-3
-    mul-t6
-    shared-slice-read-t11
-    add-t12
+    (λ c. search needs)
+    (λ c. search needs)
+    (λ c. search needs)
     returns-4)

@@ -7,39 +7,29 @@ use borrow.Author.Needs.{needs}
 use Rattle.syntax.proofs.terms.read_choice.Statement.{statement}
 use Rattle.syntax.proofs.terms.read_choice.Tie as tie
 
-choice-at-requires : tie.Need-choice-at-requires
-choice-at-requires c κs = search needs
-
-enum-known-c : tie.Need-enum-known-c
-enum-known-c c = search needs
-
-enum-told : tie.Need-enum-told
-enum-told c = search needs
-
 returns : tie.Need-returns
 returns c = λ σ w. noThing (choice-none σ _ (as-no-choice (c .before .before .choice-at .ensures) (c .enum-told .given .1) σ (knows-length w)))
 
-cast-intern : tie.Need-cast-intern
-cast-intern c = search needs
-
 intern-requires : tie.Need-intern-requires
-intern-requires c κs = choice-fresh (c .before .before .before .before .before .before .before .before .pre) (as-choice (c .before .before .before .before .choice-at .ensures) (c .before .before .c .given .1))
-
-same-length : tie.Need-same-length
-same-length c = search needs
+intern-requires c κs =
+    let at-start = c .before .before .before .before .before .before .before .before in
+    choice-fresh (at-start .pre) (as-choice (c .before .before .before .before .choice-at .ensures) (c .before .before .c .given .1))
 
 returns-2 : tie.Need-returns-2
-returns-2 c = λ σ w. choice-found (c .before .before .before .before .before .before .before .before .before .before .before .pre) (as-choice (c .before .before .before .before .before .before .before .choice-at .ensures) (c .before .before .before .before .before .c .given .1)) σ w (c .before .before .intern .ensures)
+returns-2 c =
+    let at-choice-at = c .before .before .before .before .before .before .before in
+    let at-start = at-choice-at .before .before .before .before in
+    λ σ w. choice-found (at-start .pre) (as-choice (at-choice-at .choice-at .ensures) (c .before .before .before .before .before .c .given .1)) σ w (c .before .before .intern .ensures)
 
 pub read-choice-spec : {M : Type 1} → statement M
 read-choice-spec =
     tie.close
     (tie.spec
-    choice-at-requires
-    enum-known-c
-    enum-told
+    (λ c κs. search needs)
+    (λ c. search needs)
+    (λ c. search needs)
     returns
-    cast-intern
+    (λ c. search needs)
     intern-requires
-    same-length
+    (λ c. search needs)
     returns-2)

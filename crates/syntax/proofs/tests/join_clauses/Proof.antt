@@ -18,9 +18,6 @@ abbrev μ-loop : tie.MeasureT-loop
 sub-k : tie.Need-sub-k Inv-loop μ-loop
 sub-k c = omega (arith, c .before .before .pre .some)
 
-mul-node : tie.Need-mul-node Inv-loop μ-loop
-mul-node c = search needs
-
 shared-slice-read-node : tie.Need-shared-slice-read-node Inv-loop μ-loop
 shared-slice-read-node c = omega (arith, c .before .before .before .pre .some, c .before .before .before .pre .many)
 
@@ -30,26 +27,18 @@ cast-node c = omega (arith, c .shared-slice-known2 .given (c .before .before .be
 loop-holds : tie.Need-loop-holds Inv-loop μ-loop
 loop-holds c = join-start (c .before .before .before .pre)
 
-sub-k-2 : tie.Need-sub-k-2 Inv-loop μ-loop
-sub-k-2 c = search needs
-
-mul-intern : tie.Need-mul-intern Inv-loop μ-loop
-mul-intern c = search needs
-
 shared-slice-read-intern : tie.Need-shared-slice-read-intern Inv-loop μ-loop
-shared-slice-read-intern c = omega (arith, c .before .before .before .loop .inv .left, c .before .before .before .before .before .before .before .pre .many)
+shared-slice-read-intern c =
+    let at-start = c .before .before .before .before .before .before .before in
+    omega (arith, c .before .before .before .loop .inv .left, at-start .pre .many)
 
 cast-intern : tie.Need-cast-intern Inv-loop μ-loop
 cast-intern c = omega (arith, c .shared-slice-known3 .given (c .before .before .before .loop .k - 1))
 
 intern-requires : tie.Need-intern-requires Inv-loop μ-loop
-intern-requires c κs = join-fresh (c .before .before .before .before .before .before .before .pre) (c .before .before .before .loop .inv) (omega arith)
-
-enum-known-p : tie.Need-enum-known-p Inv-loop μ-loop
-enum-known-p c = search needs
-
-enum-told : tie.Need-enum-told Inv-loop μ-loop
-enum-told c = search needs
+intern-requires c κs =
+    let at-start = c .before .before .before .before .before .before .before in
+    join-fresh (at-start .pre) (c .before .before .before .loop .inv) (omega arith)
 
 same-length : tie.Need-same-length Inv-loop μ-loop
 same-length c = put-some (c .before .before .before .before .intern .ensures) (c .enum-told .given .1)
@@ -61,7 +50,10 @@ loop-less : tie.Need-loop-less Inv-loop μ-loop
 loop-less c = omega arith
 
 loop-again : tie.Need-loop-again Inv-loop μ-loop
-loop-again c = join-next (c .before .before .before .before .before .before .before .before .before .before .before .before .before .pre) (c .before .before .before .before .before .before .before .before .before .loop .inv) (omega arith) (as-put (c .before .before .before .before .before .intern .ensures) (c .before .p .given .1))
+loop-again c =
+    let at-loop = c .before .before .before .before .before .before .before .before .before in
+    let at-start = at-loop .before .before .before .before in
+    join-next (at-start .pre) (at-loop .loop .inv) (omega arith) (as-put (c .before .before .before .before .before .intern .ensures) (c .before .p .given .1))
 
 same-length-2 : tie.Need-same-length-2 Inv-loop μ-loop
 same-length-2 c = c .before .loop .inv .stays .size
@@ -76,17 +68,17 @@ join-clauses-spec =
     Inv-loop
     μ-loop
     sub-k
-    mul-node
+    (λ c. search needs)
     shared-slice-read-node
     cast-node
     loop-holds
-    sub-k-2
-    mul-intern
+    (λ c. search needs)
+    (λ c. search needs)
     shared-slice-read-intern
     cast-intern
     intern-requires
-    enum-known-p
-    enum-told
+    (λ c. search needs)
+    (λ c. search needs)
     same-length
     returns
     loop-less

@@ -25,32 +25,34 @@ loop-holds : tie.Need-loop-holds Inv-loop μ-loop
 loop-holds c = pass-start (c .before .before .before .before .pre)
 
 read-clause-requires : tie.Need-read-clause-requires Inv-loop μ-loop
-read-clause-requires c κs = pass-ready (c .before .before .loop .inv) (c .before .before .before .before .before .before .before .pre)
-
-enum-known-p : tie.Need-enum-known-p Inv-loop μ-loop
-enum-known-p c = search needs
-
-enum-told : tie.Need-enum-told Inv-loop μ-loop
-enum-told c = search needs
+read-clause-requires c κs =
+    let at-start = c .before .before .before .before .before .before .before in
+    pass-ready (c .before .before .loop .inv) (at-start .pre)
 
 same-length : tie.Need-same-length Inv-loop μ-loop
-same-length c = c .before .before .before .before .read-clause .kept .1 .1 .1 .0 ∙ c .before .before .before .before .before .before .before .loop .inv .stays .size
+same-length c =
+    let at-loop = c .before .before .before .before .before .before .before in
+    c .before .before .before .before .read-clause .kept .1 .1 .1 .0 ∙ at-loop .loop .inv .stays .size
 
 same-length-2 : tie.Need-same-length-2 Inv-loop μ-loop
-same-length-2 c = c .before .before .before .before .before .before .before .loop .inv .size
+same-length-2 c =
+    let at-loop = c .before .before .before .before .before .before .before in
+    at-loop .loop .inv .size
 
 returns : tie.Need-returns Inv-loop μ-loop
-returns c = λ σ w.
-    let l : c .before .before .before .before .before .before .before .loop .c < length (now (c .before .before .before .before .before .before .before .before .before .before .before .before .args .list)) = omega (arith, c .before .before .before .before .before .before .before .loop .inv .size) in
-    noClause (pass-none (c .before .before .before .before .before .before .before .loop .inv) σ w l (as-none (c .before .before .before .before .read-clause .ensures σ (knows-later (c .before .before .before .before .before .before .before .loop .inv .stays) w)) (c .enum-told .given .1)))
+returns c =
+    let at-loop = c .before .before .before .before .before .before .before in
+    let at-start = at-loop .before .before .before .before .before in
+    λ σ w.
+    let l : at-loop .loop .c < length (now (at-start .args .list)) = omega (arith, at-loop .loop .inv .size) in
+    noClause (pass-none (at-loop .loop .inv) σ w l (as-none (c .before .before .before .before .read-clause .ensures σ (knows-later (at-loop .loop .inv .stays) w)) (c .enum-told .given .1)))
 
 cast-list : tie.Need-cast-list Inv-loop μ-loop
 cast-list c =
-    let f = as-some (c .before .before .before .before .before .read-clause .ensures (c .before .before .before .before .before .before .before .before .before .before .before .before .before .pre .choices) (knows-later (c .before .before .before .before .before .before .before .before .loop .inv .stays) (c .before .before .before .before .before .before .before .before .before .before .before .before .before .pre .knows))) (c .before .p .given .1) in
+    let at-loop = c .before .before .before .before .before .before .before .before in
+    let at-start = at-loop .before .before .before .before .before in
+    let f = as-some (c .before .before .before .before .before .read-clause .ensures (at-start .pre .choices) (knows-later (at-loop .loop .inv .stays) (at-start .pre .knows))) (c .before .p .given .1) in
     omega (arith, f .within, f .tidy .fits, f .tidy .size)
-
-mul-list : tie.Need-mul-list Inv-loop μ-loop
-mul-list c = search needs
 
 slice-write-list : tie.Need-slice-write-list Inv-loop μ-loop
 slice-write-list c = omega arith
@@ -59,34 +61,54 @@ add-c : tie.Need-add-c Inv-loop μ-loop
 add-c c = omega arith
 
 caret-at-requires : tie.Need-caret-at-requires Inv-loop μ-loop
-caret-at-requires c κs = as-some (c .before .before .before .before .before .read-clause .ensures (c .before .before .before .before .before .before .before .before .before .before .before .before .before .pre .choices) (knows-later (c .before .before .before .before .before .before .before .before .loop .inv .stays) (c .before .before .before .before .before .before .before .before .before .before .before .before .before .pre .knows))) (c .before .p .given .1) .end
+caret-at-requires c κs =
+    let at-loop = c .before .before .before .before .before .before .before .before in
+    let at-start = at-loop .before .before .before .before .before in
+    as-some (c .before .before .before .before .before .read-clause .ensures (at-start .pre .choices) (knows-later (at-loop .loop .inv .stays) (at-start .pre .knows))) (c .before .p .given .1) .end
 
 same-length-3 : tie.Need-same-length-3 Inv-loop μ-loop
-same-length-3 c = c .before .before .before .before .before .before .before .read-clause .kept .1 .1 .1 .0 ∙ c .before .before .before .before .before .before .before .before .before .before .loop .inv .stays .size
+same-length-3 c =
+    let at-read-clause = c .before .before .before .before .before .before .before in
+    let at-loop = at-read-clause .before .before .before in
+    at-read-clause .read-clause .kept .1 .1 .1 .0 ∙ at-loop .loop .inv .stays .size
 
 same-length-4 : tie.Need-same-length-4 Inv-loop μ-loop
-same-length-4 c = simp length-set (c .before .before .before .before .before .before .before .before .before .before .loop .inv .size)
+same-length-4 c =
+    let at-loop = c .before .before .before .before .before .before .before .before .before .before in
+    simp length-set (at-loop .loop .inv .size)
 
 returns-2 : tie.Need-returns-2 Inv-loop μ-loop
-returns-2 c = λ σ w.
-    let l : c .before .before .before .before .before .before .before .before .before .before .loop .c < length (now (c .before .before .before .before .before .before .before .before .before .before .before .before .before .before .before .args .list)) = omega (arith, c .before .before .before .before .before .before .before .before .before .before .loop .inv .size) in
-    let f = as-some (c .before .before .before .before .before .before .before .read-clause .ensures σ (knows-later (c .before .before .before .before .before .before .before .before .before .before .loop .inv .stays) w)) (c .before .before .before .p .given .1) in
-    someClauses (pass-last (c .before .before .before .before .before .before .before .before .before .before .loop .inv) σ w l f (miss (c .before .caret-at .ensures) (not-true _ (c .if1 .taken))))
+returns-2 c =
+    let at-read-clause = c .before .before .before .before .before .before .before in
+    let at-loop = at-read-clause .before .before .before in
+    let at-start = at-loop .before .before .before .before .before in
+    λ σ w.
+    let l : at-loop .loop .c < length (now (at-start .args .list)) = omega (arith, at-loop .loop .inv .size) in
+    let f = as-some (at-read-clause .read-clause .ensures σ (knows-later (at-loop .loop .inv .stays) w)) (c .before .before .before .p .given .1) in
+    someClauses (pass-last (at-loop .loop .inv) σ w l f (miss (c .before .caret-at .ensures) (not-true _ (c .if1 .taken))))
 
 add-at : tie.Need-add-at Inv-loop μ-loop
 add-at c =
-    let f = as-some (c .before .before .before .before .before .before .before .read-clause .ensures (c .before .before .before .before .before .before .before .before .before .before .before .before .before .before .before .pre .choices) (knows-later (c .before .before .before .before .before .before .before .before .before .before .loop .inv .stays) (c .before .before .before .before .before .before .before .before .before .before .before .before .before .before .before .pre .knows))) (c .before .before .before .p .given .1) in
-    omega (arith, c .before .before .before .before .before .before .before .before .before .before .before .before .before .before .before .pre .room, c .before .before .before .before .before .before .before .before .before .before .before .before .before .before .before .pre .tidy .size, f .end)
+    let at-read-clause = c .before .before .before .before .before .before .before in
+    let at-loop = at-read-clause .before .before .before in
+    let at-start = at-loop .before .before .before .before .before in
+    let f = as-some (at-read-clause .read-clause .ensures (at-start .pre .choices) (knows-later (at-loop .loop .inv .stays) (at-start .pre .knows))) (c .before .before .before .p .given .1) in
+    omega (arith, at-start .pre .room, at-start .pre .tidy .size, f .end)
 
 loop-less : tie.Need-loop-less Inv-loop μ-loop
-loop-less c = omega (arith, c .before .before .before .before .before .before .before .before .before .before .loop .inv .size)
+loop-less c =
+    let at-loop = c .before .before .before .before .before .before .before .before .before .before in
+    omega (arith, at-loop .loop .inv .size)
 
 loop-again : tie.Need-loop-again Inv-loop μ-loop
 loop-again c =
-    let l : c .before .before .before .before .before .before .before .before .before .before .loop .c < length (now (c .before .before .before .before .before .before .before .before .before .before .before .before .before .before .before .args .list)) = omega (arith, c .before .before .before .before .before .before .before .before .before .before .loop .inv .size) in
-    let f = as-some (c .before .before .before .before .before .before .before .read-clause .ensures (c .before .before .before .before .before .before .before .before .before .before .before .before .before .before .before .pre .choices) (knows-later (c .before .before .before .before .before .before .before .before .before .before .loop .inv .stays) (c .before .before .before .before .before .before .before .before .before .before .before .before .before .before .before .pre .knows))) (c .before .before .before .p .given .1) in
+    let at-read-clause = c .before .before .before .before .before .before .before in
+    let at-loop = at-read-clause .before .before .before in
+    let at-start = at-loop .before .before .before .before .before in
+    let l : at-loop .loop .c < length (now (at-start .args .list)) = omega (arith, at-loop .loop .inv .size) in
+    let f = as-some (at-read-clause .read-clause .ensures (at-start .pre .choices) (knows-later (at-loop .loop .inv .stays) (at-start .pre .knows))) (c .before .before .before .p .given .1) in
     let h = hit (c .before .caret-at .ensures) (not-false _ (c .if1 .left)) (f .end) in
-    pass-more (c .before .before .before .before .before .before .before .before .before .before .loop .inv) (c .before .before .before .before .before .before .before .before .before .before .before .before .before .before .before .pre .choices) l f (c .before .before .before .before .before .before .before .before .before .before .before .before .before .before .before .pre .knows) h (λ σ w. as-some (c .before .before .before .before .before .before .before .read-clause .ensures σ (knows-later (c .before .before .before .before .before .before .before .before .before .before .loop .inv .stays) w)) (c .before .before .before .p .given .1))
+    pass-more (at-loop .loop .inv) (at-start .pre .choices) l f (at-start .pre .knows) h (λ σ w. as-some (at-read-clause .read-clause .ensures σ (knows-later (at-loop .loop .inv .stays) w)) (c .before .before .before .p .given .1))
 
 same-length-5 : tie.Need-same-length-5 Inv-loop μ-loop
 same-length-5 c = c .before .loop .inv .stays .size
@@ -105,13 +127,13 @@ read-clauses-spec =
     μ-loop
     loop-holds
     read-clause-requires
-    enum-known-p
-    enum-told
+    (λ c. search needs)
+    (λ c. search needs)
     same-length
     same-length-2
     returns
     cast-list
-    mul-list
+    (λ c. search needs)
     slice-write-list
     add-c
     caret-at-requires

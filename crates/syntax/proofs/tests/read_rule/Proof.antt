@@ -6,47 +6,34 @@ use borrow.Author.Needs.{needs}
 use Rattle.syntax.proofs.tests.read_rule.Statement.{statement}
 use Rattle.syntax.proofs.tests.read_rule.Tie as tie
 
-read-clauses-requires : tie.Need-read-clauses-requires
-read-clauses-requires c κs = search needs
-
-enum-known-p : tie.Need-enum-known-p
-enum-known-p c = search needs
-
-enum-told : tie.Need-enum-told
-enum-told c = search needs
-
-same-length : tie.Need-same-length
-same-length c = search needs
-
-same-length-2 : tie.Need-same-length-2
-same-length-2 c = search needs
-
 returns : tie.Need-returns
-returns c = λ σ w. noThing (as-no-clause (c .before .before .before .before .before .before .read-clauses .ensures σ w) (c .enum-told .given .1))
+returns c =
+    let at-read-clauses = c .before .before .before .before .before .before in
+    λ σ w. noThing (as-no-clause (at-read-clauses .read-clauses .ensures σ w) (c .enum-told .given .1))
 
 join-clauses-requires : tie.Need-join-clauses-requires
-join-clauses-requires c κs = joinable (as-clauses (c .before .before .before .before .before .before .before .before .before .read-clauses .ensures (c .before .before .before .before .before .before .before .before .before .before .before .before .before .before .before .before .pre .choices) (c .before .before .before .before .before .before .before .before .before .before .before .before .before .before .before .before .pre .knows)) (c .before .before .before .p .given .1)) (c .before .before .before .before .before .before .before .before .before .before .before .before .before .before .before .before .pre)
-
-same-length-3 : tie.Need-same-length-3
-same-length-3 c = search needs
-
-same-length-4 : tie.Need-same-length-4
-same-length-4 c = search needs
+join-clauses-requires c κs =
+    let at-read-clauses = c .before .before .before .before .before .before .before .before .before in
+    let at-start = at-read-clauses .before .before .before .before .before .before .before in
+    joinable (as-clauses (at-read-clauses .read-clauses .ensures (at-start .pre .choices) (at-start .pre .knows)) (c .before .before .before .p .given .1)) (at-start .pre)
 
 returns-2 : tie.Need-returns-2
-returns-2 c = λ σ w. rule-found (as-clauses (c .before .before .before .before .before .before .before .before .before .before .before .before .read-clauses .ensures σ w) (c .before .before .before .before .before .before .p .given .1)) (c .before .before .join-clauses .ensures)
+returns-2 c =
+    let at-p = c .before .before .before .before .before .before in
+    let at-read-clauses = at-p .before .before .before .before .before .before in
+    λ σ w. rule-found (as-clauses (at-read-clauses .read-clauses .ensures σ w) (at-p .p .given .1)) (c .before .before .join-clauses .ensures)
 
 pub read-rule-spec : {M : Type 1} → statement M
 read-rule-spec =
     tie.close
     (tie.spec
-    read-clauses-requires
-    enum-known-p
-    enum-told
-    same-length
-    same-length-2
+    (λ c κs. search needs)
+    (λ c. search needs)
+    (λ c. search needs)
+    (λ c. search needs)
+    (λ c. search needs)
     returns
     join-clauses-requires
-    same-length-3
-    same-length-4
+    (λ c. search needs)
+    (λ c. search needs)
     returns-2)

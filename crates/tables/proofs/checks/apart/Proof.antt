@@ -29,12 +29,6 @@ returns c =
     let loop-test = c .before .before .loop-test in
     passed-not (loop .inv) (loop-test .taken) (c .before .new .ensures) (not-true _ (c .if1 .taken))
 
-add-i : tie.Need-add-i Inv-loop μ-loop
-add-i c = search needs
-
-loop-less : tie.Need-loop-less Inv-loop μ-loop
-loop-less c = search needs
-
 loop-again : tie.Need-loop-again Inv-loop μ-loop
 loop-again c =
     let loop = c .before .before .before .loop in
@@ -48,4 +42,4 @@ returns-2 c = passed-all (c .before .loop .inv) (c .loop-test .left)
 pub apart-spec : {M : Type 1} → statement M
 apart-spec =
     tie.close
-    (tie.spec Inv-loop μ-loop loop-holds new-requires returns add-i loop-less loop-again returns-2)
+    (tie.spec Inv-loop μ-loop loop-holds new-requires returns (λ c. search needs) (λ c. search needs) loop-again returns-2)

@@ -10,12 +10,6 @@ use borrow.Author.Needs.{needs}
 use Rattle.tables.proofs.checks.checked.Statement.{statement}
 use Rattle.tables.proofs.checks.checked.Tie as tie
 
-shared-slice-read-part : tie.Need-shared-slice-read-part
-shared-slice-read-part c = search needs
-
-part-requires : tie.Need-part-requires
-part-requires c κs = search needs
-
 ranked-requires : tie.Need-ranked-requires
 ranked-requires c κs =
     let args = c .before .before .before .args in
@@ -30,9 +24,6 @@ returns c =
     let r = sym (rank-part T f e b (part .ensures) (c .before .ranked .ensures)) ∙ not-true _ (c .if1 .taken) in
     rw r
 
-reaches-requires : tie.Need-reaches-requires
-reaches-requires c κs = search needs
-
 returns-2 : tie.Need-returns-2
 unfolding lateChecks firstFailing
 returns-2 c =
@@ -43,9 +34,6 @@ returns-2 c =
     let r = sym (rank-part T f e b (part .ensures) (ranked .ensures)) ∙ not-false _ (if1 .left) in
     let o = sym (c .before .reaches .ensures T f b e) ∙ not-true _ (c .if2 .taken) in
     rw (r, o)
-
-collections-apart-requires : tie.Need-collections-apart-requires
-collections-apart-requires c κs = search needs
 
 returns-3 : tie.Need-returns-3
 unfolding lateChecks firstFailing
@@ -79,12 +67,12 @@ pub checked-spec : {M : Type 1} → statement M
 checked-spec =
     tie.close
     (tie.spec
-    shared-slice-read-part
-    part-requires
+    (λ c. search needs)
+    (λ c κs. search needs)
     ranked-requires
     returns
-    reaches-requires
+    (λ c κs. search needs)
     returns-2
-    collections-apart-requires
+    (λ c κs. search needs)
     returns-3
     returns-4)

@@ -23,24 +23,6 @@ loop-holds c =
     let args = c .before .before .before .args in
     passed-none (length (args .active .now)) (λ s. eqb (lessOf (getD (args .active .now) s 0) (imageOf (args .assigned .now) (getD (args .users .now) s 0))) 0)
 
-mul-less : tie.Need-mul-less Inv-loop μ-loop
-mul-less c = search needs
-
-shared-slice-read-less : tie.Need-shared-slice-read-less Inv-loop μ-loop
-shared-slice-read-less c = search needs
-
-mul-image : tie.Need-mul-image Inv-loop μ-loop
-mul-image c = search needs
-
-shared-slice-read-image : tie.Need-shared-slice-read-image Inv-loop μ-loop
-shared-slice-read-image c = search needs
-
-image-requires : tie.Need-image-requires Inv-loop μ-loop
-image-requires c κs = search needs
-
-less-requires : tie.Need-less-requires Inv-loop μ-loop
-less-requires c κs = search needs
-
 returns : tie.Need-returns Inv-loop μ-loop
 unfolding reaching
 returns c =
@@ -50,12 +32,6 @@ returns c =
     let image = c .before .before .image in
     passed-not (loop .inv) (loop-test .taken) (ap (λ w. eqb w 0) (c .before .less .ensures ∙ ap (lessOf (getD (args .active .now) (loop .s) 0)) (image .ensures)))
     (ne-eqb (c .before .less .result) 0 (c .if1 .taken))
-
-add-s : tie.Need-add-s Inv-loop μ-loop
-add-s c = search needs
-
-loop-less : tie.Need-loop-less Inv-loop μ-loop
-loop-less c = search needs
 
 loop-again : tie.Need-loop-again Inv-loop μ-loop
 loop-again c =
@@ -77,14 +53,14 @@ in-reach-spec =
     Inv-loop
     μ-loop
     loop-holds
-    mul-less
-    shared-slice-read-less
-    mul-image
-    shared-slice-read-image
-    image-requires
-    less-requires
+    (λ c. search needs)
+    (λ c. search needs)
+    (λ c. search needs)
+    (λ c. search needs)
+    (λ c κs. search needs)
+    (λ c κs. search needs)
     returns
-    add-s
-    loop-less
+    (λ c. search needs)
+    (λ c. search needs)
     loop-again
     returns-2)

@@ -19,26 +19,8 @@ Inv-loop words i word twin₀ j₀ twin j = Noted i (λ j. not (eqb (getD words 
 abbrev μ-loop : tie.MeasureT-loop
 μ-loop words i word twin₀ j₀ twin j = i - j
 
-mul-word : tie.Need-mul-word Inv-loop μ-loop
-mul-word c = search needs
-
-shared-slice-read-word : tie.Need-shared-slice-read-word Inv-loop μ-loop
-shared-slice-read-word c = search needs
-
 loop-holds : tie.Need-loop-holds Inv-loop μ-loop
 loop-holds c = noted-none (c .before .args .i) (λ j. not (eqb (getD (c .before .args .words .now) j 0) (getD (c .before .args .words .now) (c .before .args .i) 0)))
-
-mul-if1 : tie.Need-mul-if1 Inv-loop μ-loop
-mul-if1 c = search needs
-
-shared-slice-read-if1 : tie.Need-shared-slice-read-if1 Inv-loop μ-loop
-shared-slice-read-if1 c = search needs
-
-add-j : tie.Need-add-j Inv-loop μ-loop
-add-j c = search needs
-
-loop-less : tie.Need-loop-less Inv-loop μ-loop
-loop-less c = search needs
 
 loop-again : tie.Need-loop-again Inv-loop μ-loop
 loop-again c =
@@ -57,12 +39,12 @@ new-spec =
     (tie.spec
     Inv-loop
     μ-loop
-    mul-word
-    shared-slice-read-word
+    (λ c. search needs)
+    (λ c. search needs)
     loop-holds
-    mul-if1
-    shared-slice-read-if1
-    add-j
-    loop-less
+    (λ c. search needs)
+    (λ c. search needs)
+    (λ c. search needs)
+    (λ c. search needs)
     loop-again
     returns)

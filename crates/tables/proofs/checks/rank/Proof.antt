@@ -18,58 +18,38 @@ below-is c =
     let S = c .before .before .before .before .before in
     c .image .ensures ∙ ap (imageOf (S .args .rows .now)) (c .before .less .ensures ∙ ap (lessOf (getD (S .args .rows .now) (S .args .r) 0)) (c .before .before .item .ensures))
 
-mul-dominates : tie.Need-mul-dominates
-mul-dominates c = search needs
-
-shared-slice-read-dominates : tie.Need-shared-slice-read-dominates
-shared-slice-read-dominates c = search needs
-
-item-requires : tie.Need-item-requires
-item-requires c κs = search needs
-
-less-requires : tie.Need-less-requires
-less-requires c κs = search needs
-
-image-requires : tie.Need-image-requires
-image-requires c κs = search needs
-
-contains-requires : tie.Need-contains-requires
-contains-requires c κs = search needs
-
 returns : tie.Need-returns
-returns c = rank-not-own (c .before .before .before .before .before .before .before .args .rows .now) (c .before .before .before .before .before .before .before .args .r) (sym (c .before .contains .ensures) ∙ not-true _ (c .if1 .taken))
-
-less-requires-2 : tie.Need-less-requires-2
-less-requires-2 c κs = search needs
+returns c =
+    let at-start = c .before .before .before .before .before .before .before in
+    rank-not-own (at-start .args .rows .now) (at-start .args .r) (sym (c .before .contains .ensures) ∙ not-true _ (c .if1 .taken))
 
 returns-2 : tie.Need-returns-2
 returns-2 c =
-    let w : ℕ = getD (c .before .before .before .before .before .before .before .before .before .args .rows .now) (c .before .before .before .before .before .before .before .before .before .args .r) 0 in
-    rank-open (c .before .before .before .before .before .before .before .before .before .args .rows .now) (c .before .before .before .before .before .before .before .before .before .args .r) (sym (c .before .before .before .contains .ensures) ∙ not-false _ (c .before .before .if1 .left))
+    let at-start = c .before .before .before .before .before .before .before .before .before in
+    let w : ℕ = getD (at-start .args .rows .now) (at-start .args .r) 0 in
+    rank-open (at-start .args .rows .now) (at-start .args .r) (sym (c .before .before .before .contains .ensures) ∙ not-false _ (c .before .before .if1 .left))
     (λ z. c .if2 .taken (c .before .less2 .ensures ∙ ap (λ (b : ℕ). lessOf b w) (below-is (c .before .before .before .before)) ∙ z))
-
-contains-requires-2 : tie.Need-contains-requires-2
-contains-requires-2 c κs = search needs
 
 returns-3 : tie.Need-returns-3
 returns-3 c =
-    let w : ℕ = getD (c .before .before .before .before .before .before .before .before .before .before .args .rows .now) (c .before .before .before .before .before .before .before .before .before .before .args .r) 0 in
-    ap not (c .contains2 .ensures ∙ ap (λ (b : ℕ). has b (c .before .before .before .before .before .before .before .before .before .before .args .r)) (below-is (c .before .before .before .before .before)))
-    ∙ rank-one-way (c .before .before .before .before .before .before .before .before .before .before .args .rows .now) (c .before .before .before .before .before .before .before .before .before .before .args .r) (sym (c .before .before .before .before .contains .ensures) ∙ not-false _ (c .before .before .before .if1 .left))
+    let at-start = c .before .before .before .before .before .before .before .before .before .before in
+    let w : ℕ = getD (at-start .args .rows .now) (at-start .args .r) 0 in
+    ap not (c .contains2 .ensures ∙ ap (λ (b : ℕ). has b (at-start .args .r)) (below-is (c .before .before .before .before .before)))
+    ∙ rank-one-way (at-start .args .rows .now) (at-start .args .r) (sym (c .before .before .before .before .contains .ensures) ∙ not-false _ (c .before .before .before .if1 .left))
     (ap (λ (b : ℕ). lessOf b w) (sym (below-is (c .before .before .before .before .before))) ∙ sym (c .before .before .less2 .ensures) ∙ c .before .if2 .left)
 
 pub rank-spec : {M : Type 1} → statement M
 rank-spec =
     tie.close
     (tie.spec
-    mul-dominates
-    shared-slice-read-dominates
-    item-requires
-    less-requires
-    image-requires
-    contains-requires
+    (λ c. search needs)
+    (λ c. search needs)
+    (λ c κs. search needs)
+    (λ c κs. search needs)
+    (λ c κs. search needs)
+    (λ c κs. search needs)
     returns
-    less-requires-2
+    (λ c κs. search needs)
     returns-2
-    contains-requires-2
+    (λ c κs. search needs)
     returns-3)

@@ -26,12 +26,6 @@ rank-requires c κs = (c .before .before .before .pre, c .loop-test .taken)
 returns : tie.Need-returns Inv-loop μ-loop
 returns c = λ below. passed-not (c .before .before .before .loop .inv) (c .before .before .loop-test .taken) (c .before .rank .ensures) (not-true _ (c .if1 .taken)) ∙ ranked-rows (c .before .before .before .before .before .args .rows .now) (c .before .before .before .before .before .pre) below
 
-add-r : tie.Need-add-r Inv-loop μ-loop
-add-r c = search needs
-
-loop-less : tie.Need-loop-less Inv-loop μ-loop
-loop-less c = search needs
-
 loop-again : tie.Need-loop-again Inv-loop μ-loop
 loop-again c = passed-more (c .before .before .before .loop .inv) (c .before .before .loop-test .taken) (c .before .rank .ensures) (not-false _ (c .if1 .left))
 
@@ -47,7 +41,7 @@ ranked-spec =
     loop-holds
     rank-requires
     returns
-    add-r
-    loop-less
+    (λ c. search needs)
+    (λ c. search needs)
     loop-again
     returns-2)

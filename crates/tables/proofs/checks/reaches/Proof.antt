@@ -8,21 +8,6 @@ use borrow.Author.Needs.{needs}
 use Rattle.tables.proofs.checks.reaches.Statement.{statement}
 use Rattle.tables.proofs.checks.reaches.Tie as tie
 
-shared-slice-read-users : tie.Need-shared-slice-read-users
-shared-slice-read-users c = search needs
-
-shared-slice-read-sessions : tie.Need-shared-slice-read-sessions
-shared-slice-read-sessions c = search needs
-
-part-requires : tie.Need-part-requires
-part-requires c κs = search needs
-
-part-requires-2 : tie.Need-part-requires-2
-part-requires-2 c κs = search needs
-
-part-requires-3 : tie.Need-part-requires-3
-part-requires-3 c κs = search needs
-
 in-reach-requires : tie.Need-in-reach-requires
 in-reach-requires c κs =
     let args = c .before .before .before .before .before .before .args in
@@ -40,10 +25,10 @@ pub reaches-spec : {M : Type 1} → statement M
 reaches-spec =
     tie.close
     (tie.spec
-    shared-slice-read-users
-    shared-slice-read-sessions
-    part-requires
-    part-requires-2
-    part-requires-3
+    (λ c. search needs)
+    (λ c. search needs)
+    (λ c κs. search needs)
+    (λ c κs. search needs)
+    (λ c κs. search needs)
     in-reach-requires
     returns)

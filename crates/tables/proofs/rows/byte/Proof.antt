@@ -9,15 +9,6 @@ use borrow.Author.Needs.{needs}
 use Rattle.tables.proofs.rows.byte.Statement.{statement}
 use Rattle.tables.proofs.rows.byte.Tie as tie
 
-shared-slice-read-wide : tie.Need-shared-slice-read-wide
-shared-slice-read-wide c = search needs
-
-wide-requires : tie.Need-wide-requires
-wide-requires c κs = search needs
-
-add-t8 : tie.Need-add-t8
-add-t8 c = search needs
-
 returns : tie.Need-returns
 returns c =
     let args = c .before .before .before .before .args in
@@ -30,4 +21,4 @@ returns-2 c =
     stops (byte-cut (args .bytes .now) (args .at) (c .if1 .left))
 
 pub byte-spec : {M : Type 1} → statement M
-byte-spec = tie.close (tie.spec shared-slice-read-wide wide-requires add-t8 returns returns-2)
+byte-spec = tie.close (tie.spec (λ c. search needs) (λ c κs. search needs) (λ c. search needs) returns returns-2)

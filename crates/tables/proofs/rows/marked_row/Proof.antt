@@ -7,16 +7,10 @@ use borrow.Author.Needs.{needs}
 use Rattle.tables.proofs.rows.marked_row.Statement.{statement}
 use Rattle.tables.proofs.rows.marked_row.Tie as tie
 
-sub-if1 : tie.Need-sub-if1
-sub-if1 c = search needs
-
 returns : tie.Need-returns
 returns c =
     let args = c .before .before .args in
     stops (marked-cut (args .bytes .now) (args .at) (args .n) (c .if1 .taken))
-
-shared-slice-read-mark : tie.Need-shared-slice-read-mark
-shared-slice-read-mark c = search needs
 
 returns-2 : tie.Need-returns-2
 returns-2 c =
@@ -30,12 +24,6 @@ returns-3 c =
     let pre = c .before .before .before .before .before .pre in
     stops (marked-bad (args .bytes .now) (args .at) (args .n) (omega (arith, pre)) (c .if3 .taken))
 
-add-word-within : tie.Need-add-word-within
-add-word-within c = search needs
-
-word-within-requires : tie.Need-word-within-requires
-word-within-requires c κs = search needs
-
 returns-4 : tie.Need-returns-4
 returns-4 c =
     let args = c .before .before .before .before .before .before .args in
@@ -47,11 +35,11 @@ pub marked-row-spec : {M : Type 1} → statement M
 marked-row-spec =
     tie.close
     (tie.spec
-    sub-if1
+    (λ c. search needs)
     returns
-    shared-slice-read-mark
+    (λ c. search needs)
     returns-2
     returns-3
-    add-word-within
-    word-within-requires
+    (λ c. search needs)
+    (λ c κs. search needs)
     returns-4)

@@ -6,9 +6,6 @@ use borrow.Author.Needs.{needs}
 use Rattle.tables.proofs.rows.outside.Statement.{statement}
 use Rattle.tables.proofs.rows.outside.Tie as tie
 
-shr-result : tie.Need-shr-result
-shr-result c = search needs
-
 returns : tie.Need-returns
 returns c = outside-shift (c .before .args .w) (c .before .args .n)
 
@@ -16,4 +13,4 @@ returns-2 : tie.Need-returns-2
 returns-2 c = sym (outside-none (c .before .args .w) (c .before .args .n) (c .if1 .left) (c .before .pre) (c .before .fits .w .fits))
 
 pub outside-spec : {M : Type 1} → statement M
-outside-spec = tie.close (tie.spec shr-result returns returns-2)
+outside-spec = tie.close (tie.spec (λ c. search needs) returns returns-2)

@@ -4,16 +4,10 @@ use borrow.Author.Needs.{needs}
 use Rattle.tables.proofs.rows.row.Statement.{statement}
 use Rattle.tables.proofs.rows.row.Tie as tie
 
-enum-known-kind : tie.Need-enum-known-kind
-enum-known-kind c = search needs
-
 word-row-requires : tie.Need-word-row-requires
 word-row-requires c κs =
     let pre = c .before .before .before .before .pre in
     (pre .0, rw (c .before .kind .given .1) at (pre .1))
-
-enum-known-kind-2 : tie.Need-enum-known-kind-2
-enum-known-kind-2 c = search needs
 
 marked-row-requires : tie.Need-marked-row-requires
 marked-row-requires c κs =
@@ -30,9 +24,9 @@ pub row-spec : {M : Type 1} → statement M
 row-spec =
     tie.close
     (tie.spec
-    enum-known-kind
+    (λ c. search needs)
     word-row-requires
-    enum-known-kind-2
+    (λ c. search needs)
     marked-row-requires
     returns
     returns-2)

@@ -7,31 +7,16 @@ use borrow.Author.Needs.{needs}
 use Rattle.tables.proofs.rows.session_row.Statement.{statement}
 use Rattle.tables.proofs.rows.session_row.Tie as tie
 
-sub-if1 : tie.Need-sub-if1
-sub-if1 c = search needs
-
 returns : tie.Need-returns
 returns c =
     let args = c .before .before .args in
     stops (session-cut (args .bytes .now) (args .at) (args .users) (args .n) (c .if1 .taken))
-
-shared-slice-read-wide : tie.Need-shared-slice-read-wide
-shared-slice-read-wide c = search needs
-
-wide-requires : tie.Need-wide-requires
-wide-requires c κs = search needs
 
 returns-2 : tie.Need-returns-2
 returns-2 c =
     let args = c .before .before .before .before .before .args in
     let pre = c .before .before .before .before .before .pre in
     stops (session-none (args .bytes .now) (args .at) (args .users) (args .n) (omega (arith, pre)) (omega (arith, c .before .wide .ensures)))
-
-add-word-within : tie.Need-add-word-within
-add-word-within c = search needs
-
-word-within-requires : tie.Need-word-within-requires
-word-within-requires c κs = search needs
 
 returns-3 : tie.Need-returns-3
 returns-3 c =
@@ -45,11 +30,11 @@ pub session-row-spec : {M : Type 1} → statement M
 session-row-spec =
     tie.close
     (tie.spec
-    sub-if1
+    (λ c. search needs)
     returns
-    shared-slice-read-wide
-    wide-requires
+    (λ c. search needs)
+    (λ c κs. search needs)
     returns-2
-    add-word-within
-    word-within-requires
+    (λ c. search needs)
+    (λ c κs. search needs)
     returns-3)

@@ -16,22 +16,10 @@ abbrev μ-loop : tie.MeasureT-loop
 loop-holds : tie.Need-loop-holds Inv-loop μ-loop
 loop-holds c = word-none _ _ (c .before .pre)
 
-sub-i : tie.Need-sub-i Inv-loop μ-loop
-sub-i c = search needs
-
 mul-w : tie.Need-mul-w Inv-loop μ-loop
 mul-w c =
     let pre = c .before .before .before .pre in
     record { fits = word-shift _ _ pre (c .loop-test .taken) (c .before .loop .inv) }
-
-add-wide : tie.Need-add-wide Inv-loop μ-loop
-add-wide c = search needs
-
-shared-slice-read-wide : tie.Need-shared-slice-read-wide Inv-loop μ-loop
-shared-slice-read-wide c = search needs
-
-wide-requires : tie.Need-wide-requires Inv-loop μ-loop
-wide-requires c κs = search needs
 
 add-w : tie.Need-add-w Inv-loop μ-loop
 add-w c =
@@ -41,9 +29,6 @@ add-w c =
     let loop-test = c .before .before .loop-test in
     let b = c .before .shared-slice-known2 .given (args .at + (loop .i - 1)) in
     record { fits = word-fits _ _ pre (word-more _ _ pre (loop-test .taken) (c .wide .ensures) (omega (arith, c .wide .ensures)) (loop .inv)) }
-
-loop-less : tie.Need-loop-less Inv-loop μ-loop
-loop-less c = search needs
 
 loop-again : tie.Need-loop-again Inv-loop μ-loop
 loop-again c =
@@ -66,12 +51,12 @@ word-spec =
     Inv-loop
     μ-loop
     loop-holds
-    sub-i
+    (λ c. search needs)
     mul-w
-    add-wide
-    shared-slice-read-wide
-    wide-requires
+    (λ c. search needs)
+    (λ c. search needs)
+    (λ c κs. search needs)
     add-w
-    loop-less
+    (λ c. search needs)
     loop-again
     returns)

@@ -7,16 +7,10 @@ use borrow.Author.Needs.{needs}
 use Rattle.tables.proofs.rows.word_row.Statement.{statement}
 use Rattle.tables.proofs.rows.word_row.Tie as tie
 
-sub-if1 : tie.Need-sub-if1
-sub-if1 c = search needs
-
 returns : tie.Need-returns
 returns c =
     let args = c .before .before .args in
     stops (word-row-cut (args .bytes .now) (args .at) (args .n) (c .if1 .taken))
-
-word-within-requires : tie.Need-word-within-requires
-word-within-requires c κs = search needs
 
 returns-2 : tie.Need-returns-2
 returns-2 c =
@@ -25,4 +19,4 @@ returns-2 c =
     rw (word-row (args .bytes .now) (args .at) (args .n) (omega (arith, pre))) (c .word-within .ensures)
 
 pub word-row-spec : {M : Type 1} → statement M
-word-row-spec = tie.close (tie.spec sub-if1 returns word-within-requires returns-2)
+word-row-spec = tie.close (tie.spec (λ c. search needs) returns (λ c κs. search needs) returns-2)

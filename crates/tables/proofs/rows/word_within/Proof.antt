@@ -9,12 +9,6 @@ use borrow.Author.Needs.{needs}
 use Rattle.tables.proofs.rows.word_within.Statement.{statement}
 use Rattle.tables.proofs.rows.word_within.Tie as tie
 
-word-requires : tie.Need-word-requires
-word-requires c κs = search needs
-
-outside-requires : tie.Need-outside-requires
-outside-requires c κs = search needs
-
 returns : tie.Need-returns
 returns c =
     let args = c .before .before .before .before .args in
@@ -22,9 +16,6 @@ returns c =
     let s = args .bytes .now in
     let at = args .at in
     stops (within-over (args .n) (take 8 (drop at s)) (drop (at + 8) s) (word .ensures) (c .before .outside .ensures) (c .if1 .taken))
-
-add-t7 : tie.Need-add-t7
-add-t7 c = search needs
 
 returns-2 : tie.Need-returns-2
 returns-2 c =
@@ -36,4 +27,4 @@ returns-2 c =
     takes {n = at + 8} (within-took (args .n) (take 8 (drop at s)) (drop (at + 8) s) (word .ensures) (c .before .outside .ensures) (c .if1 .left)) (pre .0) refl
 
 pub word-within-spec : {M : Type 1} → statement M
-word-within-spec = tie.close (tie.spec word-requires outside-requires returns add-t7 returns-2)
+word-within-spec = tie.close (tie.spec (λ c κs. search needs) (λ c κs. search needs) returns (λ c. search needs) returns-2)

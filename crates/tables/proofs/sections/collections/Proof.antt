@@ -8,18 +8,6 @@ use borrow.Author.Needs.{needs}
 use Rattle.tables.proofs.sections.collections.Statement.{statement}
 use Rattle.tables.proofs.sections.collections.Tie as tie
 
-section-requires : tie.Need-section-requires
-section-requires c κs = search needs
-
-enum-known-first : tie.Need-enum-known-first
-enum-known-first c = search needs
-
-enum-told : tie.Need-enum-told
-enum-told c = search needs
-
-same-length : tie.Need-same-length
-same-length c = search needs
-
 returns : tie.Need-returns
 returns c =
     let args = c .before .before .before .before .before .before .before .before .args in
@@ -33,15 +21,6 @@ section-requires-2 c κs =
     let first = c .before .before .first in
     let f = as-took (section .ensures) (first .given .1) in
     (f .within, ((pre .1 .0 .1, section .kept .1 .1 .1 .0 ∙ pre .1 .1), (omega arith, omega arith)))
-
-enum-known-second : tie.Need-enum-known-second
-enum-known-second c = search needs
-
-enum-told-2 : tie.Need-enum-told-2
-enum-told-2 c = search needs
-
-same-length-2 : tie.Need-same-length-2
-same-length-2 c = search needs
 
 returns-2 : tie.Need-returns-2
 returns-2 c =
@@ -61,9 +40,6 @@ section-requires-3 c κs =
     let g = as-took (section2 .ensures) (second .given .1) in
     (g .within, ((omega (arith, pre), section2 .kept .1 .1 .1 .0 ∙ section .kept .1 .1 .1 .0 ∙ pre .1 .1), (omega arith, omega arith)))
 
-same-length-3 : tie.Need-same-length-3
-same-length-3 c = search needs
-
 returns-3 : tie.Need-returns-3
 returns-3 c =
     let args = c .before .before .before .before .before .before .before .before .before .before .before .before .before .before .before .before .before .before .before .before .args in
@@ -80,16 +56,16 @@ pub collections-spec : {M : Type 1} → statement M
 collections-spec =
     tie.close
     (tie.spec
-    section-requires
-    enum-known-first
-    enum-told
-    same-length
+    (λ c κs. search needs)
+    (λ c. search needs)
+    (λ c. search needs)
+    (λ c. search needs)
     returns
     section-requires-2
-    enum-known-second
-    enum-told-2
-    same-length-2
+    (λ c. search needs)
+    (λ c. search needs)
+    (λ c. search needs)
     returns-2
     section-requires-3
-    same-length-3
+    (λ c. search needs)
     returns-3)

@@ -11,15 +11,6 @@ use borrow.Author.Needs.{needs}
 use Rattle.tables.proofs.sections.permissions.Statement.{statement}
 use Rattle.tables.proofs.sections.permissions.Tie as tie
 
-byte-requires : tie.Need-byte-requires
-byte-requires c κs = search needs
-
-enum-known-read : tie.Need-enum-known-read
-enum-known-read c = search needs
-
-enum-told : tie.Need-enum-told
-enum-told c = search needs
-
 returns : tie.Need-returns
 returns c =
     let args = c .before .before .before .before .before .args in
@@ -33,9 +24,6 @@ returns-2 c =
     let byte = c .before .before .before .before .byte in
     let read = c .before .before .read in
     stops (permissions-wrong (args .bytes .now) (args .at) (args .product) (args .roles) (as-took (byte .ensures) (read .given .1)) (c .if1 .taken))
-
-slice-write-words : tie.Need-slice-write-words
-slice-write-words c = search needs
 
 rows-requires : tie.Need-rows-requires
 rows-requires c κs =
@@ -66,12 +54,12 @@ pub permissions-spec : {M : Type 1} → statement M
 permissions-spec =
     tie.close
     (tie.spec
-    byte-requires
-    enum-known-read
-    enum-told
+    (λ c κs. search needs)
+    (λ c. search needs)
+    (λ c. search needs)
     returns
     returns-2
-    slice-write-words
+    (λ c. search needs)
     rows-requires
     same-length
     returns-3)

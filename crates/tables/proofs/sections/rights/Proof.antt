@@ -10,37 +10,16 @@ use borrow.Author.Needs.{needs}
 use Rattle.tables.proofs.sections.rights.Statement.{statement}
 use Rattle.tables.proofs.sections.rights.Tie as tie
 
-count-requires : tie.Need-count-requires
-count-requires c κs = search needs
-
-enum-known-first : tie.Need-enum-known-first
-enum-known-first c = search needs
-
-enum-told : tie.Need-enum-told
-enum-told c = search needs
-
 returns : tie.Need-returns
 returns c =
     let args = c .before .before .before .before .before .args in
     let count = c .before .before .count in
     stops-as (c .enum-told .given .1) (rights-stop (args .bytes .now) (args .at) (args .roles) (as-stop (count .ensures) (c .enum-told .given .1)))
 
-slice-write-words : tie.Need-slice-write-words
-slice-write-words c = search needs
-
 count-requires-2 : tie.Need-count-requires-2
 count-requires-2 c κs =
     let count = c .before .before .before .count in
     as-took (count .ensures) (c .before .first .given .1) .within
-
-enum-known-second : tie.Need-enum-known-second
-enum-known-second c = search needs
-
-enum-told-2 : tie.Need-enum-told-2
-enum-told-2 c = search needs
-
-same-length : tie.Need-same-length
-same-length c = search needs
 
 returns-2 : tie.Need-returns-2
 returns-2 c =
@@ -50,9 +29,6 @@ returns-2 c =
     let count2 = c .before .before .count2 in
     let f = as-took (count .ensures) (first .given .1) in
     stops-as (c .enum-told2 .given .1) (rights-stop-2 (args .bytes .now) (args .at) (args .roles) f (as-stop (count2 .ensures) (c .enum-told2 .given .1)))
-
-slice-write-words-2 : tie.Need-slice-write-words-2
-slice-write-words-2 c = search needs
 
 mul-permissions : tie.Need-mul-permissions
 mul-permissions c =
@@ -73,12 +49,6 @@ permissions-requires c κs =
     let f = as-took (count .ensures) (first .given .1) in
     let g = as-took (count2 .ensures) (second .given .1) in
     (g .within, (product-few (f .holds .few) (g .holds .few), pre .1 .0, simp length-set (pre .1 .1)))
-
-enum-known-third : tie.Need-enum-known-third
-enum-known-third c = search needs
-
-enum-told-3 : tie.Need-enum-told-3
-enum-told-3 c = search needs
 
 same-length-2 : tie.Need-same-length-2
 same-length-2 c =
@@ -133,21 +103,21 @@ pub rights-spec : {M : Type 1} → statement M
 rights-spec =
     tie.close
     (tie.spec
-    count-requires
-    enum-known-first
-    enum-told
+    (λ c κs. search needs)
+    (λ c. search needs)
+    (λ c. search needs)
     returns
-    slice-write-words
+    (λ c. search needs)
     count-requires-2
-    enum-known-second
-    enum-told-2
-    same-length
+    (λ c. search needs)
+    (λ c. search needs)
+    (λ c. search needs)
     returns-2
-    slice-write-words-2
+    (λ c. search needs)
     mul-permissions
     permissions-requires
-    enum-known-third
-    enum-told-3
+    (λ c. search needs)
+    (λ c. search needs)
     same-length-2
     returns-3
     name-permissions-requires

@@ -27,12 +27,6 @@ row-requires c κs =
     let pre = c .before .before .before .before .pre in
     (c .before .loop .inv .along .within, pre .1 .0 .1)
 
-enum-known-read : tie.Need-enum-known-read Inv-loop μ-loop
-enum-known-read c = search needs
-
-enum-told : tie.Need-enum-told Inv-loop μ-loop
-enum-told c = search needs
-
 same-length : tie.Need-same-length Inv-loop μ-loop
 same-length c =
     let loop = c .before .before .before .before .loop in
@@ -64,12 +58,6 @@ slice-write-words c =
     let loop = c .before .before .before .before .before .loop in
     omega (arith, pre, loop .inv .long)
 
-add-i : tie.Need-add-i Inv-loop μ-loop
-add-i c = search needs
-
-loop-less : tie.Need-loop-less Inv-loop μ-loop
-loop-less c = search needs
-
 loop-again : tie.Need-loop-again Inv-loop μ-loop
 loop-again c =
     let args = c .before .before .before .before .before .before .before .before .args in
@@ -94,15 +82,15 @@ rows-spec =
     μ-loop
     loop-holds
     row-requires
-    enum-known-read
-    enum-told
+    (λ c. search needs)
+    (λ c. search needs)
     same-length
     returns
     add-words
     mul-words
     slice-write-words
-    add-i
-    loop-less
+    (λ c. search needs)
+    (λ c. search needs)
     loop-again
     same-length-2
     returns-2)

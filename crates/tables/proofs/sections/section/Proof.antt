@@ -9,26 +9,11 @@ use borrow.Author.Needs.{needs}
 use Rattle.tables.proofs.sections.section.Statement.{statement}
 use Rattle.tables.proofs.sections.section.Tie as tie
 
-count-requires : tie.Need-count-requires
-count-requires c κs = search needs
-
-enum-known-read : tie.Need-enum-known-read
-enum-known-read c = search needs
-
-enum-told : tie.Need-enum-told
-enum-told c = search needs
-
 returns : tie.Need-returns
 returns c =
     let args = c .before .before .before .before .before .args in
     let count = c .before .before .count in
     stops-as (c .enum-told .given .1) (section-stop (args .bytes .now) (args .at) (λ n. rowOf (args .kind)) (as-stop (count .ensures) (c .enum-told .given .1)))
-
-mul-words : tie.Need-mul-words
-mul-words c = search needs
-
-slice-write-words : tie.Need-slice-write-words
-slice-write-words c = search needs
 
 rows-requires : tie.Need-rows-requires
 rows-requires c κs =
@@ -56,12 +41,12 @@ pub section-spec : {M : Type 1} → statement M
 section-spec =
     tie.close
     (tie.spec
-    count-requires
-    enum-known-read
-    enum-told
+    (λ c κs. search needs)
+    (λ c. search needs)
+    (λ c. search needs)
     returns
-    mul-words
-    slice-write-words
+    (λ c. search needs)
+    (λ c. search needs)
     rows-requires
     same-length
     returns-2)

@@ -8,18 +8,6 @@ use borrow.Author.Needs.{needs}
 use Rattle.tables.proofs.sections.sections.Statement.{statement}
 use Rattle.tables.proofs.sections.sections.Tie as tie
 
-roles-requires : tie.Need-roles-requires
-roles-requires c κs = search needs
-
-enum-known-first : tie.Need-enum-known-first
-enum-known-first c = search needs
-
-enum-told : tie.Need-enum-told
-enum-told c = search needs
-
-same-length : tie.Need-same-length
-same-length c = search needs
-
 returns : tie.Need-returns
 returns c =
     let args = c .before .before .before .before .before .before .before .before .args in
@@ -33,15 +21,6 @@ section-requires c κs =
     let first = c .before .before .first in
     let f = as-took (roles .ensures) (first .given .1) in
     (f .within, ((f .holds .few, roles .kept .1 .0 ∙ pre), (omega arith, omega arith)))
-
-enum-known-second : tie.Need-enum-known-second
-enum-known-second c = search needs
-
-enum-told-2 : tie.Need-enum-told-2
-enum-told-2 c = search needs
-
-same-length-2 : tie.Need-same-length-2
-same-length-2 c = search needs
 
 returns-2 : tie.Need-returns-2
 returns-2 c =
@@ -62,15 +41,6 @@ sessions-requires c κs =
     let f = as-took (roles .ensures) (first .given .1) in
     let g = as-took (section .ensures) (second .given .1) in
     (g .within, (f .holds .few, section .kept .1 .1 .1 .0 ∙ roles .kept .1 .0 ∙ pre))
-
-enum-known-third : tie.Need-enum-known-third
-enum-known-third c = search needs
-
-enum-told-3 : tie.Need-enum-told-3
-enum-told-3 c = search needs
-
-same-length-3 : tie.Need-same-length-3
-same-length-3 c = search needs
 
 returns-3 : tie.Need-returns-3
 returns-3 c =
@@ -95,15 +65,6 @@ rights-requires c κs =
     let f = as-took (roles .ensures) (first .given .1) in
     let h = as-took (sessions .ensures) (third .given .1) in
     (h .within, (f .holds .few, sessions .kept .1 .1 .1 .1 .0 ∙ section .kept .1 .1 .1 .0 ∙ roles .kept .1 .0 ∙ pre))
-
-enum-known-fourth : tie.Need-enum-known-fourth
-enum-known-fourth c = search needs
-
-enum-told-4 : tie.Need-enum-told-4
-enum-told-4 c = search needs
-
-same-length-4 : tie.Need-same-length-4
-same-length-4 c = search needs
 
 returns-4 : tie.Need-returns-4
 returns-4 c =
@@ -166,25 +127,25 @@ pub sections-spec : {M : Type 1} → statement M
 sections-spec =
     tie.close
     (tie.spec
-    roles-requires
-    enum-known-first
-    enum-told
-    same-length
+    (λ c κs. search needs)
+    (λ c. search needs)
+    (λ c. search needs)
+    (λ c. search needs)
     returns
     section-requires
-    enum-known-second
-    enum-told-2
-    same-length-2
+    (λ c. search needs)
+    (λ c. search needs)
+    (λ c. search needs)
     returns-2
     sessions-requires
-    enum-known-third
-    enum-told-3
-    same-length-3
+    (λ c. search needs)
+    (λ c. search needs)
+    (λ c. search needs)
     returns-3
     rights-requires
-    enum-known-fourth
-    enum-told-4
-    same-length-4
+    (λ c. search needs)
+    (λ c. search needs)
+    (λ c. search needs)
     returns-4
     collections-requires
     same-length-5

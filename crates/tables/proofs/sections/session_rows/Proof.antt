@@ -28,12 +28,6 @@ session-row-requires c κs =
     let pre = c .before .before .before .before .pre in
     (c .before .loop .inv .along .within, pre .1 .0 .1)
 
-enum-known-row : tie.Need-enum-known-row Inv-loop μ-loop
-enum-known-row c = search needs
-
-enum-told : tie.Need-enum-told Inv-loop μ-loop
-enum-told c = search needs
-
 same-length : tie.Need-same-length Inv-loop μ-loop
 same-length c =
     let loop = c .before .before .before .before .loop in
@@ -58,9 +52,6 @@ cast-item : tie.Need-cast-item Inv-loop μ-loop
 cast-item c =
     let loop = c .before .before .before .before .before .before .loop in
     omega (arith, c .shared-slice-known2 .given (loop .from))
-
-item-requires : tie.Need-item-requires Inv-loop μ-loop
-item-requires c κs = search needs
 
 add-words : tie.Need-add-words Inv-loop μ-loop
 add-words c =
@@ -96,12 +87,6 @@ slice-write-words-2 c =
     let loop = c .before .before .before .before .before .before .before .loop in
     simp length-set (omega (arith, pre, loop .inv .long))
 
-add-i : tie.Need-add-i Inv-loop μ-loop
-add-i c = search needs
-
-loop-less : tie.Need-loop-less Inv-loop μ-loop
-loop-less c = search needs
-
 loop-again : tie.Need-loop-again Inv-loop μ-loop
 loop-again c =
     let args = c .before .before .before .before .before .before .before .before .before .before .args in
@@ -129,21 +114,21 @@ session-rows-spec =
     μ-loop
     loop-holds
     session-row-requires
-    enum-known-row
-    enum-told
+    (λ c. search needs)
+    (λ c. search needs)
     same-length
     returns
     shared-slice-read-item
     cast-item
-    item-requires
+    (λ c κs. search needs)
     add-words
     mul-words
     slice-write-words
     add-words-2
     mul-words-2
     slice-write-words-2
-    add-i
-    loop-less
+    (λ c. search needs)
+    (λ c. search needs)
     loop-again
     same-length-2
     returns-2)

@@ -11,24 +11,12 @@ use borrow.Author.Needs.{needs}
 use Rattle.tables.proofs.sections.sessions.Statement.{statement}
 use Rattle.tables.proofs.sections.sessions.Tie as tie
 
-count-requires : tie.Need-count-requires
-count-requires c κs = search needs
-
-enum-known-read : tie.Need-enum-known-read
-enum-known-read c = search needs
-
-enum-told : tie.Need-enum-told
-enum-told c = search needs
-
 returns : tie.Need-returns
 returns c =
     let args = c .before .before .before .before .before .args in
     let count = c .before .before .count in
     stops-as (c .enum-told .given .1)
     (section-stop (args .bytes .now) (args .at) (λ n. sessionRow (args .users) (args .roles)) (as-stop (count .ensures) (c .enum-told .given .1)))
-
-slice-write-words : tie.Need-slice-write-words
-slice-write-words c = search needs
 
 session-rows-requires : tie.Need-session-rows-requires
 session-rows-requires c κs =
@@ -57,11 +45,11 @@ pub sessions-spec : {M : Type 1} → statement M
 sessions-spec =
     tie.close
     (tie.spec
-    count-requires
-    enum-known-read
-    enum-told
+    (λ c κs. search needs)
+    (λ c. search needs)
+    (λ c. search needs)
     returns
-    slice-write-words
+    (λ c. search needs)
     session-rows-requires
     same-length
     returns-2)

@@ -7,21 +7,6 @@ use borrow.Author.Needs.{needs}
 use Rattle.values.proofs.calls.ranked.Statement.{statement}
 use Rattle.values.proofs.calls.ranked.Tie as tie
 
-is-sort-requires : tie.Need-is-sort-requires
-is-sort-requires c κs = search needs
-
-juniors-of-users-requires : tie.Need-juniors-of-users-requires
-juniors-of-users-requires c κs = search needs
-
-is-sort-requires-2 : tie.Need-is-sort-requires-2
-is-sort-requires-2 c κs = search needs
-
-seniors-of-permissions-requires : tie.Need-seniors-of-permissions-requires
-seniors-of-permissions-requires c κs = search needs
-
-juniors-of-sessions-requires : tie.Need-juniors-of-sessions-requires
-juniors-of-sessions-requires c κs = search needs
-
 returns : tie.Need-returns
 unfolding callValue sortAt
 returns c = λ T f e l. rw (sym (c .before .before .is-sort .ensures l) ∙ c .before .if1 .taken) (c .juniors-of-users .ensures T f e)
@@ -38,11 +23,11 @@ pub ranked-spec : {M : Type 1} → statement M
 ranked-spec =
     tie.close
     (tie.spec
-    is-sort-requires
-    juniors-of-users-requires
-    is-sort-requires-2
-    seniors-of-permissions-requires
-    juniors-of-sessions-requires
+    (λ c κs. search needs)
+    (λ c κs. search needs)
+    (λ c κs. search needs)
+    (λ c κs. search needs)
+    (λ c κs. search needs)
     returns
     returns-2
     returns-3)

@@ -7,21 +7,6 @@ use borrow.Author.Needs.{needs}
 use Rattle.values.proofs.calls.roles.Statement.{statement}
 use Rattle.values.proofs.calls.roles.Tie as tie
 
-is-sort-requires : tie.Need-is-sort-requires
-is-sort-requires c κs = search needs
-
-roles-of-users-requires : tie.Need-roles-of-users-requires
-roles-of-users-requires c κs = search needs
-
-is-sort-requires-2 : tie.Need-is-sort-requires-2
-is-sort-requires-2 c κs = search needs
-
-roles-of-permissions-requires : tie.Need-roles-of-permissions-requires
-roles-of-permissions-requires c κs = search needs
-
-roles-of-sessions-requires : tie.Need-roles-of-sessions-requires
-roles-of-sessions-requires c κs = search needs
-
 returns : tie.Need-returns
 unfolding callValue sortAt
 returns c = λ T f e l. rw (sym (c .before .before .is-sort .ensures l) ∙ c .before .if1 .taken) (c .roles-of-users .ensures T f e)
@@ -38,11 +23,11 @@ pub roles-spec : {M : Type 1} → statement M
 roles-spec =
     tie.close
     (tie.spec
-    is-sort-requires
-    roles-of-users-requires
-    is-sort-requires-2
-    roles-of-permissions-requires
-    roles-of-sessions-requires
+    (λ c κs. search needs)
+    (λ c κs. search needs)
+    (λ c κs. search needs)
+    (λ c κs. search needs)
+    (λ c κs. search needs)
     returns
     returns-2
     returns-3)

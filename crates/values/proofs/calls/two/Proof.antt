@@ -10,22 +10,13 @@ use Rattle.syntax.specs.code.Nodes.{firstJoin}
 use Rattle.values.proofs.calls.two.Statement.{statement}
 use Rattle.values.proofs.calls.two.Tie as tie
 
-operations-on-requires : tie.Need-operations-on-requires
-operations-on-requires c κs = search needs
-
 returns : tie.Need-returns
 unfolding pairAt twoValue call2Value opValue
 returns c = λ T f e. rw (c .before .if1 .taken) (c .operations-on .ensures T f e)
 
-meet-requires : tie.Need-meet-requires
-meet-requires c κs = search needs
-
 returns-2 : tie.Need-returns-2
 unfolding pairAt twoValue call2Value opValue
 returns-2 c = λ T f e. rw (c .before .if2 .taken) (c .meet .ensures)
-
-join-requires : tie.Need-join-requires
-join-requires c κs = search needs
 
 returns-3 : tie.Need-returns-3
 unfolding pairAt twoValue call2Value opValue
@@ -36,4 +27,4 @@ returns-3 c = λ T f e.
 pub two-spec : {M : Type 1} → statement M
 two-spec =
     tie.close
-    (tie.spec operations-on-requires returns meet-requires returns-2 join-requires returns-3)
+    (tie.spec (λ c κs. search needs) returns (λ c κs. search needs) returns-2 (λ c κs. search needs) returns-3)

@@ -7,15 +7,6 @@ use borrow.Author.Needs.{needs}
 use Rattle.values.proofs.calls.user.Statement.{statement}
 use Rattle.values.proofs.calls.user.Tie as tie
 
-is-sort-requires : tie.Need-is-sort-requires
-is-sort-requires c κs = search needs
-
-user-of-roles-requires : tie.Need-user-of-roles-requires
-user-of-roles-requires c κs = search needs
-
-user-of-sessions-requires : tie.Need-user-of-sessions-requires
-user-of-sessions-requires c κs = search needs
-
 returns : tie.Need-returns
 unfolding callValue sortAt
 returns c = λ T f e l. rw (sym (c .before .before .is-sort .ensures l) ∙ c .before .if1 .taken) (c .user-of-roles .ensures T f e)
@@ -27,4 +18,4 @@ returns-2 c = λ T f e l. rw (sym (c .before .before .is-sort .ensures l) ∙ c 
 pub user-spec : {M : Type 1} → statement M
 user-spec =
     tie.close
-    (tie.spec is-sort-requires user-of-roles-requires user-of-sessions-requires returns returns-2)
+    (tie.spec (λ c κs. search needs) (λ c κs. search needs) (λ c κs. search needs) returns returns-2)

@@ -11,20 +11,11 @@ use borrow.Author.Needs.{needs}
 use Rattle.values.proofs.items.base.Statement.{statement}
 use Rattle.values.proofs.items.base.Tie as tie
 
-mul-at : tie.Need-mul-at
-mul-at c = search needs
-
-array-read-at : tie.Need-array-read-at
-array-read-at c = search needs
-
 mul-all : tie.Need-mul-all
 mul-all c = let low = count-place (c .before .args .op) (c .before .pre .1) in search needs
 
 shared-slice-read-all : tie.Need-shared-slice-read-all
 shared-slice-read-all c = let low = count-place (c .before .before .args .op) (c .before .before .pre .1) in omega (arith, c .before .before .pre .0)
-
-all-requires : tie.Need-all-requires
-all-requires c κs = search needs
 
 returns : tie.Need-returns
 returns c = λ T e.
@@ -33,4 +24,4 @@ returns c = λ T e.
 
 pub base-spec : {M : Type 1} → statement M
 base-spec =
-    tie.close (tie.spec mul-at array-read-at mul-all shared-slice-read-all all-requires returns)
+    tie.close (tie.spec (λ c. search needs) (λ c. search needs) mul-all shared-slice-read-all (λ c κs. search needs) returns)

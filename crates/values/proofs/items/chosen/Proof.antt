@@ -7,17 +7,11 @@ use borrow.Author.Needs.{needs}
 use Rattle.values.proofs.items.chosen.Statement.{statement}
 use Rattle.values.proofs.items.chosen.Tie as tie
 
-shared-slice-read-result : tie.Need-shared-slice-read-result
-shared-slice-read-result c = search needs
-
 cast-result : tie.Need-cast-result
 cast-result c = omega (arith, c .shared-slice-known .given (c .before .before .args .u))
-
-returns : tie.Need-returns
-returns c = search needs
 
 returns-2 : tie.Need-returns-2
 returns-2 c = sym (List·getD-eq-default (c .before .args .choice .now) 0 (omega (arith, c .if1 .left)))
 
 pub chosen-spec : {M : Type 1} → statement M
-chosen-spec = tie.close (tie.spec shared-slice-read-result cast-result returns returns-2)
+chosen-spec = tie.close (tie.spec (λ c. search needs) cast-result (λ c. search needs) returns-2)

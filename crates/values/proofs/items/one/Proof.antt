@@ -12,9 +12,6 @@ use Rattle.values.proofs.items.one.Statement.{statement}
 use Rattle.rules.specs.code.Numbers.{firstCollection}
 use Rattle.values.proofs.items.one.Tie as tie
 
-item-requires : tie.Need-item-requires
-item-requires c κs = search needs
-
 returns : tie.Need-returns
 returns c = λ T f e l. c .item .ensures ∙ one-item T (c .before .before .before .args .x) (c .before .before .before .args .kind) (c .before .if1 .taken)
 
@@ -23,15 +20,6 @@ returns-2 c = λ T f e l. one-none T (c .before .before .before .args .x) (c .be
 
 returns-3 : tie.Need-returns-3
 returns-3 c = λ T f e l. one-far T (c .before .before .before .before .args .x) (c .before .before .before .before .args .kind) (c .before .before .if1 .left) (c .before .if2 .left) f (c .if3 .taken)
-
-cast-k : tie.Need-cast-k
-cast-k c = search needs
-
-mul-at : tie.Need-mul-at
-mul-at c = search needs
-
-array-read-at : tie.Need-array-read-at
-array-read-at c = search needs
 
 add-at : tie.Need-add-at
 add-at c = let low = collection-place (c .before .before .before .before .args .kind - firstCollection) (omega arith) in search needs
@@ -51,13 +39,13 @@ pub one-spec : {M : Type 1} → statement M
 one-spec =
     tie.close
     (tie.spec
-    item-requires
+    (λ c κs. search needs)
     returns
     returns-2
     returns-3
-    cast-k
-    mul-at
-    array-read-at
+    (λ c. search needs)
+    (λ c. search needs)
+    (λ c. search needs)
     add-at
     mul-result
     shared-slice-read-result

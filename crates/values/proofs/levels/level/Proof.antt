@@ -30,10 +30,14 @@ contains-requires : tie.Need-contains-requires Inv-loop μ-loop
 contains-requires c κs = c .before .before .before .before .pre .1 (c .before .before .loop .i - 1) (omega (arith, c .before .before .loop .inv .0, c .before .loop-test .taken))
 
 cast-result : tie.Need-cast-result Inv-loop μ-loop
-cast-result c = omega (arith, c .before .before .before .before .loop .inv .0, c .before .before .before .before .before .before .pre .0)
+cast-result c =
+    let at-start = c .before .before .before .before .before .before in
+    omega (arith, c .before .before .before .before .loop .inv .0, at-start .pre .0)
 
 returns : tie.Need-returns Inv-loop μ-loop
-returns c = level-here (c .before .before .before .before .before .before .args .order .now) (c .before .before .before .before .before .before .args .word) (c .before .before .before .before .loop .i) (c .before .before .before .before .loop .i) (c .before .before .before .before .loop .inv .0) (c .before .before .before .before .loop .inv .1) refl (λ pos. sym (c .before .contains .ensures) ∙ c .if1 .taken)
+returns c =
+    let at-start = c .before .before .before .before .before .before in
+    level-here (at-start .args .order .now) (at-start .args .word) (c .before .before .before .before .loop .i) (c .before .before .before .before .loop .i) (c .before .before .before .before .loop .inv .0) (c .before .before .before .before .loop .inv .1) refl (λ pos. sym (c .before .contains .ensures) ∙ c .if1 .taken)
 
 sub-i : tie.Need-sub-i Inv-loop μ-loop
 sub-i c = omega arith
@@ -42,10 +46,11 @@ loop-less : tie.Need-loop-less Inv-loop μ-loop
 loop-less c = omega arith
 
 loop-again : tie.Need-loop-again Inv-loop μ-loop
-loop-again c = (
-  omega (arith, c .before .before .before .before .loop .inv .0),
-  level-next (c .before .before .before .before .before .before .args .order .now) (c .before .before .before .before .before .before .args .word) (c .before .before .before .before .loop .i) (c .before .before .before .loop-test .taken) (c .before .before .before .before .loop .inv .1) (c .before .contains .result) (c .before .contains .ensures) (c .if1 .left),
-)
+loop-again c =
+    let at-start = c .before .before .before .before .before .before in (
+      omega (arith, c .before .before .before .before .loop .inv .0),
+      level-next (at-start .args .order .now) (at-start .args .word) (c .before .before .before .before .loop .i) (c .before .before .before .loop-test .taken) (c .before .before .before .before .loop .inv .1) (c .before .contains .result) (c .before .contains .ensures) (c .if1 .left),
+    )
 
 returns-2 : tie.Need-returns-2 Inv-loop μ-loop
 returns-2 c = level-here (c .before .before .before .args .order .now) (c .before .before .before .args .word) (c .before .loop .i) 0 (c .before .loop .inv .0) (c .before .loop .inv .1) (omega (arith, c .loop-test .left)) (λ pos. absurd (omega arith))

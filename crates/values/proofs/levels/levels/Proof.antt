@@ -27,10 +27,14 @@ level-requires : tie.Need-level-requires Inv-loop μ-loop
 level-requires c κs = let P = c .before .before .before .before .before .before .pre in (P .2, P .3)
 
 array-write-found : tie.Need-array-write-found Inv-loop μ-loop
-array-write-found c = omega (arith, c .before .before .loop-test .taken, c .before .before .before .before .before .before .before .pre .1)
+array-write-found c =
+    let at-start = c .before .before .before .before .before .before .before in
+    omega (arith, c .before .before .loop-test .taken, at-start .pre .1)
 
 add-k : tie.Need-add-k Inv-loop μ-loop
-add-k c = omega (arith, c .before .before .loop-test .taken, c .before .before .before .before .before .before .before .pre .1)
+add-k c =
+    let at-start = c .before .before .before .before .before .before .before in
+    omega (arith, c .before .before .loop-test .taken, at-start .pre .1)
 
 loop-less : tie.Need-loop-less Inv-loop μ-loop
 loop-less c = omega arith

@@ -42,30 +42,22 @@ named-mul-node t c =
 named-shared-slice-read-node : (t : ℕ) → named-lts.Need-shared-slice-read-node (called t) (named-at t) named.Post
 named-shared-slice-read-node t c = omega (arith, c .before .before .before .pre .1 .1, c .before .before .before .pre .1 .0 .fits)
 
-named-operation-requires : (t : ℕ) → named-lts.Need-operation-requires (called t) (named-at t) named.Post
-named-operation-requires t c κs = search needs
-
 named-returns : (t : ℕ) → named-lts.Need-returns (called t) (named-at t) named.Post
 named-returns t c = λ σ w t′ x u l.
     let P = c .before .before .before .before .before .pre .1 in
     names-base (P .0) w (c .before .before .before .before .before .args .k) (P .1) t′ x u l (c .before .operation .ensures) (c .if1 .taken)
 
 named-returns-2 : (t : ℕ) → named-lts.Need-returns-2 (called t) (named-at t) named.Post
-named-returns-2 t c = λ σ w t′ x u l. absurd (omega (arith, term-small (c .before .before .before .before .before .before .args .nodes .now) (c .before .before .before .before .before .before .args .k) t′ x, c .before .before .operation .ensures, c .if2 .taken))
-
-named-left-requires : (t : ℕ) → named-lts.Need-left-requires (called t) (named-at t) named.Post
-named-left-requires t c κs = search needs
-
-named-own-requires : (t : ℕ) → named-lts.Need-own-requires (called t) (named-at t) named.Post
-named-own-requires t c κs = search needs
+named-returns-2 t c =
+    let at-start = c .before .before .before .before .before .before in
+    λ σ w t′ x u l. absurd (omega (arith, term-small (at-start .args .nodes .now) (at-start .args .k) t′ x, c .before .before .operation .ensures, c .if2 .taken))
 
 named-returns-3 : (t : ℕ) → named-lts.Need-returns-3 (called t) (named-at t) named.Post
-named-returns-3 t c = λ σ w t′ x u l.
+named-returns-3 t c =
+    let at-start = c .before .before .before .before .before .before .before .before .before in
+    λ σ w t′ x u l.
     let P = c .before .before .before .before .before .before .before .before .before .pre .1 in
-    names-one (P .0) w (c .before .before .before .before .before .before .before .before .before .args .k) (P .1) t′ x u l (c .before .before .before .before .before .operation .ensures) (c .before .before .left .ensures) (c .before .if3 .taken) (c .own .result) (c .own .ensures)
-
-named-cast-named : (t : ℕ) → named-lts.Need-cast-named (called t) (named-at t) named.Post
-named-cast-named t c = search needs
+    names-one (P .0) w (at-start .args .k) (P .1) t′ x u l (c .before .before .before .before .before .operation .ensures) (c .before .before .left .ensures) (c .before .if3 .taken) (c .own .result) (c .own .ensures)
 
 named-named-requires : (t : ℕ) → named-lts.Need-named-requires (called t) (named-at t) named.Post
 named-named-requires t c κs =
@@ -74,43 +66,42 @@ named-named-requires t c κs =
     (omega (arith, P .0, b), (P .1 .0, omega (arith, P .1 .1, b)))
 
 named-returns-4 : (t : ℕ) → named-lts.Need-returns-4 (called t) (named-at t) named.Post
-named-returns-4 t c = λ σ w t′ x u l.
+named-returns-4 t c =
+    let at-operation = c .before .before .before .before .before .before in
+    let at-start = at-operation .before .before .before .before in
+    λ σ w t′ x u l.
     let P = c .before .before .before .before .before .before .before .before .before .before .pre .1 in
-    names-call (P .0) w (c .before .before .before .before .before .before .before .before .before .before .args .k) (P .1) t′ x u l (c .before .before .before .before .before .before .operation .ensures) (c .before .before .before .left .ensures) (c .before .before .before .before .before .if1 .left) (c .if4 .taken) (c .before .named .result) (λ a y. c .before .named .ensures σ w a y u l)
-
-named-own-requires-2 : (t : ℕ) → named-lts.Need-own-requires-2 (called t) (named-at t) named.Post
-named-own-requires-2 t c κs = search needs
-
-named-join-requires : (t : ℕ) → named-lts.Need-join-requires (called t) (named-at t) named.Post
-named-join-requires t c κs = search needs
+    names-call (P .0) w (at-start .args .k) (P .1) t′ x u l (at-operation .operation .ensures) (c .before .before .before .left .ensures) (c .before .before .before .before .before .if1 .left) (c .if4 .taken) (c .before .named .result) (λ a y. c .before .named .ensures σ w a y u l)
 
 named-returns-5 : (t : ℕ) → named-lts.Need-returns-5 (called t) (named-at t) named.Post
-named-returns-5 t c = λ σ w t′ x u l.
+named-returns-5 t c =
+    let at-left = c .before .before .before .before .before .before in
+    let at-operation = at-left .before .before .before in
+    let at-start = at-operation .before .before .before .before in
+    λ σ w t′ x u l.
     let P = c .before .before .before .before .before .before .before .before .before .before .before .before .before .pre .1 in
-    names-others (P .0) w (c .before .before .before .before .before .before .before .before .before .before .before .before .before .args .k) (P .1) t′ x u l (c .before .before .before .before .before .before .before .before .before .operation .ensures) (c .before .before .before .before .before .before .left .ensures) (c .before .before .if5 .taken) (c .before .own2 .result) (c .before .before .before .before .named .result) (c .join .result) (c .before .own2 .ensures) (λ a y. c .before .before .before .before .named .ensures σ w a y u l) (c .join .ensures)
-
-named-right-requires : (t : ℕ) → named-lts.Need-right-requires (called t) (named-at t) named.Post
-named-right-requires t c κs = search needs
-
-named-cast-named-2 : (t : ℕ) → named-lts.Need-cast-named-2 (called t) (named-at t) named.Post
-named-cast-named-2 t c = search needs
+    names-others (P .0) w (at-start .args .k) (P .1) t′ x u l (at-operation .operation .ensures) (at-left .left .ensures) (c .before .before .if5 .taken) (c .before .own2 .result) (c .before .before .before .before .named .result) (c .join .result) (c .before .own2 .ensures) (λ a y. c .before .before .before .before .named .ensures σ w a y u l) (c .join .ensures)
 
 named-named-requires-2 : (t : ℕ) → named-lts.Need-named-requires-2 (called t) (named-at t) named.Post
 named-named-requires-2 t c κs =
+    let at-if2 = c .before .before .before .before .before .before in
+    let at-operation = at-if2 .before .before in
     let P = c .before .before .before .before .before .before .before .before .before .before .before .before .pre in
-    let low : firstPair ≤ c .before .before .before .before .before .before .before .before .operation .result = omega (arith, c .before .before .before .before .if3 .left, c .before .before .if4 .left, c .before .if5 .left) in
-    let high : c .before .before .before .before .before .before .before .before .operation .result < firstEmpty = omega (arith, c .before .before .before .before .before .before .if2 .left) in
-    let b = right-below (P .1 .0) (P .1 .1) (c .before .before .before .before .before .before .before .before .operation .ensures) (c .right .ensures) (two-low _ low high) in
+    let low : firstPair ≤ at-operation .operation .result = omega (arith, c .before .before .before .before .if3 .left, c .before .before .if4 .left, c .before .if5 .left) in
+    let high : at-operation .operation .result < firstEmpty = omega (arith, at-if2 .if2 .left) in
+    let b = right-below (P .1 .0) (P .1 .1) (at-operation .operation .ensures) (c .right .ensures) (two-low _ low high) in
     (omega (arith, P .0, b), (P .1 .0, omega (arith, P .1 .1, b)))
 
-named-join-requires-2 : (t : ℕ) → named-lts.Need-join-requires-2 (called t) (named-at t) named.Post
-named-join-requires-2 t c κs = search needs
-
 named-returns-6 : (t : ℕ) → named-lts.Need-returns-6 (called t) (named-at t) named.Post
-named-returns-6 t c = λ σ w t′ x u l.
-    let low : firstPair ≤ c .before .before .before .before .before .before .before .before .before .before .operation .result = omega (arith, c .before .before .before .before .before .before .if3 .left, c .before .before .before .before .if4 .left, c .before .before .before .if5 .left) in
+named-returns-6 t c =
+    let at-if3 = c .before .before .before .before .before .before in
+    let at-left = at-if3 .before in
+    let at-operation = at-left .before .before .before in
+    let at-start = at-operation .before .before .before .before in
+    λ σ w t′ x u l.
+    let low : firstPair ≤ at-operation .operation .result = omega (arith, at-if3 .if3 .left, c .before .before .before .before .if4 .left, c .before .before .before .if5 .left) in
     let P = c .before .before .before .before .before .before .before .before .before .before .before .before .before .before .pre .1 in
-    names-two (P .0) w (c .before .before .before .before .before .before .before .before .before .before .before .before .before .before .args .k) (P .1) t′ x u l (c .before .before .before .before .before .before .before .before .before .before .operation .ensures) (c .before .before .before .before .before .before .before .left .ensures) low (c .before .before .right .ensures) (c .before .before .before .before .before .named .result) (c .before .named2 .result) (c .join2 .result) (λ a y. c .before .before .before .before .before .named .ensures σ w a y u l) (λ a y. c .before .named2 .ensures σ w a y u l) (c .join2 .ensures)
+    names-two (P .0) w (at-start .args .k) (P .1) t′ x u l (at-operation .operation .ensures) (at-left .left .ensures) low (c .before .before .right .ensures) (c .before .before .before .before .before .named .result) (c .before .named2 .result) (c .join2 .result) (λ a y. c .before .before .before .before .before .named .ensures σ w a y u l) (λ a y. c .before .named2 .ensures σ w a y u l) (c .join2 .ensures)
 
 pub +named-spec : {M : Type 1} → statement M
 +named-spec = close μ-named λ t. named-lts.spec (called t)
@@ -118,20 +109,20 @@ pub +named-spec : {M : Type 1} → statement M
     named.Post
     (named-mul-node t)
     (named-shared-slice-read-node t)
-    (named-operation-requires t)
+    (λ c κs. search needs)
     (named-returns t)
     (named-returns-2 t)
-    (named-left-requires t)
-    (named-own-requires t)
+    (λ c κs. search needs)
+    (λ c κs. search needs)
     (named-returns-3 t)
-    (named-cast-named t)
+    (λ c. search needs)
     (named-named-requires t)
     (named-returns-4 t)
-    (named-own-requires-2 t)
-    (named-join-requires t)
+    (λ c κs. search needs)
+    (λ c κs. search needs)
     (named-returns-5 t)
-    (named-right-requires t)
-    (named-cast-named-2 t)
+    (λ c κs. search needs)
+    (λ c. search needs)
     (named-named-requires-2 t)
-    (named-join-requires-2 t)
+    (λ c κs. search needs)
     (named-returns-6 t)

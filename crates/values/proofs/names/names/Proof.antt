@@ -35,10 +35,9 @@ named-requires : tie.Need-named-requires Inv-loop μ-loop
 named-requires c κs = (c .before .before .before .before .before .pre .0, c .before .before .before .before .before .pre .2 (c .before .before .loop .v) (c .before .loop-test .taken))
 
 mul-words : tie.Need-mul-words Inv-loop μ-loop
-mul-words c = omega (arith, c .before .before .before .before .before .before .pre .1)
-
-array-write-words : tie.Need-array-write-words Inv-loop μ-loop
-array-write-words c = search needs
+mul-words c =
+    let at-start = c .before .before .before .before .before .before in
+    omega (arith, at-start .pre .1)
 
 add-v : tie.Need-add-v Inv-loop μ-loop
 add-v c = omega arith
@@ -74,7 +73,7 @@ names-spec =
     cast-named
     named-requires
     mul-words
-    array-write-words
+    (λ c. search needs)
     add-v
     loop-less
     loop-again

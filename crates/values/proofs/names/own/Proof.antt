@@ -7,14 +7,8 @@ use borrow.Author.Needs.{needs}
 use Rattle.values.proofs.names.own.Statement.{statement}
 use Rattle.values.proofs.names.own.Tie as tie
 
-seek-requires : tie.Need-seek-requires
-seek-requires c κs = search needs
-
-item-requires : tie.Need-item-requires
-item-requires c κs = search needs
-
 returns : tie.Need-returns
 returns c = c .item .ensures ∙ ap itemOf (placed (c .before .seek .ensures))
 
 pub own-spec : {M : Type 1} → statement M
-own-spec = tie.close (tie.spec seek-requires item-requires returns)
+own-spec = tie.close (tie.spec (λ c κs. search needs) (λ c κs. search needs) returns)

@@ -10,14 +10,8 @@ use borrow.Author.Needs.{needs}
 use Rattle.values.proofs.plan.chosen.Statement.{statement}
 use Rattle.values.proofs.plan.chosen.Tie as tie
 
-byte-requires : tie.Need-byte-requires
-byte-requires c κs = search needs
-
-returns : tie.Need-returns
-returns c = search needs
-
 returns-2 : tie.Need-returns-2
 returns-2 c = let l : length (choiceOf (c .before .args .choice)) ≤ c .before .args .u = omega (arith, bytes-length 8 (c .before .args .choice), c .if1 .left) in sym (List·getD-eq-default (choiceOf (c .before .args .choice)) 0 l)
 
 pub chosen-spec : {M : Type 1} → statement M
-chosen-spec = tie.close (tie.spec byte-requires returns returns-2)
+chosen-spec = tie.close (tie.spec (λ c κs. search needs) (λ c. search needs) returns-2)

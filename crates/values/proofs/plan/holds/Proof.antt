@@ -41,16 +41,24 @@ mul-if1 : tie.Need-mul-if1 Inv-loop μ-loop
 mul-if1 c = omega (arith, c .before .before .before .before .before .pre .0 .fewClauses, c .loop-test .taken)
 
 shared-slice-read-if1 : tie.Need-shared-slice-read-if1 Inv-loop μ-loop
-shared-slice-read-if1 c = omega (arith, c .before .before .before .before .before .before .pre .0 .fewClauses, c .before .before .before .before .before .before .pre .0 .long, c .before .loop-test .taken)
+shared-slice-read-if1 c =
+    let at-start = c .before .before .before .before .before .before in
+    omega (arith, at-start .pre .0 .fewClauses, at-start .pre .0 .long, c .before .loop-test .taken)
 
 add-word : tie.Need-add-word Inv-loop μ-loop
-add-word c = omega (arith, c .before .before .before .before .before .before .before .pre .0 .fewClauses, c .before .before .loop-test .taken)
+add-word c =
+    let at-start = c .before .before .before .before .before .before .before in
+    omega (arith, at-start .pre .0 .fewClauses, c .before .before .loop-test .taken)
 
 mul-word : tie.Need-mul-word Inv-loop μ-loop
-mul-word c = omega (arith, c .before .before .before .before .before .before .before .pre .0 .fewClauses, c .before .before .loop-test .taken)
+mul-word c =
+    let at-start = c .before .before .before .before .before .before .before in
+    omega (arith, at-start .pre .0 .fewClauses, c .before .before .loop-test .taken)
 
 shared-slice-read-word : tie.Need-shared-slice-read-word Inv-loop μ-loop
-shared-slice-read-word c = omega (arith, c .before .before .before .before .before .before .before .before .pre .0 .fewClauses, c .before .before .before .before .before .before .before .before .pre .0 .long, c .before .before .before .loop-test .taken)
+shared-slice-read-word c =
+    let at-start = c .before .before .before .before .before .before .before .before in
+    omega (arith, at-start .pre .0 .fewClauses, at-start .pre .0 .long, c .before .before .before .loop-test .taken)
 
 cast-first : tie.Need-cast-first Inv-loop μ-loop
 cast-first c = omega arith
@@ -59,32 +67,37 @@ cast-second : tie.Need-cast-second Inv-loop μ-loop
 cast-second c = omega (arith, c .shared-slice-known5 .given (256 + c .before .before .before .before .loop .i))
 
 clause-requires : tie.Need-clause-requires Inv-loop μ-loop
-clause-requires c κs = (low-more (c .before .before .before .before .before .before .before .before .pre .0 .firsts (c .before .before .before .before .loop .i) (c .before .before .before .loop-test .taken)) (omega (arith, c .before .before .before .before .before .before .before .before .pre .1)), low-more (c .before .before .before .before .before .before .before .before .pre .0 .seconds (c .before .before .before .before .loop .i) (c .before .before .before .loop-test .taken)) (omega (arith, c .before .before .before .before .before .before .before .before .pre .1)))
+clause-requires c κs =
+    let at-start = c .before .before .before .before .before .before .before .before in
+    (low-more (at-start .pre .0 .firsts (c .before .before .before .before .loop .i) (c .before .before .before .loop-test .taken)) (omega (arith, at-start .pre .1)), low-more (at-start .pre .0 .seconds (c .before .before .before .before .loop .i) (c .before .before .before .loop-test .taken)) (omega (arith, at-start .pre .1)))
 
 add-i : tie.Need-add-i Inv-loop μ-loop
-add-i c = omega (arith, c .before .before .before .before .before .before .before .pre .0 .fewClauses, c .before .before .loop-test .taken)
+add-i c =
+    let at-start = c .before .before .before .before .before .before .before in
+    omega (arith, at-start .pre .0 .fewClauses, c .before .before .loop-test .taken)
 
 loop-less : tie.Need-loop-less Inv-loop μ-loop
 loop-less c = omega (arith, c .before .before .loop-test .taken)
 
 loop-again : tie.Need-loop-again Inv-loop μ-loop
-loop-again c = (
-  omega (arith, c .before .before .loop-test .taken),
-  λ ns n ρ C T d K.
-      let i : ℕ = c .before .before .before .loop .i in
-      let h : i < clauseCount ρ = omega (arith, C .many, c .before .before .loop-test .taken) in
-      let P : List ℕ = c .before .before .before .before .before .before .before .args .plan .now in
-      let at : getD (drop levelsFrom P) i 0 ≡ getD P (levelsFrom + i) 0 = getD-drop levelsFrom P i 0 in
-      let q = c .before .before .before .loop .inv .1 ns n ρ C T d K in
-      ⊎-elim
-      (λ w. rw (w .4) (holds-false T ρ (drop levelsFrom P) (c .before .before .before .before .before .before .before .args .level) d i (c .before .before .before .loop .all) q (w .2 .result) (at ∙ w .0 .taken)
-      (w .2 .ensures ns n (clauseAt ρ i) (C .each i h) T (ruleVars [] ρ) d (K i h (at ∙ w .0 .taken))) (not-true _ (w .3 .taken))))
-      (⊎-elim
-      (λ w. rw (w .4) (holds-true T ρ (drop levelsFrom P) (c .before .before .before .before .before .before .before .args .level) d i (c .before .before .before .loop .all) q (w .2 .result) (at ∙ w .0 .taken)
-      (w .2 .ensures ns n (clauseAt ρ i) (C .each i h) T (ruleVars [] ρ) d (K i h (at ∙ w .0 .taken))) (not-false _ (w .3 .left))))
-      (λ w. rw (w .1) (holds-out T ρ (drop levelsFrom P) (c .before .before .before .before .before .before .before .args .level) d i (c .before .before .before .loop .all) q (λ e. w .0 .left (sym at ∙ e)))))
-      (c .if1 .came),
-)
+loop-again c =
+    let at-start = c .before .before .before .before .before .before .before in (
+      omega (arith, c .before .before .loop-test .taken),
+      λ ns n ρ C T d K.
+          let i : ℕ = c .before .before .before .loop .i in
+          let h : i < clauseCount ρ = omega (arith, C .many, c .before .before .loop-test .taken) in
+          let P : List ℕ = at-start .args .plan .now in
+          let at : getD (drop levelsFrom P) i 0 ≡ getD P (levelsFrom + i) 0 = getD-drop levelsFrom P i 0 in
+          let q = c .before .before .before .loop .inv .1 ns n ρ C T d K in
+          ⊎-elim
+          (λ w. rw (w .4) (holds-false T ρ (drop levelsFrom P) (at-start .args .level) d i (c .before .before .before .loop .all) q (w .2 .result) (at ∙ w .0 .taken)
+          (w .2 .ensures ns n (clauseAt ρ i) (C .each i h) T (ruleVars [] ρ) d (K i h (at ∙ w .0 .taken))) (not-true _ (w .3 .taken))))
+          (⊎-elim
+          (λ w. rw (w .4) (holds-true T ρ (drop levelsFrom P) (at-start .args .level) d i (c .before .before .before .loop .all) q (w .2 .result) (at ∙ w .0 .taken)
+          (w .2 .ensures ns n (clauseAt ρ i) (C .each i h) T (ruleVars [] ρ) d (K i h (at ∙ w .0 .taken))) (not-false _ (w .3 .left))))
+          (λ w. rw (w .1) (holds-out T ρ (drop levelsFrom P) (at-start .args .level) d i (c .before .before .before .loop .all) q (λ e. w .0 .left (sym at ∙ e)))))
+          (c .if1 .came),
+    )
 
 returns : tie.Need-returns Inv-loop μ-loop
 returns c = λ ns n ρ C T d K.

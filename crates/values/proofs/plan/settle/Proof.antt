@@ -38,22 +38,34 @@ loop-holds : tie.Need-loop-holds Inv-loop μ-loop
 loop-holds c = (refl, λ ns m ks vs order levels N M S. partly-none _ (N .starts (c .before .before .before .before .before .args .level) (c .before .before .before .before .before .pre .3)) S)
 
 mul-word : tie.Need-mul-word Inv-loop μ-loop
-mul-word c = omega (arith, c .before .before .before .before .before .before .before .pre .1 .fewNodes, c .loop-test .taken)
+mul-word c =
+    let at-start = c .before .before .before .before .before .before .before in
+    omega (arith, at-start .pre .1 .fewNodes, c .loop-test .taken)
 
 shared-slice-read-word : tie.Need-shared-slice-read-word Inv-loop μ-loop
-shared-slice-read-word c = omega (arith, c .before .before .before .before .before .before .before .before .pre .1 .fewNodes, c .before .before .before .before .before .before .before .before .pre .1 .long, c .before .loop-test .taken)
+shared-slice-read-word c =
+    let at-start = c .before .before .before .before .before .before .before .before in
+    omega (arith, at-start .pre .1 .fewNodes, at-start .pre .1 .long, c .before .loop-test .taken)
 
 step-requires : tie.Need-step-requires Inv-loop μ-loop
-step-requires c κs = (c .before .before .before .before .before .before .before .before .before .pre .0, low-more (c .before .before .before .before .before .before .before .before .before .pre .1 .nodes (c .before .before .before .loop .k) (c .before .before .loop-test .taken)) (omega (arith, c .before .before .before .before .before .before .before .before .before .pre .2, c .before .before .before .loop .inv .0)))
+step-requires c κs =
+    let at-start = c .before .before .before .before .before .before .before .before .before in
+    (at-start .pre .0, low-more (at-start .pre .1 .nodes (c .before .before .before .loop .k) (c .before .before .loop-test .taken)) (omega (arith, at-start .pre .2, c .before .before .before .loop .inv .0)))
 
 mul-cache : tie.Need-mul-cache Inv-loop μ-loop
-mul-cache c = omega (arith, c .before .before .before .before .before .before .before .before .before .before .pre .1 .fewNodes, c .before .before .before .loop-test .taken)
+mul-cache c =
+    let at-start = c .before .before .before .before .before .before .before .before .before .before in
+    omega (arith, at-start .pre .1 .fewNodes, c .before .before .before .loop-test .taken)
 
 slice-write-cache : tie.Need-slice-write-cache Inv-loop μ-loop
-slice-write-cache c = omega (arith, c .before .before .before .before .before .before .before .before .before .before .pre .1 .fewNodes, c .before .before .before .before .before .before .before .before .before .before .pre .2, c .before .before .before .before .loop .inv .0, c .before .before .before .loop-test .taken)
+slice-write-cache c =
+    let at-start = c .before .before .before .before .before .before .before .before .before .before in
+    omega (arith, at-start .pre .1 .fewNodes, at-start .pre .2, c .before .before .before .before .loop .inv .0, c .before .before .before .loop-test .taken)
 
 loop-less : tie.Need-loop-less Inv-loop μ-loop
-loop-less c = omega (arith, c .before .before .before .before .before .before .before .before .before .before .pre .1 .up (c .before .before .before .before .loop .k) (c .before .before .before .loop-test .taken), c .before .before .before .loop-test .taken)
+loop-less c =
+    let at-start = c .before .before .before .before .before .before .before .before .before .before in
+    omega (arith, at-start .pre .1 .up (c .before .before .before .before .loop .k) (c .before .before .before .loop-test .taken), c .before .before .before .loop-test .taken)
 
 loop-again : tie.Need-loop-again Inv-loop μ-loop
 loop-again c = (
@@ -72,7 +84,9 @@ same-length : tie.Need-same-length Inv-loop μ-loop
 same-length c = c .before .loop .inv .0
 
 returns : tie.Need-returns Inv-loop μ-loop
-returns c = λ ns m ks vs order levels N M S. partly-all (c .before .loop .k) (omega (arith, N .many, c .loop-test .left)) (omega (arith, N .many, c .before .before .before .before .before .before .before .pre .1 .fewNodes, c .before .before .before .before .before .before .before .pre .2, c .before .loop .inv .0)) (c .before .loop .inv .1 ns m ks vs order levels N M S)
+returns c =
+    let at-start = c .before .before .before .before .before .before .before in
+    λ ns m ks vs order levels N M S. partly-all (c .before .loop .k) (omega (arith, N .many, c .loop-test .left)) (omega (arith, N .many, at-start .pre .1 .fewNodes, at-start .pre .2, c .before .loop .inv .0)) (c .before .loop .inv .1 ns m ks vs order levels N M S)
 
 pub settle-spec : {M : Type 1} → statement M
 settle-spec =

@@ -5,20 +5,11 @@ use borrow.Author.Needs.{needs}
 use Rattle.values.proofs.scopes.clause.Statement.{statement}
 use Rattle.values.proofs.scopes.clause.Tie as tie
 
-test-requires : tie.Need-test-requires
-test-requires c κs = search needs
-
 returns : tie.Need-returns
 returns c = λ σ w q x u l. clause-one σ u q x (c .if1 .taken) (c .before .test .result) (λ p y. c .before .test .ensures σ w p y u l)
-
-test-requires-2 : tie.Need-test-requires-2
-test-requires-2 c κs = search needs
-
-join-requires : tie.Need-join-requires
-join-requires c κs = search needs
 
 returns-2 : tie.Need-returns-2
 returns-2 c = λ σ w q x u l. clause-two σ u q x (c .before .before .if1 .left) l (c .before .before .before .test .result) (c .before .test2 .result) (c .join .result) (λ p y. c .before .before .before .test .ensures σ w p y u l) (λ p y. c .before .test2 .ensures σ w p y u l) (c .join .ensures)
 
 pub clause-spec : {M : Type 1} → statement M
-clause-spec = tie.close (tie.spec test-requires returns test-requires-2 join-requires returns-2)
+clause-spec = tie.close (tie.spec (λ c κs. search needs) returns (λ c κs. search needs) (λ c κs. search needs) returns-2)

@@ -9,17 +9,8 @@ use borrow.Author.Needs.{needs}
 use Rattle.values.proofs.scopes.test.Statement.{statement}
 use Rattle.values.proofs.scopes.test.Tie as tie
 
-operation-requires : tie.Need-operation-requires
-operation-requires c κs = search needs
-
 returns : tie.Need-returns
 returns c = λ σ w p x u l. absurd (omega (arith, of-range x _ _ _ (c .before .operation .ensures) refl refl .least, c .if1 .taken))
-
-left-requires : tie.Need-left-requires
-left-requires c κs = search needs
-
-cast-named : tie.Need-cast-named
-cast-named c = search needs
 
 named-requires : tie.Need-named-requires
 named-requires c κs = (c .before .before .before .before .before .pre .0, omega (arith, c .before .before .before .before .before .pre .1 .left (omega (arith, c .before .if1 .left, c .before .before .operation .ensures)), c .left .ensures))
@@ -27,40 +18,34 @@ named-requires c κs = (c .before .before .before .before .before .pre .0, omega
 returns-2 : tie.Need-returns-2
 returns-2 c = λ σ w p x u l. scope-one x σ u _ _ _ (c .before .before .before .before .before .operation .ensures) (c .before .before .before .left .ensures) refl (c .before .if2 .taken) (c .if3 .taken) (c .before .before .named .result) (λ s y. c .before .before .named .ensures σ w s y u l)
 
-right-requires : tie.Need-right-requires
-right-requires c κs = search needs
-
-cast-named-2 : tie.Need-cast-named-2
-cast-named-2 c = search needs
-
 named-requires-2 : tie.Need-named-requires-2
-named-requires-2 c κs = (
-  c .before .before .before .before .before .before .before .before .pre .0,
-  ⊎-elim
-      (λ h. omega (arith, low-two₂ (c .before .before .before .before .before .before .before .before .pre .1) (omega (arith, h .1 .left, c .before .before .before .before .before .operation .ensures)), c .right .ensures))
-      (λ h. omega (arith, low-two (c .before .before .before .before .before .before .before .before .pre .1) (omega (arith, c .before .before .before .before .if1 .left, c .before .before .before .before .before .operation .ensures)) (omega (arith, h .left, c .before .before .before .before .before .operation .ensures)), c .right .ensures))
-      (c .before .if2 .came),
-)
-
-join-requires : tie.Need-join-requires
-join-requires c κs = search needs
+named-requires-2 c κs =
+    let at-start = c .before .before .before .before .before .before .before .before in (
+      at-start .pre .0,
+      ⊎-elim
+          (λ h. omega (arith, low-two₂ (at-start .pre .1) (omega (arith, h .1 .left, c .before .before .before .before .before .operation .ensures)), c .right .ensures))
+          (λ h. omega (arith, low-two (at-start .pre .1) (omega (arith, c .before .before .before .before .if1 .left, c .before .before .before .before .before .operation .ensures)) (omega (arith, h .left, c .before .before .before .before .before .operation .ensures)), c .right .ensures))
+          (c .before .if2 .came),
+    )
 
 returns-3 : tie.Need-returns-3
-returns-3 c = λ σ w p x u l. scope-two x σ u _ _ _ (c .before .before .before .before .before .before .before .operation .ensures) (c .before .before .before .before .before .left .ensures) (c .before .before .right .ensures) (λ m. ⊎-elim (λ h. h .1 .left) (λ h. absurd (omega (arith, h .left))) (c .before .before .before .if2 .came)) l
+returns-3 c =
+    let at-operation = c .before .before .before .before .before .before .before in
+    λ σ w p x u l. scope-two x σ u _ _ _ (at-operation .operation .ensures) (c .before .before .before .before .before .left .ensures) (c .before .before .right .ensures) (λ m. ⊎-elim (λ h. h .1 .left) (λ h. absurd (omega (arith, h .left))) (c .before .before .before .if2 .came)) l
     (c .before .before .before .before .named .result) (c .before .named2 .result) (c .join .result) (λ s y. c .before .before .before .before .named .ensures σ w s y u l) (λ s y. c .before .named2 .ensures σ w s y u l) (c .join .ensures)
 
 pub test-spec : {M : Type 1} → statement M
 test-spec =
     tie.close
     (tie.spec
-    operation-requires
+    (λ c κs. search needs)
     returns
-    left-requires
-    cast-named
+    (λ c κs. search needs)
+    (λ c. search needs)
     named-requires
     returns-2
-    right-requires
-    cast-named-2
+    (λ c κs. search needs)
+    (λ c. search needs)
     named-requires-2
-    join-requires
+    (λ c κs. search needs)
     returns-3)

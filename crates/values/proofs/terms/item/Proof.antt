@@ -8,14 +8,8 @@ use borrow.Author.Needs.{needs}
 use Rattle.values.proofs.terms.item.Statement.{statement}
 use Rattle.values.proofs.terms.item.Tie as tie
 
-seek-requires : tie.Need-seek-requires
-seek-requires c κs = search needs
-
-chosen-requires : tie.Need-chosen-requires
-chosen-requires c κs = search needs
-
 returns : tie.Need-returns
 returns c = c .chosen .ensures ∙ ap (λ (u : ℕ). getD (c .before .before .before .before .args .choice .now) u 0) (placed (c .before .seek .ensures))
 
 pub item-spec : {M : Type 1} → statement M
-item-spec = tie.close (tie.spec seek-requires chosen-requires returns)
+item-spec = tie.close (tie.spec (λ c κs. search needs) (λ c κs. search needs) returns)

@@ -26,37 +26,40 @@ loop-holds c = (refl, λ order levels d M L F S. partly-none _ F S)
 step-requires : tie.Need-step-requires Inv-loop μ-loop
 step-requires c κs = let P = c .before .before .before .before .before .before .before .before .before .before .pre in (P .0 (c .before .before .loop .k) (c .before .loop-test .taken), omega (arith, P .1, c .before .before .loop .inv .0))
 
-mul-cache : tie.Need-mul-cache Inv-loop μ-loop
-mul-cache c = search needs
-
 slice-write-cache : tie.Need-slice-write-cache Inv-loop μ-loop
-slice-write-cache c = omega (arith, c .before .before .before .before .before .before .before .before .before .before .before .pre .1, c .before .before .before .loop .inv .0, c .before .before .loop-test .taken)
-
-mul-k : tie.Need-mul-k Inv-loop μ-loop
-mul-k c = search needs
+slice-write-cache c =
+    let at-start = c .before .before .before .before .before .before .before .before .before .before .before in
+    omega (arith, at-start .pre .1, c .before .before .before .loop .inv .0, c .before .before .loop-test .taken)
 
 shared-slice-read-k : tie.Need-shared-slice-read-k Inv-loop μ-loop
-shared-slice-read-k c = omega (arith, c .before .before .before .before .before .before .before .before .before .before .before .before .pre .2 .long, c .before .before .before .loop-test .taken)
+shared-slice-read-k c =
+    let at-start = c .before .before .before .before .before .before .before .before .before .before .before .before in
+    omega (arith, at-start .pre .2 .long, c .before .before .before .loop-test .taken)
 
 cast-k : tie.Need-cast-k Inv-loop μ-loop
 cast-k c = omega (arith, c .shared-slice-known7 .given (c .before .before .before .before .loop .k))
 
 loop-less : tie.Need-loop-less Inv-loop μ-loop
-loop-less c = let up = c .before .before .before .before .before .before .before .before .before .before .before .before .pre .2 .up (c .before .before .before .before .loop .k) (c .before .before .before .loop-test .taken) in omega (arith, up, c .before .before .before .loop-test .taken)
+loop-less c =
+    let at-start = c .before .before .before .before .before .before .before .before .before .before .before .before in
+    let up = at-start .pre .2 .up (c .before .before .before .before .loop .k) (c .before .before .before .loop-test .taken) in omega (arith, up, c .before .before .before .loop-test .taken)
 
 loop-again : tie.Need-loop-again Inv-loop μ-loop
-loop-again c = (
-  length-set (c .before .before .before .before .loop .cache) (c .before .before .before .before .loop .k) (c .before .step .result) ∙ c .before .before .before .before .loop .inv .0,
-  λ order levels d M L F S.
-      partly-next (c .before .before .before .before .before .before .before .before .before .before .before .before .pre .0 (c .before .before .before .before .loop .k) (c .before .before .before .loop-test .taken) .tidy) M L (c .before .before .before .before .loop .k) (c .before .step .result) (c .before .before .before .loop-test .taken) (omega (arith, c .before .before .before .before .before .before .before .before .before .before .before .before .pre .1, c .before .before .before .before .loop .inv .0)) (c .before .step .ensures)
-      (c .before .before .before .before .loop .inv .1 order levels d M L F S),
-)
+loop-again c =
+    let at-start = c .before .before .before .before .before .before .before .before .before .before .before .before in (
+      length-set (c .before .before .before .before .loop .cache) (c .before .before .before .before .loop .k) (c .before .step .result) ∙ c .before .before .before .before .loop .inv .0,
+      λ order levels d M L F S.
+          partly-next (at-start .pre .0 (c .before .before .before .before .loop .k) (c .before .before .before .loop-test .taken) .tidy) M L (c .before .before .before .before .loop .k) (c .before .step .result) (c .before .before .before .loop-test .taken) (omega (arith, at-start .pre .1, c .before .before .before .before .loop .inv .0)) (c .before .step .ensures)
+          (c .before .before .before .before .loop .inv .1 order levels d M L F S),
+    )
 
 same-length : tie.Need-same-length Inv-loop μ-loop
 same-length c = c .before .loop .inv .0
 
 returns : tie.Need-returns Inv-loop μ-loop
-returns c = λ order levels d M L F S. partly-all (c .before .loop .k) (omega (arith, c .loop-test .left)) (omega (arith, c .before .before .before .before .before .before .before .before .before .pre .1, c .before .loop .inv .0)) (c .before .loop .inv .1 order levels d M L F S)
+returns c =
+    let at-start = c .before .before .before .before .before .before .before .before .before in
+    λ order levels d M L F S. partly-all (c .before .loop .k) (omega (arith, c .loop-test .left)) (omega (arith, at-start .pre .1, c .before .loop .inv .0)) (c .before .loop .inv .1 order levels d M L F S)
 
 pub settle-spec : {M : Type 1} → statement M
 settle-spec =
@@ -66,9 +69,9 @@ settle-spec =
     μ-loop
     loop-holds
     step-requires
-    mul-cache
+    (λ c. search needs)
     slice-write-cache
-    mul-k
+    (λ c. search needs)
     shared-slice-read-k
     cast-k
     loop-less

@@ -11,143 +11,115 @@ use borrow.Author.Needs.{needs}
 use Rattle.values.proofs.terms.step.Statement.{statement}
 use Rattle.values.proofs.terms.step.Tie as tie
 
-mul-node : tie.Need-mul-node
-mul-node c = search needs
-
-shared-slice-read-node : tie.Need-shared-slice-read-node
-shared-slice-read-node c = search needs
-
-operation-requires : tie.Need-operation-requires
-operation-requires c κs = search needs
-
-cast-base : tie.Need-cast-base
-cast-base c = search needs
-
-base-requires : tie.Need-base-requires
-base-requires c κs = search needs
-
 returns : tie.Need-returns
-returns c = λ T σ w a x F.
+returns c =
+    let at-start = c .before .before .before .before .before .before .before .before .before .before in
+    λ T σ w a x F.
     let R = c .before .before .before .before .before .before .before .before .before .before .pre .0 in
-    value-base (R .tidy) (R .kinded) w (c .before .before .before .before .before .before .before .before .before .before .args .choice .now) (c .before .before .before .before .before .before .before .before .before .before .args .k) (R .below) a x (c .before .before .operation .ensures) (c .before .if1 .taken) (c .base .ensures T (w .words))
+    value-base (R .tidy) (R .kinded) w (at-start .args .choice .now) (at-start .args .k) (R .below) a x (c .before .before .operation .ensures) (c .before .if1 .taken) (c .base .ensures T (w .words))
 
 returns-2 : tie.Need-returns-2
-returns-2 c = λ T σ w a x F. absurd (omega (arith, term-small (c .before .before .before .before .before .before .before .before .before .before .args .nodes .now) (c .before .before .before .before .before .before .before .before .before .before .args .k) a x, c .before .before .operation .ensures, c .if2 .taken))
-
-left-requires : tie.Need-left-requires
-left-requires c κs = search needs
-
-cast-left : tie.Need-cast-left
-cast-left c = search needs
-
-cast-item : tie.Need-cast-item
-cast-item c = search needs
-
-item-requires : tie.Need-item-requires
-item-requires c κs = search needs
+returns-2 c =
+    let at-start = c .before .before .before .before .before .before .before .before .before .before in
+    λ T σ w a x F. absurd (omega (arith, term-small (at-start .args .nodes .now) (at-start .args .k) a x, c .before .before .operation .ensures, c .if2 .taken))
 
 shared-slice-read-one : tie.Need-shared-slice-read-one
-shared-slice-read-one c = let R = c .before .before .before .before .before .before .before .before .before .before .before .before .before .before .pre .0 in omega (arith, left-below (R .tidy) (R .below) (c .before .before .before .before .before .before .operation .ensures) (c .before .before .before .left .ensures) (c .before .before .before .before .before .if1 .left), R .below, R .kinded)
-
-one-requires : tie.Need-one-requires
-one-requires c κs = search needs
+shared-slice-read-one c =
+    let at-operation = c .before .before .before .before .before .before in
+    let R = c .before .before .before .before .before .before .before .before .before .before .before .before .before .before .pre .0 in omega (arith, left-below (R .tidy) (R .below) (at-operation .operation .ensures) (c .before .before .before .left .ensures) (c .before .before .before .before .before .if1 .left), R .below, R .kinded)
 
 returns-3 : tie.Need-returns-3
-returns-3 c = λ T σ w a x F.
+returns-3 c =
+    let at-operation = c .before .before .before .before .before .before .before in
+    let at-start = at-operation .before .before .before .before .before .before .before .before in
+    λ T σ w a x F.
     let R = c .before .before .before .before .before .before .before .before .before .before .before .before .before .before .before .pre .0 in
-    value-one (R .tidy) (R .kinded) w (c .before .before .before .before .before .before .before .before .before .before .before .before .before .before .before .args .choice .now) (c .before .before .before .before .before .before .before .before .before .before .before .before .before .before .before .args .k) (R .below) a x (c .before .before .before .before .before .before .before .operation .ensures) (c .before .before .before .before .left .ensures) (c .before .before .item .result) (c .one .result) (c .before .before .before .if3 .taken) (c .before .before .item .ensures) (c .one .ensures T (w .fits) (w .words))
-
-mul-a : tie.Need-mul-a
-mul-a c = search needs
+    value-one (R .tidy) (R .kinded) w (at-start .args .choice .now) (at-start .args .k) (R .below) a x (at-operation .operation .ensures) (c .before .before .before .before .left .ensures) (c .before .before .item .result) (c .one .result) (c .before .before .before .if3 .taken) (c .before .before .item .ensures) (c .one .ensures T (w .fits) (w .words))
 
 shared-slice-read-a : tie.Need-shared-slice-read-a
 shared-slice-read-a c = let P = c .before .before .before .before .before .before .before .before .before .before .before .before .before .pre in omega (arith, left-below (P .0 .tidy) (P .0 .below) (c .before .before .before .before .before .operation .ensures) (c .before .before .left .ensures) (c .before .before .before .before .if1 .left), P .0 .below, P .1)
 
 shared-slice-read-call : tie.Need-shared-slice-read-call
-shared-slice-read-call c = let R = c .before .before .before .before .before .before .before .before .before .before .before .before .before .before .before .pre .0 in omega (arith, left-below (R .tidy) (R .below) (c .before .before .before .before .before .before .before .operation .ensures) (c .before .before .before .before .left .ensures) (c .before .before .before .before .before .before .if1 .left), R .below, R .kinded)
-
-call-requires : tie.Need-call-requires
-call-requires c κs = search needs
+shared-slice-read-call c =
+    let at-if1 = c .before .before .before .before .before .before in
+    let at-operation = at-if1 .before in
+    let R = c .before .before .before .before .before .before .before .before .before .before .before .before .before .before .before .pre .0 in omega (arith, left-below (R .tidy) (R .below) (at-operation .operation .ensures) (c .before .before .before .before .left .ensures) (at-if1 .if1 .left), R .below, R .kinded)
 
 returns-4 : tie.Need-returns-4
-returns-4 c = λ T σ w a x F.
+returns-4 c =
+    let at-if1 = c .before .before .before .before .before .before .before in
+    let at-operation = at-if1 .before in
+    let at-start = at-operation .before .before .before .before .before .before .before .before in
+    λ T σ w a x F.
     let R = c .before .before .before .before .before .before .before .before .before .before .before .before .before .before .before .before .pre .0 in
-    value-call (R .tidy) (R .kinded) w (c .before .before .before .before .before .before .before .before .before .before .before .before .before .before .before .before .args .choice .now) (c .before .before .before .before .before .before .before .before .before .before .before .before .before .before .before .before .args .k) (R .below) a x (c .before .before .before .before .before .before .before .before .operation .ensures) (c .before .before .before .before .before .left .ensures) _ (c .call .result) (c .before .before .before .before .before .before .before .if1 .left) (c .before .before .if4 .taken) (fed-left F (c .before .before .before .before .before .before .before .before .operation .ensures) (c .before .before .before .before .before .left .ensures) (c .before .before .before .before .before .before .before .if1 .left) (c .before .before .before .before .if3 .left)) (c .call .ensures T (w .fits) (w .words))
-
-cast-item-2 : tie.Need-cast-item-2
-cast-item-2 c = search needs
-
-item-requires-2 : tie.Need-item-requires-2
-item-requires-2 c κs = search needs
-
-item-requires-3 : tie.Need-item-requires-3
-item-requires-3 c κs = search needs
-
-less-requires : tie.Need-less-requires
-less-requires c κs = search needs
+    value-call (R .tidy) (R .kinded) w (at-start .args .choice .now) (at-start .args .k) (R .below) a x (at-operation .operation .ensures) (c .before .before .before .before .before .left .ensures) _ (c .call .result) (at-if1 .if1 .left) (c .before .before .if4 .taken) (fed-left F (at-operation .operation .ensures) (c .before .before .before .before .before .left .ensures) (at-if1 .if1 .left) (c .before .before .before .before .if3 .left)) (c .call .ensures T (w .fits) (w .words))
 
 returns-5 : tie.Need-returns-5
-returns-5 c = λ T σ w a x F.
+returns-5 c =
+    let at-if3 = c .before .before .before .before .before .before in
+    let at-left = at-if3 .before in
+    let at-if1 = at-left .before .before in
+    let at-operation = at-if1 .before in
+    let at-start = at-operation .before .before .before .before .before .before .before .before in
+    λ T σ w a x F.
     let R = c .before .before .before .before .before .before .before .before .before .before .before .before .before .before .before .before .before .before .pre .0 in
-    value-others (R .tidy) (R .kinded) w (c .before .before .before .before .before .before .before .before .before .before .before .before .before .before .before .before .before .before .args .choice .now) (c .before .before .before .before .before .before .before .before .before .before .before .before .before .before .before .before .before .before .args .k) (R .below) a x (c .before .before .before .before .before .before .before .before .before .before .operation .ensures) (c .before .before .before .before .before .before .before .left .ensures) _ (c .before .before .item2 .result) (c .before .item3 .result) (c .less .result) (c .before .before .before .if5 .taken) (fed-left F (c .before .before .before .before .before .before .before .before .before .before .operation .ensures) (c .before .before .before .before .before .before .before .left .ensures) (c .before .before .before .before .before .before .before .before .before .if1 .left) (c .before .before .before .before .before .before .if3 .left)) (c .before .before .item2 .ensures) (c .before .item3 .ensures) (c .less .ensures)
-
-right-requires : tie.Need-right-requires
-right-requires c κs = search needs
-
-cast-right : tie.Need-cast-right
-cast-right c = search needs
-
-mul-two : tie.Need-mul-two
-mul-two c = search needs
+    value-others (R .tidy) (R .kinded) w (at-start .args .choice .now) (at-start .args .k) (R .below) a x (at-operation .operation .ensures) (at-left .left .ensures) _ (c .before .before .item2 .result) (c .before .item3 .result) (c .less .result) (c .before .before .before .if5 .taken) (fed-left F (at-operation .operation .ensures) (at-left .left .ensures) (at-if1 .if1 .left) (at-if3 .if3 .left)) (c .before .before .item2 .ensures) (c .before .item3 .ensures) (c .less .ensures)
 
 shared-slice-read-two : tie.Need-shared-slice-read-two
 shared-slice-read-two c =
+    let at-left = c .before .before .before .before .before .before in
+    let at-if2 = at-left .before in
+    let at-if1 = at-if2 .before in
+    let at-operation = at-if1 .before in
     let P = c .before .before .before .before .before .before .before .before .before .before .before .before .before .before .before .before .before .pre in
-    let in-left = left-below (P .0 .tidy) (P .0 .below) (c .before .before .before .before .before .before .before .before .before .operation .ensures) (c .before .before .before .before .before .before .left .ensures) (c .before .before .before .before .before .before .before .before .if1 .left) in
-    let low : firstPair ≤ c .before .before .before .before .before .before .before .before .before .operation .result = omega (arith, c .before .before .before .before .before .if3 .left, c .before .before .before .if4 .left, c .before .before .if5 .left) in
-    let high : c .before .before .before .before .before .before .before .before .before .operation .result < firstEmpty = omega (arith, c .before .before .before .before .before .before .before .if2 .left) in
-    omega (arith, right-below (P .0 .tidy) (P .0 .below) (c .before .before .before .before .before .before .before .before .before .operation .ensures) (c .before .right .ensures) (two-low _ low high), P .0 .below, P .1)
-
-two-requires : tie.Need-two-requires
-two-requires c κs = search needs
+    let in-left = left-below (P .0 .tidy) (P .0 .below) (at-operation .operation .ensures) (at-left .left .ensures) (at-if1 .if1 .left) in
+    let low : firstPair ≤ at-operation .operation .result = omega (arith, c .before .before .before .before .before .if3 .left, c .before .before .before .if4 .left, c .before .before .if5 .left) in
+    let high : at-operation .operation .result < firstEmpty = omega (arith, at-if2 .if2 .left) in
+    omega (arith, right-below (P .0 .tidy) (P .0 .below) (at-operation .operation .ensures) (c .before .right .ensures) (two-low _ low high), P .0 .below, P .1)
 
 returns-6 : tie.Need-returns-6
-returns-6 c = λ T σ w a x F.
-    let low : firstPair ≤ c .before .before .before .before .before .before .before .before .before .before .operation .result = omega (arith, c .before .before .before .before .before .before .if3 .left, c .before .before .before .before .if4 .left, c .before .before .before .if5 .left) in
+returns-6 c =
+    let at-if3 = c .before .before .before .before .before .before in
+    let at-left = at-if3 .before in
+    let at-if1 = at-left .before .before in
+    let at-operation = at-if1 .before in
+    let at-start = at-operation .before .before .before .before .before .before .before .before in
+    λ T σ w a x F.
+    let low : firstPair ≤ at-operation .operation .result = omega (arith, at-if3 .if3 .left, c .before .before .before .before .if4 .left, c .before .before .before .if5 .left) in
     let R = c .before .before .before .before .before .before .before .before .before .before .before .before .before .before .before .before .before .before .pre .0 in
-    value-two (R .tidy) (R .kinded) w (c .before .before .before .before .before .before .before .before .before .before .before .before .before .before .before .before .before .before .args .choice .now) (c .before .before .before .before .before .before .before .before .before .before .before .before .before .before .before .before .before .before .args .k) (R .below) a x (c .before .before .before .before .before .before .before .before .before .before .operation .ensures) (c .before .before .before .before .before .before .before .left .ensures) (c .before .before .right .ensures) _ _ (c .two .result) low (fed-left F (c .before .before .before .before .before .before .before .before .before .before .operation .ensures) (c .before .before .before .before .before .before .before .left .ensures) (c .before .before .before .before .before .before .before .before .before .if1 .left) (c .before .before .before .before .before .before .if3 .left)) (fed-right F (c .before .before .before .before .before .before .before .before .before .before .operation .ensures) (c .before .before .right .ensures) low) (c .two .ensures T (w .fits) (w .words))
+    value-two (R .tidy) (R .kinded) w (at-start .args .choice .now) (at-start .args .k) (R .below) a x (at-operation .operation .ensures) (at-left .left .ensures) (c .before .before .right .ensures) _ _ (c .two .result) low (fed-left F (at-operation .operation .ensures) (at-left .left .ensures) (at-if1 .if1 .left) (at-if3 .if3 .left)) (fed-right F (at-operation .operation .ensures) (c .before .before .right .ensures) low) (c .two .ensures T (w .fits) (w .words))
 
 pub step-spec : {M : Type 1} → statement M
 step-spec =
     tie.close
     (tie.spec
-    mul-node
-    shared-slice-read-node
-    operation-requires
-    cast-base
-    base-requires
+    (λ c. search needs)
+    (λ c. search needs)
+    (λ c κs. search needs)
+    (λ c. search needs)
+    (λ c κs. search needs)
     returns
     returns-2
-    left-requires
-    cast-left
-    cast-item
-    item-requires
+    (λ c κs. search needs)
+    (λ c. search needs)
+    (λ c. search needs)
+    (λ c κs. search needs)
     shared-slice-read-one
-    one-requires
+    (λ c κs. search needs)
     returns-3
-    mul-a
+    (λ c. search needs)
     shared-slice-read-a
     shared-slice-read-call
-    call-requires
+    (λ c κs. search needs)
     returns-4
-    cast-item-2
-    item-requires-2
-    item-requires-3
-    less-requires
+    (λ c. search needs)
+    (λ c κs. search needs)
+    (λ c κs. search needs)
+    (λ c κs. search needs)
     returns-5
-    right-requires
-    cast-right
-    mul-two
+    (λ c κs. search needs)
+    (λ c. search needs)
+    (λ c. search needs)
     shared-slice-read-two
-    two-requires
+    (λ c κs. search needs)
     returns-6)

@@ -10,9 +10,6 @@ use borrow.Author.Needs.{needs}
 use Rattle.values.proofs.truth.related.Statement.{statement}
 use Rattle.values.proofs.truth.related.Tie as tie
 
-meet-requires : tie.Need-meet-requires
-meet-requires c κs = search needs
-
 returns : tie.Need-returns
 unfolding relatedAt
 returns c = rw (eq-eqb _ _ (c .before .if1 .taken)) (ap (λ (w : ℕ). not (eqb w 0)) (c .meet .ensures))
@@ -26,4 +23,4 @@ unfolding relatedAt
 returns-3 c = rw (ne-eqb _ _ (c .before .if1 .left), ne-eqb _ _ (c .if2 .left))
 
 pub related-spec : {M : Type 1} → statement M
-related-spec = tie.close (tie.spec meet-requires returns returns-2 returns-3)
+related-spec = tie.close (tie.spec (λ c κs. search needs) returns returns-2 returns-3)

@@ -26,63 +26,87 @@ mul-operation c = omega (arith, c .loop .inv .0, c .before .before .before .pre 
 shared-slice-read-operation : tie.Need-shared-slice-read-operation Inv-loop μ-loop
 shared-slice-read-operation c = omega (arith, c .before .loop .inv .0, c .before .before .before .before .pre .0 .fits)
 
-operation-requires : tie.Need-operation-requires Inv-loop μ-loop
-operation-requires c κs = search needs
-
 mul-left : tie.Need-mul-left Inv-loop μ-loop
-mul-left c = omega (arith, c .before .before .before .loop .inv .0, c .before .before .before .before .before .before .pre .0 .fits, c .before .before .before .before .before .before .pre .0 .size)
+mul-left c =
+    let at-start = c .before .before .before .before .before .before in
+    omega (arith, c .before .before .before .loop .inv .0, at-start .pre .0 .fits, at-start .pre .0 .size)
 
 shared-slice-read-left : tie.Need-shared-slice-read-left Inv-loop μ-loop
-shared-slice-read-left c = omega (arith, c .before .before .before .before .loop .inv .0, c .before .before .before .before .before .before .before .pre .0 .fits)
-
-left-requires : tie.Need-left-requires Inv-loop μ-loop
-left-requires c κs = search needs
+shared-slice-read-left c =
+    let at-start = c .before .before .before .before .before .before .before in
+    omega (arith, c .before .before .before .before .loop .inv .0, at-start .pre .0 .fits)
 
 cast-left : tie.Need-cast-left Inv-loop μ-loop
 cast-left c = omega arith
 
 tests-at-requires : tie.Need-tests-at-requires Inv-loop μ-loop
-tests-at-requires c κs = (c .before .before .before .before .before .before .before .before .pre .0, omega (arith, left-in (c .before .before .before .before .before .before .before .before .pre .0) (c .before .before .before .before .before .loop .inv .0) (omega (arith, c .before .before .before .operation .ensures, c .before .before .if1 .taken)), c .left .ensures))
+tests-at-requires c κs =
+    let at-start = c .before .before .before .before .before .before .before .before in
+    (at-start .pre .0, omega (arith, left-in (at-start .pre .0) (c .before .before .before .before .before .loop .inv .0) (omega (arith, c .before .before .before .operation .ensures, c .before .before .if1 .taken)), c .left .ensures))
 
 clause-requires : tie.Need-clause-requires Inv-loop μ-loop
-clause-requires c κs = (low-more (c .tests-at .ensures .low) (c .before .before .before .before .before .before .before .before .before .pre .2), low-more (c .tests-at .ensures .low₂) (c .before .before .before .before .before .before .before .before .before .pre .2))
+clause-requires c κs =
+    let at-start = c .before .before .before .before .before .before .before .before .before in
+    (low-more (c .tests-at .ensures .low) (at-start .pre .2), low-more (c .tests-at .ensures .low₂) (at-start .pre .2))
 
 mul-right : tie.Need-mul-right Inv-loop μ-loop
-mul-right c = omega (arith, c .before .before .before .before .before .before .before .before .loop .inv .0, c .before .before .before .before .before .before .before .before .before .before .before .pre .0 .fits, c .before .before .before .before .before .before .before .before .before .before .before .pre .0 .size)
+mul-right c =
+    let at-loop = c .before .before .before .before .before .before .before .before in
+    let at-start = at-loop .before .before .before in
+    omega (arith, at-loop .loop .inv .0, at-start .pre .0 .fits, at-start .pre .0 .size)
 
 shared-slice-read-right : tie.Need-shared-slice-read-right Inv-loop μ-loop
-shared-slice-read-right c = omega (arith, c .before .before .before .before .before .before .before .before .before .loop .inv .0, c .before .before .before .before .before .before .before .before .before .before .before .before .pre .0 .fits)
-
-right-requires : tie.Need-right-requires Inv-loop μ-loop
-right-requires c κs = search needs
+shared-slice-read-right c =
+    let at-loop = c .before .before .before .before .before .before .before .before .before in
+    let at-start = at-loop .before .before .before in
+    omega (arith, at-loop .loop .inv .0, at-start .pre .0 .fits)
 
 cast-at : tie.Need-cast-at Inv-loop μ-loop
 cast-at c = omega arith
 
 loop-less : tie.Need-loop-less Inv-loop μ-loop
-loop-less c = omega (arith, right-below₂ (c .before .before .before .before .before .before .before .before .before .before .before .before .before .pre .0) (c .before .before .before .before .before .before .before .before .before .before .loop .inv .0) (omega (arith, c .before .before .before .before .before .before .before .before .operation .ensures, c .before .before .before .before .before .before .before .if1 .taken)), c .right .ensures)
+loop-less c =
+    let at-if1 = c .before .before .before .before .before .before .before in
+    let at-operation = at-if1 .before in
+    let at-loop = at-operation .before .before in
+    let at-start = at-loop .before .before .before in
+    omega (arith, right-below₂ (at-start .pre .0) (at-loop .loop .inv .0) (omega (arith, at-operation .operation .ensures, at-if1 .if1 .taken)), c .right .ensures)
 
 loop-again : tie.Need-loop-again Inv-loop μ-loop
-loop-again c = (
-  omega (arith, right-in₂ (c .before .before .before .before .before .before .before .before .before .before .before .before .before .pre .0) (c .before .before .before .before .before .before .before .before .before .before .loop .inv .0) (omega (arith, c .before .before .before .before .before .before .before .before .operation .ensures, c .before .before .before .before .before .before .before .if1 .taken)), c .right .ensures),
-  λ r h. c .before .before .before .before .before .before .before .before .before .before .loop .inv .1 r
-      (λ T σ d K ρ x. rule-also (c .before .before .before .before .before .before .before .before .before .before .before .before .before .args .nodes .now) (c .before .before .before .before .before .before .before .before .before .before .loop .at) T σ d ρ x (c .before .before .before .clause .result) (sym (c .before .before .before .before .before .before .before .before .operation .ensures) ∙ c .before .before .before .before .before .before .before .if1 .taken)
-      (λ q y. c .before .before .before .clause .ensures _ _ q (c .before .before .before .before .tests-at .ensures .tests q (rw (c .before .before .before .before .before .left .ensures) y)) T σ d (λ i l a z o. K i l a z)) .0 r (c .before .before .if2 .taken)
-      (λ π y. h T σ d K π (rw (c .right .ensures) y))),
-)
+loop-again c =
+    let at-if1 = c .before .before .before .before .before .before .before in
+    let at-operation = at-if1 .before in
+    let at-loop = at-operation .before .before in
+    let at-start = at-loop .before .before .before in (
+      omega (arith, right-in₂ (at-start .pre .0) (at-loop .loop .inv .0) (omega (arith, at-operation .operation .ensures, at-if1 .if1 .taken)), c .right .ensures),
+      λ r h. at-loop .loop .inv .1 r
+          (λ T σ d K ρ x. rule-also (at-start .args .nodes .now) (at-loop .loop .at) T σ d ρ x (c .before .before .before .clause .result) (sym (at-operation .operation .ensures) ∙ at-if1 .if1 .taken)
+          (λ q y. c .before .before .before .clause .ensures _ _ q (c .before .before .before .before .tests-at .ensures .tests q (rw (c .before .before .before .before .before .left .ensures) y)) T σ d (λ i l a z o. K i l a z)) .0 r (c .before .before .if2 .taken)
+          (λ π y. h T σ d K π (rw (c .right .ensures) y))),
+    )
 
 returns : tie.Need-returns Inv-loop μ-loop
-returns c = c .before .before .before .before .before .before .before .before .loop .inv .1 _ (λ T σ d K ρ x. rule-also (c .before .before .before .before .before .before .before .before .before .before .before .args .nodes .now) (c .before .before .before .before .before .before .before .before .loop .at) T σ d ρ x (c .before .clause .result) (sym (c .before .before .before .before .before .before .operation .ensures) ∙ c .before .before .before .before .before .if1 .taken)
+returns c =
+    let at-operation = c .before .before .before .before .before .before in
+    let at-loop = at-operation .before .before in
+    let at-start = at-loop .before .before .before in
+    at-loop .loop .inv .1 _ (λ T σ d K ρ x. rule-also (at-start .args .nodes .now) (at-loop .loop .at) T σ d ρ x (c .before .clause .result) (sym (at-operation .operation .ensures) ∙ c .before .before .before .before .before .if1 .taken)
     (λ q y. c .before .clause .ensures _ _ q (c .before .before .tests-at .ensures .tests q (rw (c .before .before .before .left .ensures) y)) T σ d (λ i l a z o. K i l a z)) .1 (c .if2 .left))
 
 tests-at-requires-2 : tie.Need-tests-at-requires-2 Inv-loop μ-loop
-tests-at-requires-2 c κs = (c .before .before .before .before .before .before .pre .0, c .before .before .before .loop .inv .0)
+tests-at-requires-2 c κs =
+    let at-start = c .before .before .before .before .before .before in
+    (at-start .pre .0, c .before .before .before .loop .inv .0)
 
 clause-requires-2 : tie.Need-clause-requires-2 Inv-loop μ-loop
-clause-requires-2 c κs = (low-more (c .tests-at2 .ensures .low) (c .before .before .before .before .before .before .before .pre .2), low-more (c .tests-at2 .ensures .low₂) (c .before .before .before .before .before .before .before .pre .2))
+clause-requires-2 c κs =
+    let at-start = c .before .before .before .before .before .before .before in
+    (low-more (c .tests-at2 .ensures .low) (at-start .pre .2), low-more (c .tests-at2 .ensures .low₂) (at-start .pre .2))
 
 returns-2 : tie.Need-returns-2 Inv-loop μ-loop
-returns-2 c = c .before .before .before .before .before .loop .inv .1 _ (λ T σ d K ρ x. rule-clause (c .before .before .before .before .before .before .before .before .args .nodes .now) (c .before .before .before .before .before .loop .at) T σ d ρ x (c .clause2 .result) (λ e. c .before .before .if1 .left (c .before .before .before .operation .ensures ∙ e))
+returns-2 c =
+    let at-start = c .before .before .before .before .before .before .before .before in
+    c .before .before .before .before .before .loop .inv .1 _ (λ T σ d K ρ x. rule-clause (at-start .args .nodes .now) (c .before .before .before .before .before .loop .at) T σ d ρ x (c .clause2 .result) (λ e. c .before .before .if1 .left (c .before .before .before .operation .ensures ∙ e))
     (λ q y. c .clause2 .ensures _ _ q (c .before .tests-at2 .ensures .tests q y) T σ d (λ i l a z o. K i l a z)))
 
 pub truth-spec : {M : Type 1} → statement M
@@ -94,16 +118,16 @@ truth-spec =
     loop-holds
     mul-operation
     shared-slice-read-operation
-    operation-requires
+    (λ c κs. search needs)
     mul-left
     shared-slice-read-left
-    left-requires
+    (λ c κs. search needs)
     cast-left
     tests-at-requires
     clause-requires
     mul-right
     shared-slice-read-right
-    right-requires
+    (λ c κs. search needs)
     cast-at
     loop-less
     loop-again

@@ -29,9 +29,6 @@ mul-join c = omega arith
 shl-join : tie.Need-shl-join Inv-loop μ-loop
 shl-join c = omega arith
 
-join-requires : tie.Need-join-requires Inv-loop μ-loop
-join-requires c κs = search needs
-
 add-u : tie.Need-add-u Inv-loop μ-loop
 add-u c = omega arith
 
@@ -60,7 +57,7 @@ spread-spec =
     contains-requires
     mul-join
     shl-join
-    join-requires
+    (λ c κs. search needs)
     add-u
     loop-less
     loop-again
