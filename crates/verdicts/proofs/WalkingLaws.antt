@@ -30,6 +30,7 @@ use Rattle.values.specs.code.Levels.{Level, Levels, Chained, Climbs}
 use Rattle.values.specs.code.Cache.{Settles, Stored}
 use Rattle.values.proofs.LevelLaws.{stored-other}
 use Rattle.values.proofs.NamesLaws.{holds-at}
+use Rattle.verdicts.specs.code.Planning.{Planned, Plans}
 use Rattle.verdicts.specs.code.Judging.{Leaf, Ends, Case, Lent, OrderList, InTurn, Settled, Next, WalkedFrom, UptoFrom}
 
 module _ (T : Tables) (ρ : Rule) where
@@ -213,3 +214,10 @@ module _ {ts ns : List ℕ} {n : ℕ} {ks vs order first next : List ℕ} where
         stored = stored-other order (length order - m) v c (omega arith) is (S .level) (λ u ne. sym (agree c d v x e u ne))
             (record { long = S .stored .long; holds = λ k h low. S .stored .holds k h (omega arith) });
       }
+
+-- What the slices hold is what the plan holds.
+pub planned-for : {ts ns : List ℕ} {n : ℕ} {ks vs : List ℕ} {root : ℕ} {plan : List ℕ} (order : List ℕ) → Lent ts ns n ks vs root → OrderList vs order → InTurn ns n vs order
+    → (S : Plans ns n ks vs root order plan) → (T : Tables) (ρ : Rule) → Case ts ns n ks vs root T ρ
+    → Planned ts plan (record { nodes = ns; n = n; kinds = ks; vars = vs; order = order; levels = S .levels }) T ρ
+planned-for {ts} order L O A S T ρ C =
+    S .planned ts T ρ (L .ready .whole) (C .world) (C .holds) (A (ruleVars [] ρ) (C .world .variables)) (set-early order L O A (S .level))

@@ -1,4 +1,6 @@
 // The walk over the choices of a rule's variables, variable by variable, the last in the order fastest, smallest item first.
+use crate::counting;
+use crate::planning;
 use walks::Tally;
 ghost use Prim.Native.Nat.{_<_, _≤_};
 ghost use lib.ListN.{length};
@@ -113,26 +115,6 @@ pub fn whole(
     requires { ⌜ Lent (now t) (now nodes) n (now kinds) (now vars) root × OrderList (now vars) (now order) × InTurn (now nodes) n (now vars) (now order) ⌝ }
     ensures { λ r. ⌜ Walks (now (t .entry)) (now (nodes .entry)) n (now (kinds .entry)) (now (vars .entry)) root (now (order .entry)) (length (now (order .entry))) nothingChosen r ⌝ }
 {
-    let levels = values::levels::levels(nodes, n, vars, order);
-    let chains = values::levels::chain(&levels, n);
-    let first = chains.first;
-    let next = chains.next;
-    let none = [255u8; 8];
-    let mut cache = [0u64; 256];
-    let from = first[0] as usize;
-    values::terms::settle(t, nodes, n, kinds, vars, &none, &mut cache, &next, from);
-    walk(
-        t,
-        nodes,
-        n,
-        kinds,
-        vars,
-        root,
-        order,
-        none,
-        &mut cache,
-        &first,
-        &next,
-        order.len(),
-    )
+    let made = planning::plan(nodes, n, kinds, vars, root, order);
+    counting::whole(t, &made)
 }

@@ -146,6 +146,7 @@ pub record Laid (ns : List ℕ) (n : ℕ) (ks vs : List ℕ) (root : ℕ) (order
 -- The plan holds every rule that the root holds, along the order where it is one, whatever the tables.
 pub record Plans (ns : List ℕ) (n : ℕ) (ks vs : List ℕ) (root : ℕ) (order plan : List ℕ) : Type 0 where
   pub levels : List ℕ
+  pub level : Levels ns n vs order levels
   pub planned : (ts : List ℕ) (T : Tables) (ρ : Rule) → Whole ts → World ts ns n ks vs T (ruleVars [] ρ) → HoldsRule ns root ρ
       → After (names (ruleVars [] ρ)) order → ((i : ℕ) → i < length order → getD levels (getD vs (getD order i 0) 0) 0 ≤ i)
       → Planned ts plan (record { nodes = ns; n = n; kinds = ks; vars = vs; order = order; levels = levels }) T ρ
