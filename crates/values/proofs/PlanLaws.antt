@@ -1,7 +1,7 @@
 -- Evaluating by a plan: the value of a node by its word, the test of a level's clauses, and that nothing outside the slices is read.
 -- Assumes nothing.
 use mathlib.Core.Path.{_≡_, refl, sym, ap, _∙_}
-use mathlib.Core.Bool.{Bool, true, false, not, _&&_, true≢false}
+use mathlib.Core.Bool.{Bool, true, false, not, _&&_}
 use mathlib.Core.List.{List, []}
 use Prim.Native.Nat.{ℕ, _+_, _<_, _≤_}
 use native.Mathlib.Omega.{arith}
@@ -11,7 +11,7 @@ use Rattle.words.specs.Words.{itemOf, lessOf}
 use Rattle.tables.specs.Tables.{Tables}
 use Rattle.syntax.specs.Term.{Term, Choices}
 use Rattle.syntax.specs.Rule.{Clause, plain, when, Rule, ruleVars}
-use Rattle.syntax.specs.code.Arena.{Holds, hasTwo, Low, Down, Tidy}
+use Rattle.syntax.specs.code.Arena.{Holds, Low, Down, Tidy}
 use Rattle.syntax.specs.code.Nodes.{firstCall, oeOp, aoOp, firstPair, memberOp, opAt, leftAt, rightAt, operationOf, leftOf, rightOf}
 use Rattle.rules.specs.Kind.{baseKind}
 use Rattle.rules.specs.code.Numbers.{kindsFit, kindOf}
@@ -23,7 +23,7 @@ use Rattle.values.specs.Truth.{clauseTrue}
 use Rattle.values.specs.code.Nodes.{baseAt, fnAt, pairAt, World}
 use Rattle.values.specs.code.Cache.{Fed}
 use Rattle.values.specs.code.Clauses.{clauseAt, ClauseNodes}
-use Rattle.values.specs.code.Plan.{nodeIn, kindIn, variableIn, nextIn, firstIn, secondIn, planLength, planRoom, nodesAt, clausesAt, clausesFrom, Step, Runs, NodesIn, ClausesIn, falseAt}
+use Rattle.values.specs.code.Plan.{nodeIn, kindIn, variableIn, planLength, planRoom, Step, Runs, NodesIn, ClausesIn, falseAt}
 use Rattle.values.proofs.NodeLaws.{term-small}
 use Rattle.values.proofs.ValueLaws.{fed-left, fed-right, value-base, value-one, value-call, value-others, value-two}
 use Rattle.values.proofs.TruthLaws.{low-more, low-none}

@@ -1,29 +1,25 @@
 -- Counting by a plan: what the cache has as variables are chosen, what a level's clauses say, and the counts below a choice.
 -- Assumes nothing.
-use mathlib.Core.Path.{_≡_, refl, sym, ap, subst, _∙_}
+use mathlib.Core.Path.{_≡_, refl, sym, ap, _∙_}
 use mathlib.Core.Bool.{Bool, true, false, not}
 use mathlib.Core.List.{List, []}
-use mathlib.Core.Logic.{⊎-elim}
 use Prim.Native.Nat.{ℕ, zero, suc, _+_, _*_, _-_, _<_, _≤_, _^_}
-use native.Mathlib.Nat.{eq-or-lt-of-le}
 use native.Mathlib.Omega.{arith}
 use lib.ListN.{length, getD, set, drop}
 use lib.Seq.{getD-set-other, getD-drop}
 use Rattle.words.specs.Words.{has, meetOf, lessOf, itemOf, sizeOf}
 use Rattle.tables.specs.Tables.{Tables}
-use Rattle.syntax.specs.Term.{Term, Choices}
 use Rattle.syntax.specs.Rule.{Rule, ruleVars}
-use Rattle.walks.specs.Choices.{Sets}
-use Rattle.walks.specs.code.Clauses.{Clauses, falseTo, falseIn, levelIs, modeOf}
+use Rattle.walks.specs.code.Clauses.{falseTo, falseIn, levelIs, modeOf}
 use Rattle.walks.specs.code.Context.{Alike}
-use Rattle.walks.specs.code.Kept.{choiceOf, Counted, unwritten, slotAt, written}
+use Rattle.walks.specs.code.Kept.{choiceOf, Counted, unwritten, written}
 use Rattle.walks.proofs.BytesLaws.{bytes-length, alike-key}
 use Rattle.walks.proofs.KeptLaws.{kept-hit, kept-write}
 use Rattle.walks.proofs.TurningLaws.{turning-start, turning-step, turning-end, turning-room, turning-last, counted-whole}
 use Rattle.values.specs.Values.{value}
 use Rattle.values.specs.Sets.{setOf, inSet, names, namesIn}
 use Rattle.values.specs.code.Levels.{Level}
-use Rattle.values.specs.code.Cache.{Stored, ValuedIn}
+use Rattle.values.specs.code.Cache.{ValuedIn}
 use Rattle.values.specs.code.Clauses.{clauseCount, clauseAt, clauseNames}
 use Rattle.values.specs.code.Plan.{planRoom, levelsFrom, Runs, falseAt}
 use Rattle.values.proofs.ClausesLaws.{clausesOf}
@@ -31,7 +27,7 @@ use Rattle.values.proofs.LevelLaws.{stored-other}
 use Rattle.values.proofs.NamesLaws.{holds-at}
 use Rattle.values.proofs.PlanLaws.{runs}
 use Rattle.values.proofs.ReadsLaws.{sets-read}
-use Rattle.verdicts.specs.code.Planning.{orderFrom, setsFrom, contextsFrom, masksFrom, variablesAt, Layout, Planned, Caches, Keeps}
+use Rattle.verdicts.specs.code.Planning.{orderFrom, setsFrom, contextsFrom, masksFrom, Layout, Planned, Caches, Keeps}
 use Rattle.verdicts.specs.code.Counting.{SlotOf, depthOf, CountedAt, TurningAt, Entered, Enters, Counts}
 
 -- What names no more has no higher level.

@@ -1,7 +1,7 @@
 -- The first breaking choice along a plan's order: the least item below which something breaks, turn by turn, and what judging gives with it.
 -- Assumes nothing.
 use mathlib.Core.Path.{_≡_, refl, sym, ap, subst, _∙_}
-use mathlib.Core.Bool.{Bool, true, false, not}
+use mathlib.Core.Bool.{Bool, true}
 use mathlib.Core.List.{List, [], _∷_}
 use Prim.Native.Nat.{ℕ, zero, suc, _+_, _*_, _/_, _%_, _<_, _^_}
 use native.Mathlib.Omega.{arith}
@@ -10,10 +10,9 @@ use Rattle.words.specs.Words.{has, Lowest, lessOf, itemOf}
 use Rattle.tables.specs.Tables.{Tables}
 use Rattle.tables.specs.Bytes.{lowestFirst}
 use Rattle.syntax.specs.Rule.{Rule, ruleVars}
-use Rattle.walks.specs.Choices.{Sets, sumOver, each, ifBreaks, nothingChosen}
+use Rattle.walks.specs.Choices.{Sets, sumOver, ifBreaks, nothingChosen}
 use Rattle.walks.specs.Walk.{walk, walkFirst, choiceBytes}
-use Rattle.walks.specs.declared.Tally.{Tally}
-use Rattle.walks.specs.code.Clauses.{breaksAny, ModeIs, weightOf, modeOf}
+use Rattle.walks.specs.code.Clauses.{breaksAny, ModeIs, weightOf}
 use Rattle.walks.specs.code.Kept.{bytesFrom, choiceOf}
 use Rattle.walks.specs.code.Summed.{Summed, Least, Sought}
 use Rattle.walks.specs.code.Tally.{Walked}

@@ -1,7 +1,7 @@
 -- A plan filled in part by part holds all that it should.
 -- Assumes nothing.
 use mathlib.Core.Path.{_≡_, refl, sym, ap, _∙_}
-use mathlib.Core.Bool.{Bool, true, false, true≢false}
+use mathlib.Core.Bool.{true, false, true≢false}
 use mathlib.Core.List.{List, [], _∷_}
 use Prim.Native.Nat.{ℕ, zero, suc, _+_, _*_, _%_, _<_, _≤_}
 use native.Mathlib.Omega.{arith}
@@ -13,13 +13,13 @@ use Rattle.tables.specs.Tables.{Tables}
 use Rattle.tables.specs.code.Layout.{Whole}
 use Rattle.syntax.specs.Term.{Choices}
 use Rattle.syntax.specs.Rule.{Rule, ruleVars}
-use Rattle.syntax.specs.code.Arena.{HoldsAll, HoldsRule, Low, Tidy}
+use Rattle.syntax.specs.code.Arena.{HoldsAll, HoldsRule}
 use Rattle.walks.specs.Meaning.{After}
 use Rattle.walks.specs.code.Context.{Covers, openIn, Context}
 use Rattle.walks.specs.code.Kept.{Masks}
 use Rattle.walks.proofs.ContextLaws.{context-from}
-use Rattle.values.specs.Sets.{setOf, names, namesIn}
-use Rattle.values.specs.code.Clauses.{clauseCount, clauseAt, clauseNames}
+use Rattle.values.specs.Sets.{setOf, names}
+use Rattle.values.specs.code.Clauses.{clauseAt, clauseNames}
 use Rattle.values.specs.code.Nodes.{World, Named, Variables}
 use Rattle.values.specs.code.Levels.{Level, Levels, Chained}
 use Rattle.values.specs.code.Plan.{planLength, planRoom, clausesFrom, levelsFrom, startsFrom, nodesAt, clausesAt, Step}

@@ -1,19 +1,17 @@
 -- Filling in a plan: one number more, the words of nodes and clauses, and the words that contexts are joined from.
 -- Assumes nothing.
 use mathlib.Core.Path.{_≡_, refl, sym, ap, subst, _∙_}
-use mathlib.Core.Bool.{Bool, true}
-use mathlib.Core.List.{List, []}
-use mathlib.Core.Logic.{⊎-elim}
-use Prim.Native.Nat.{ℕ, zero, suc, _+_, _*_, _/_, _%_, _<_, _≤_, _^_}
+use mathlib.Core.Bool.{Bool}
+use mathlib.Core.List.{List}
+use Prim.Native.Nat.{ℕ, suc, _+_, _*_, _/_, _%_, _<_, _≤_, _^_}
 use native.Mathlib.Decide.{ℕ-discrete}
-use native.Mathlib.Nat.{eq-or-lt-of-le}
 use native.Mathlib.Omega.{arith}
 use lib.ListN.{length, getD, set, drop, length-set}
 use lib.Seq.{getD-set-same, getD-set-other, getD-drop}
 use Rattle.words.specs.Words.{has, joinOf}
 use Rattle.words.proofs.WordsLaws.{join-lt}
 use Rattle.syntax.specs.Rule.{Clause, plain, when, Rule, last, also}
-use Rattle.syntax.specs.code.Arena.{HoldsClause, HoldsRule, Low}
+use Rattle.syntax.specs.code.Arena.{HoldsClause, HoldsRule}
 use Rattle.syntax.specs.code.Nodes.{firstCall, alsoOp, opAt, leftAt, rightAt}
 use Rattle.syntax.proofs.ArenaLaws.{both-parts}
 use Rattle.walks.specs.code.Context.{Covers}

@@ -59,40 +59,9 @@ pub record OrderList (vs order : List ℕ) : Type 0 where
 abbrev pub InTurn : List ℕ → ℕ → List ℕ → List ℕ → Type 0
 InTurn ns n vs order = (σ : Choices) → Variables ns n vs σ → After (names σ) order
 
--- The nodes are chained by levels, each set is settled before its variable's turn, and the cache has, under the choice c, what all but
--- the last m variables of the order settle.
-pub record Settled (ts ns : List ℕ) (n : ℕ) (ks vs order c cache first next : List ℕ) (m : ℕ) : Type 0 where
-  pub levels : List ℕ
-  pub level : Levels ns n vs order levels
-  pub chained : Chained n levels first next
-  pub early : (i : ℕ) → i < length order → getD levels (getD vs (getD order i 0) 0) 0 ≤ i
-  pub stored : Stored ts ns n ks vs c cache levels (length order - m + 1)
-
 -- r is what the walk along the last m variables of the order gives, from the choice c.
 abbrev pub WalkedFrom : Tables → Rule → List ℕ → ℕ → List ℕ → Tally → Type 0
 WalkedFrom T ρ order m c r = Walked (inSet T (ruleVars [] ρ)) (breaks T (ruleVars [] ρ) ρ) (drop (length order - m) order) c r
-
--- r is the smallest item of the word from x on, or 64.
-pub record Next (w x r : ℕ) : Type 0 where
-  pub from : x ≤ r
-  pub within : r ≤ 64
-  pub least : (i : ℕ) → x ≤ i → i < r → has w i ≡ false
-  pub found : r < 64 → has w r ≡ true
-
--- r is what a whole choice gives.
-pub record Leaf (b : Bool) (c : List ℕ) (r : Tally) : Type 0 where
-  pub full : r .full ≡ 1
-  pub breaking : r .breaking ≡ gate b 1
-  pub first : r .first ≡ choiceBytes (gateO b (some c))
-
--- r is what a whole choice gives where the cache has the values under it.
-abbrev pub Ends : List ℕ → ℕ → ℕ → List ℕ → List ℕ → Tally → Type 0
-Ends ns n root c cache r =
-    (T : Tables) (ρ : Rule) → Valued ns n cache T (ruleVars [] ρ) c → HoldsRule ns root ρ → Leaf (breaks T (ruleVars [] ρ) ρ c) c r
-
--- r is what that walk gives of the items below x of its first variable, v.
-abbrev pub UptoFrom : Tables → Rule → List ℕ → ℕ → List ℕ → ℕ → ℕ → Tally → Type 0
-UptoFrom T ρ order m c v x r = Upto (inSet T (ruleVars [] ρ)) (breaks T (ruleVars [] ρ) ρ) v (drop (length order - m + 1) order) c x r
 
 -- The verdict of a tally.
 abbrev pub ruledBy : Tally → Verdict

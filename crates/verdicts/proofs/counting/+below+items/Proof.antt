@@ -1,19 +1,17 @@
 -- The proof of the cycle of calls {below, items}. The measure is twice the variables left, and one more for `below`; the loop's invariant: the
 -- two sums are those of the items but those of rest, and the cache and what is kept are right. Assumes nothing.
-use mathlib.Core.Path.{_≡_, refl, sym, ap, subst, _∙_}
-use mathlib.Core.List.{List, []}
+use mathlib.Core.Path.{_≡_, refl, ap, _∙_}
 use native.Mathlib.Omega.{arith}
 use borrow.Author.Needs.{needs}
 use lib.ListN.{length, getD, set, length-set}
 use Rattle.tables.specs.Tables.{Tables}
 use Rattle.syntax.specs.Rule.{Rule}
-use Rattle.words.specs.Words.{has}
 use Rattle.words.proofs.LoopLaws.{lowest-item, less-smaller}
 use Rattle.walks.specs.code.Kept.{choiceOf}
-use Rattle.verdicts.specs.code.Planning.{setsFrom, orderFrom, variablesAt, Layout, Planned, Caches, Keeps}
-use Rattle.verdicts.specs.code.Counting.{Standing, depthOf, CountedAt, TurningAt, Stays}
-use Rattle.verdicts.proofs.CountingLaws.{plan-runs, set-small, set-in, caches-on, caches-back, below-whole, below-last, below-hit, below-write, items-start, items-next, items-room, items-end, turned}
-use Prim.Native.Nat.{ℕ, _<_, _+_, _-_, _*_, _≤_, _^_}
+use Rattle.verdicts.specs.code.Planning.{setsFrom, Layout, Planned, Caches, Keeps}
+use Rattle.verdicts.specs.code.Counting.{depthOf, TurningAt}
+use Rattle.verdicts.proofs.CountingLaws.{plan-runs, set-small, set-in, caches-on, below-whole, below-last, below-hit, below-write, items-start, items-next, items-room, items-end, turned}
+use Prim.Native.Nat.{ℕ, _<_, _+_, _-_, _*_, _^_}
 use borrow.Fn.Kinds.{In}
 use borrow.Fn.PlainCycle.{Measures, is, falls, and}
 use Rattle.verdicts.proofs.counting.below.Reads as below

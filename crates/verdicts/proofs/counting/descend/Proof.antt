@@ -1,9 +1,8 @@
 -- `verdicts::counting::descend` meets its contract. The invariant: the choice has the items of the first breaking choice that were found, and
 -- the cache and what is kept are right. Assumes nothing.
-use mathlib.Core.Path.{_≡_, refl, sym, ap, _∙_}
+use mathlib.Core.Path.{_≡_, refl, _∙_}
 use Prim.Native.Nat.{ℕ, _+_, _-_, _<_, _≤_}
 use native.Mathlib.Omega.{arith}
-use borrow.Author.Needs.{needs}
 use lib.ListN.{length, getD, set}
 use Rattle.tables.specs.Tables.{Tables}
 use Rattle.syntax.specs.Rule.{Rule}

@@ -1,6 +1,5 @@
 -- `verdicts::counting::enter` meets its contract.
 -- Assumes nothing.
-use mathlib.Core.Path.{_∙_}
 use native.Mathlib.Omega.{arith}
 use Rattle.walks.specs.code.Kept.{choiceOf}
 use Rattle.verdicts.proofs.CountingLaws.{clause-values, entered-lost, entered-held, entered-false}

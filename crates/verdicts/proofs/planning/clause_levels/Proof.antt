@@ -3,7 +3,7 @@
 use Prim.Native.Nat.{_-_, _≤_}
 use native.Mathlib.Omega.{arith}
 use borrow.Author.Needs.{needs}
-use lib.ListN.{length, getD}
+use lib.ListN.{getD}
 use Rattle.words.specs.Words.{has}
 use Rattle.values.specs.code.Levels.{Level}
 use Rattle.values.specs.code.Plan.{levelsFrom}

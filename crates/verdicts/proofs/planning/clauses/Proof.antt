@@ -1,14 +1,14 @@
 -- `verdicts::planning::clauses` meets its contract. The invariant: the first i are filled in, and the others stand from node `at` on.
 -- Assumes nothing.
-use mathlib.Core.Path.{_≡_, sym, ap, _∙_}
-use Prim.Native.Nat.{ℕ, _+_, _*_, _<_, _≤_}
+use mathlib.Core.Path.{sym, _∙_}
+use Prim.Native.Nat.{_+_, _<_, _≤_}
 use native.Mathlib.Omega.{arith}
 use borrow.Author.Needs.{needs}
-use lib.ListN.{length, getD, length-set}
+use lib.ListN.{length-set}
 use Rattle.syntax.specs.Rule.{Rule}
 use Rattle.syntax.specs.code.Arena.{HoldsRule}
 use Rattle.values.specs.code.Plan.{clausesFrom}
-use Rattle.values.proofs.NodeLaws.{left-in, right-in₂, right-below₂}
+use Rattle.values.proofs.NodeLaws.{left-in, right-below₂}
 use Rattle.verdicts.specs.code.Planning.{Filled, ClauseWord}
 use Rattle.verdicts.proofs.PlanningLaws.{filled-none, filled-more, Rest, rest-start, rest-also, rest-last, clause-made}
 use Rattle.verdicts.proofs.planning.clauses.Statement.{statement}

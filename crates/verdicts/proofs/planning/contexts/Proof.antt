@@ -3,7 +3,6 @@
 use mathlib.Core.Path.{_∙_}
 use Prim.Native.Nat.{_-_, _≤_}
 use native.Mathlib.Omega.{arith}
-use borrow.Author.Needs.{needs}
 use lib.ListN.{drop}
 use Rattle.values.specs.code.Plan.{levelsFrom}
 use Rattle.verdicts.specs.code.Planning.{contextsFrom, Filled, ContextWord}

@@ -1,9 +1,8 @@
 -- `verdicts::planning::picks` meets its contract. The invariant: the first ones are filled in.
 -- Assumes nothing.
-use mathlib.Core.Path.{_≡_, refl, _∙_}
+use mathlib.Core.Path.{_≡_, refl}
 use Prim.Native.Nat.{_-_, _≤_}
 use native.Mathlib.Omega.{arith}
-use borrow.Author.Needs.{needs}
 use Rattle.verdicts.specs.code.Planning.{picksFrom, Filled}
 use Rattle.verdicts.proofs.PlanningLaws.{filled-none, filled-more}
 use Rattle.verdicts.proofs.planning.picks.Statement.{statement}

@@ -27,14 +27,17 @@ slice-aggregate-steps-2 : tie.Need-slice-aggregate-steps-2
 slice-aggregate-steps-2 c = search needs
 
 steps-requires : tie.Need-steps-requires
-steps-requires c κs = (record {
-      tidy = c .before .before .before .before .before .before .before .before .before .before .before .pre .tidy;
-      small = c .before .before .before .before .before .before .before .before .before .before .before .pre .small;
-      kinded = c .before .before .before .before .before .before .before .before .before .before .before .pre .kinded;
-      few = c .before .before .before .before .before .before .before .before .before .before .before .pre .few;
-      long = c .before .before .before .before .chain .ensures .linked .long;
-      within = λ k l. c .before .before .before .before .chain .ensures .linked .each k l .within;
-    }, search needs)
+steps-requires c κs = (
+  record {
+    tidy = c .before .before .before .before .before .before .before .before .before .before .before .pre .tidy;
+    small = c .before .before .before .before .before .before .before .before .before .before .before .pre .small;
+    kinded = c .before .before .before .before .before .before .before .before .before .before .before .pre .kinded;
+    few = c .before .before .before .before .before .before .before .before .before .before .before .pre .few;
+    long = c .before .before .before .before .chain .ensures .linked .long;
+    within = λ k l. c .before .before .before .before .chain .ensures .linked .each k l .within;
+  },
+  search needs,
+)
 
 slice-aggregate-starts : tie.Need-slice-aggregate-starts
 slice-aggregate-starts c = search needs
@@ -116,12 +119,12 @@ array-write-plan-3 c = search needs
 
 returns : tie.Need-returns
 returns c = record {
-      levels = c .before .before .before .before .before .before .before .before .before .before .before .before .before .before .before .before .before .before .before .before .before .before .before .before .before .before .before .before .before .before .before .before .before .before .before .before .before .before .before .levels .result;
-      level = c .before .before .before .before .before .before .before .before .before .before .before .before .before .before .before .before .before .before .before .before .before .before .before .before .before .before .before .before .before .before .before .before .before .before .before .before .before .before .before .levels .ensures;
-      planned = λ ts T ρ full W x after early.
-          planned-by (c .before .before .before .before .before .before .before .before .before .before .before .before .before .before .before .before .before .before .before .before .before .before .before .before .before .before .before .before .before .before .before .before .before .before .before .before .before .before .before .before .before .before .before .before .pre) (c .before .before .before .before .before .before .before .before .before .before .before .before .before .before .before .before .before .before .before .before .before .before .before .before .before .before .before .before .before .before .before .before .before .before .before .before .before .before .before .levels .ensures) (c .before .before .before .before .before .before .before .before .before .before .before .before .before .before .before .before .before .before .before .before .before .before .before .before .before .before .before .before .before .before .before .before .before .before .before .before .before .chain .ensures) (c .before .before .before .before .before .before .before .before .before .before .before .names .ensures) refl (c .before .before .before .before .before .before .before .before .before .before .before .before .before .before .before .before .before .before .before .before .before .before .before .before .before .before .before .before .before .before .before .before .steps .ensures) (c .before .before .before .before .before .before .before .before .before .before .before .before .before .before .before .before .before .before .before .before .before .before .before .before .before .before .before .before .starts .ensures) (c .before .before .before .before .before .before .before .before .before .before .before .before .before .before .before .before .before .before .before .before .before .before .before .before .before .clauses .ensures) (c .before .before .before .before .before .before .before .before .before .before .before .before .before .before .before .before .before .before .before .before .before .before .scopes .ensures)
-          (c .before .before .before .before .before .before .before .before .before .before .before .before .before .before .before .before .before .before .before .clause-levels .ensures) (c .before .before .before .before .before .before .before .before .before .before .before .before .before .before .before .before .places .ensures) (c .before .before .before .before .before .before .before .before .before .before .before .before .before .sets .ensures) (c .before .before .before .before .before .before .before .contexts .ensures) (c .before .before .before .before .masks .ensures) (c .before .picks .ensures) ts T ρ full W x after early;
-    }
+  levels = c .before .before .before .before .before .before .before .before .before .before .before .before .before .before .before .before .before .before .before .before .before .before .before .before .before .before .before .before .before .before .before .before .before .before .before .before .before .before .before .levels .result;
+  level = c .before .before .before .before .before .before .before .before .before .before .before .before .before .before .before .before .before .before .before .before .before .before .before .before .before .before .before .before .before .before .before .before .before .before .before .before .before .before .before .levels .ensures;
+  planned = λ ts T ρ full W x after early.
+      planned-by (c .before .before .before .before .before .before .before .before .before .before .before .before .before .before .before .before .before .before .before .before .before .before .before .before .before .before .before .before .before .before .before .before .before .before .before .before .before .before .before .before .before .before .before .before .pre) (c .before .before .before .before .before .before .before .before .before .before .before .before .before .before .before .before .before .before .before .before .before .before .before .before .before .before .before .before .before .before .before .before .before .before .before .before .before .before .before .levels .ensures) (c .before .before .before .before .before .before .before .before .before .before .before .before .before .before .before .before .before .before .before .before .before .before .before .before .before .before .before .before .before .before .before .before .before .before .before .before .before .chain .ensures) (c .before .before .before .before .before .before .before .before .before .before .before .names .ensures) refl (c .before .before .before .before .before .before .before .before .before .before .before .before .before .before .before .before .before .before .before .before .before .before .before .before .before .before .before .before .before .before .before .before .steps .ensures) (c .before .before .before .before .before .before .before .before .before .before .before .before .before .before .before .before .before .before .before .before .before .before .before .before .before .before .before .before .starts .ensures) (c .before .before .before .before .before .before .before .before .before .before .before .before .before .before .before .before .before .before .before .before .before .before .before .before .before .clauses .ensures) (c .before .before .before .before .before .before .before .before .before .before .before .before .before .before .before .before .before .before .before .before .before .before .scopes .ensures)
+      (c .before .before .before .before .before .before .before .before .before .before .before .before .before .before .before .before .before .before .before .clause-levels .ensures) (c .before .before .before .before .before .before .before .before .before .before .before .before .before .before .before .before .places .ensures) (c .before .before .before .before .before .before .before .before .before .before .before .before .before .sets .ensures) (c .before .before .before .before .before .before .before .contexts .ensures) (c .before .before .before .before .masks .ensures) (c .before .picks .ensures) ts T ρ full W x after early;
+}
 
 pub plan-spec : {M : Type 1} → statement M
 plan-spec =
