@@ -143,8 +143,8 @@ fn least(
         rest = words::less(rest, words::item(x));
         let chosen = kept::put(choice, v, x);
         let next = enter(t, plan, mode, d + 1, chosen, cache);
-        let sum = below(t, plan, next, left - 1, chosen, cache, kept);
-        if sum.breaking != 0 {
+        let under = below(t, plan, next, left - 1, chosen, cache, kept);
+        if under.breaking != 0 {
             return x;
         }
     }
