@@ -8,23 +8,10 @@ use borrow.Author.Needs.{needs}
 use Rattle.verdicts.proofs.decide.Statement.{statement}
 use Rattle.verdicts.proofs.decide.Tie as tie
 
-read-requires : tie.Need-read-requires
-read-requires c κs = search needs
-
-enum-known-outcome : tie.Need-enum-known-outcome
-enum-known-outcome c = search needs
-
-refused-requires : tie.Need-refused-requires
-refused-requires c κs = search needs
-
-enum-told : tie.Need-enum-told
-enum-told c = search needs
-
-slice-aggregate-on-tables : tie.Need-slice-aggregate-on-tables
-slice-aggregate-on-tables c = search needs
-
 on-tables-requires : tie.Need-on-tables-requires
-on-tables-requires c κs = took-loaded (was-taken (c .before .before .before .before .before .before .before .before .args .tables .now) (c .before .before .before .before .read .ensures .0) (c .before .before .before .before .read .ensures .1) (c .before .before .enum-told .given .1))
+on-tables-requires c κs =
+    let at-start = c .before .before .before .before .before .before .before .before in
+    took-loaded (was-taken (at-start .args .tables .now) (c .before .before .before .before .read .ensures .0) (c .before .before .before .before .read .ensures .1) (c .before .before .enum-told .given .1))
 
 returns : tie.Need-returns
 returns c =
@@ -43,11 +30,11 @@ pub decide-spec : {M : Type 1} → statement M
 decide-spec =
     tie.close
     (tie.spec
-    read-requires
-    enum-known-outcome
-    refused-requires
-    enum-told
-    slice-aggregate-on-tables
+    (λ c κs. search needs)
+    (λ c. search needs)
+    (λ c κs. search needs)
+    (λ c. search needs)
+    (λ c. search needs)
     on-tables-requires
     returns
     returns-2)

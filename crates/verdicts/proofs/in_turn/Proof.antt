@@ -8,17 +8,11 @@ use borrow.Author.Needs.{needs}
 use Rattle.verdicts.proofs.in_turn.Statement.{statement}
 use Rattle.verdicts.proofs.in_turn.Tie as tie
 
-parse-requires : tie.Need-parse-requires
-parse-requires c κs = search needs
-
 array-share-prefix-order : tie.Need-array-share-prefix-order
 array-share-prefix-order c = parsed-few (c .parse .ensures)
 
 slice-aggregate-of-parsed : tie.Need-slice-aggregate-of-parsed
 slice-aggregate-of-parsed c = sym (length-take-le _ _ (parsed-few (c .before .parse .ensures)))
-
-of-parsed-requires : tie.Need-of-parsed-requires
-of-parsed-requires c κs = search needs
 
 returns : tie.Need-returns
 returns c = λ T H. judged-turn (c .before .before .parse .ensures) T (c .of-parsed .ensures _ (c .before .before .parse .ensures) T H)
@@ -27,8 +21,8 @@ pub in-turn-spec : {M : Type 1} → statement M
 in-turn-spec =
     tie.close
     (tie.spec
-    parse-requires
+    (λ c κs. search needs)
     array-share-prefix-order
     slice-aggregate-of-parsed
-    of-parsed-requires
+    (λ c κs. search needs)
     returns)

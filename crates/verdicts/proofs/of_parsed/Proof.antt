@@ -6,20 +6,13 @@ use borrow.Author.Needs.{needs}
 use Rattle.verdicts.proofs.of_parsed.Statement.{statement}
 use Rattle.verdicts.proofs.of_parsed.Tie as tie
 
-enum-known-outcome : tie.Need-enum-known-outcome
-enum-known-outcome c = search needs
-
-refused-requires : tie.Need-refused-requires
-refused-requires c κs = search needs
-
-enum-told : tie.Need-enum-told
-enum-told c = search needs
-
 of-accepted-requires : tie.Need-of-accepted-requires
 of-accepted-requires c κs = (c .before .before .before .before .pre .0, (c .before .before .before .before .pre .1, c .enum-told .given .1))
 
 returns : tie.Need-returns
-returns c = λ s p T H. c .refused .ensures ∙ parsed-refused p (c .before .before .outcome .given .1) T (c .before .before .before .before .before .before .args .order .now)
+returns c =
+    let at-start = c .before .before .before .before .before .before in
+    λ s p T H. c .refused .ensures ∙ parsed-refused p (c .before .before .outcome .given .1) T (at-start .args .order .now)
 
 returns-2 : tie.Need-returns-2
 returns-2 c = c .of-accepted .ensures
@@ -28,9 +21,9 @@ pub of-parsed-spec : {M : Type 1} → statement M
 of-parsed-spec =
     tie.close
     (tie.spec
-    enum-known-outcome
-    refused-requires
-    enum-told
+    (λ c. search needs)
+    (λ c κs. search needs)
+    (λ c. search needs)
     of-accepted-requires
     returns
     returns-2)

@@ -32,8 +32,9 @@ loop-holds c =
 
 least-requires : tie.Need-least-requires Inv-loop μ-loop
 least-requires c κs =
+    let at-start = c .before .before .before .before .before .before .before .before .before in
     let Q = c .before .before .before .before .before .before .before .before .before .pre in
-    let none : depthOf (c .before .before .before .before .before .before .before .before .before .args .plan .now) (getD (c .before .before .before .before .before .before .before .before .before .args .plan .now) variablesAt 0) ≡ 0 = omega arith in
+    let none : depthOf (at-start .args .plan .now) (getD (at-start .args .plan .now) variablesAt 0) ≡ 0 = omega arith in
     let r = c .before .before .before .loop .inv .4 (Q .layout) (Q .tables) (Q .rule) (Q .planned) (rw none at (Q .stored)) (Q .keeps) in (
       record {
         layout = Q .layout;
@@ -50,54 +51,78 @@ least-requires c κs =
     )
 
 sub-d : tie.Need-sub-d Inv-loop μ-loop
-sub-d c = omega (arith, c .before .before .before .before .before .before .before .before .loop .inv .0)
+sub-d c =
+    let at-loop = c .before .before .before .before .before .before .before .before in
+    omega (arith, at-loop .loop .inv .0)
 
 add-put : tie.Need-add-put Inv-loop μ-loop
-add-put c = omega (arith, c .before .before .before .before .before .before .before .before .before .before .before .before .before .before .pre .planned .turns .many, c .before .before .before .before .before .before .before .before .before .before .before .before .before .before .pre .planned .turns .short)
+add-put c =
+    let at-start = c .before .before .before .before .before .before .before .before .before .before .before .before .before .before in
+    omega (arith, at-start .pre .planned .turns .many, at-start .pre .planned .turns .short)
 
 mul-put : tie.Need-mul-put Inv-loop μ-loop
-mul-put c = omega (arith, c .before .before .before .before .before .before .before .before .before .before .before .before .before .before .pre .planned .turns .many, c .before .before .before .before .before .before .before .before .before .before .before .before .before .before .pre .planned .turns .short)
+mul-put c =
+    let at-start = c .before .before .before .before .before .before .before .before .before .before .before .before .before .before in
+    omega (arith, at-start .pre .planned .turns .many, at-start .pre .planned .turns .short)
 
 shared-slice-read-put : tie.Need-shared-slice-read-put Inv-loop μ-loop
-shared-slice-read-put c = omega (arith, c .before .before .before .before .before .before .before .before .before .before .before .before .before .before .before .pre .planned .turns .many, c .before .before .before .before .before .before .before .before .before .before .before .before .before .before .before .pre .planned .turns .short, c .before .before .before .before .before .before .before .before .before .before .before .before .before .before .before .pre .planned .long)
+shared-slice-read-put c =
+    let at-start = c .before .before .before .before .before .before .before .before .before .before .before .before .before .before .before in
+    omega (arith, at-start .pre .planned .turns .many, at-start .pre .planned .turns .short, at-start .pre .planned .long)
 
 put-requires : tie.Need-put-requires Inv-loop μ-loop
 put-requires c κs =
+    let at-loop-test = c .before .before .before .before .before .before .before .before in
+    let at-loop = at-loop-test .before in
+    let at-start = at-loop .before .before .before .before .before .before in
     let Q = c .before .before .before .before .before .before .before .before .before .before .before .before .before .before .before .pre in
-    let d : ℕ = depthOf (c .before .before .before .before .before .before .before .before .before .before .before .before .before .before .before .args .plan .now) (c .before .before .before .before .before .before .before .before .before .loop .left) in
-    let lo : d < length (Q .layout .order) = omega (arith, Q .planned .turns .many, c .before .before .before .before .before .before .before .before .before .loop .inv .0, c .before .before .before .before .before .before .before .before .loop-test .taken) in
+    let d : ℕ = depthOf (at-start .args .plan .now) (at-loop .loop .left) in
+    let lo : d < length (Q .layout .order) = omega (arith, Q .planned .turns .many, at-loop .loop .inv .0, at-loop-test .loop-test .taken) in
     (omega (arith, Q .planned .turns .variables d lo, Q .planned .turns .known d lo, Q .planned .turns .few), omega (arith, c .before .before .before .before .before .least .ensures .0))
 
 add-enter : tie.Need-add-enter Inv-loop μ-loop
-add-enter c = omega (arith, c .before .before .before .before .before .before .before .before .before .before .before .before .before .before .before .before .pre .planned .turns .many, c .before .before .before .before .before .before .before .before .before .before .before .before .before .before .before .before .pre .planned .turns .short)
+add-enter c =
+    let at-start = c .before .before .before .before .before .before .before .before .before .before .before .before .before .before .before .before in
+    omega (arith, at-start .pre .planned .turns .many, at-start .pre .planned .turns .short)
 
 enter-requires : tie.Need-enter-requires Inv-loop μ-loop
 enter-requires c κs =
+    let at-least = c .before .before .before .before .before .before .before in
+    let at-loop-test = at-least .before .before .before in
+    let at-loop = at-loop-test .before in
     let Q = c .before .before .before .before .before .before .before .before .before .before .before .before .before .before .before .before .before .pre in
-    (Q .planned .whole, plan-runs (Q .planned), c .before .before .before .before .before .before .before .least .ensures .1 .room ∙ c .before .before .before .before .before .before .before .before .before .before .before .loop .inv .2 ∙ Q .room, omega (arith, Q .planned .turns .many, Q .planned .turns .short, c .before .before .before .before .before .before .before .before .before .before .before .loop .inv .0, c .before .before .before .before .before .before .before .before .before .before .loop-test .taken), c .before .before .before .before .before .before .before .before .before .before .before .loop .inv .1)
+    (Q .planned .whole, plan-runs (Q .planned), at-least .least .ensures .1 .room ∙ at-loop .loop .inv .2 ∙ Q .room, omega (arith, Q .planned .turns .many, Q .planned .turns .short, at-loop .loop .inv .0, at-loop-test .loop-test .taken), at-loop .loop .inv .1)
 
 sub-left : tie.Need-sub-left Inv-loop μ-loop
-sub-left c = omega (arith, c .before .before .before .before .before .before .before .before .before .before .before .before .before .loop-test .taken)
+sub-left c =
+    let at-loop-test = c .before .before .before .before .before .before .before .before .before .before .before .before .before in
+    omega (arith, at-loop-test .loop-test .taken)
 
 loop-less : tie.Need-loop-less Inv-loop μ-loop
-loop-less c = omega (arith, c .before .before .before .before .before .before .before .before .before .before .before .before .before .loop-test .taken)
+loop-less c =
+    let at-loop-test = c .before .before .before .before .before .before .before .before .before .before .before .before .before in
+    omega (arith, at-loop-test .loop-test .taken)
 
 loop-again : tie.Need-loop-again Inv-loop μ-loop
 loop-again c =
+    let at-least = c .before .before .before .before .before .before .before .before .before .before in
+    let at-loop-test = at-least .before .before .before in
+    let at-loop = at-loop-test .before in
+    let at-start = at-loop .before .before .before .before .before .before in
     let Q = c .before .before .before .before .before .before .before .before .before .before .before .before .before .before .before .before .before .before .before .before .pre in
-    let d : ℕ = depthOf (c .before .before .before .before .before .before .before .before .before .before .before .before .before .before .before .before .before .before .before .before .args .plan .now) (c .before .before .before .before .before .before .before .before .before .before .before .before .before .before .loop .left) in
-    let deep : depthOf (c .before .before .before .before .before .before .before .before .before .before .before .before .before .before .before .before .before .before .before .before .args .plan .now) (c .before .before .before .before .before .before .before .before .before .before .before .before .before .before .loop .left - 1) ≡ d + 1 = omega (arith, c .before .before .before .before .before .before .before .before .before .before .before .before .before .before .loop .inv .0, c .before .before .before .before .before .before .before .before .before .before .before .before .before .loop-test .taken) in (
-      omega (arith, c .before .before .before .before .before .before .before .before .before .before .before .before .before .before .loop .inv .0),
+    let d : ℕ = depthOf (at-start .args .plan .now) (at-loop .loop .left) in
+    let deep : depthOf (at-start .args .plan .now) (at-loop .loop .left - 1) ≡ d + 1 = omega (arith, at-loop .loop .inv .0, at-loop-test .loop-test .taken) in (
+      omega (arith, at-loop .loop .inv .0),
       c .before .before .enter .ensures .modes,
-      c .before .before .enter .ensures .room ∙ c .before .before .before .before .before .before .before .before .before .before .least .ensures .1 .room ∙ c .before .before .before .before .before .before .before .before .before .before .before .before .before .before .loop .inv .2,
-      c .before .before .before .before .before .before .before .before .before .before .least .ensures .1 .slots ∙ c .before .before .before .before .before .before .before .before .before .before .before .before .before .before .loop .inv .3,
+      c .before .before .enter .ensures .room ∙ at-least .least .ensures .1 .room ∙ at-loop .loop .inv .2,
+      at-least .least .ensures .1 .slots ∙ at-loop .loop .inv .3,
       λ y T ρ P st ke.
-          let lo : d < length (y .order) = omega (arith, P .turns .many, c .before .before .before .before .before .before .before .before .before .before .before .before .before .before .loop .inv .0, c .before .before .before .before .before .before .before .before .before .before .before .before .before .loop-test .taken) in
-          let r = c .before .before .before .before .before .before .before .before .before .before .before .before .before .before .loop .inv .4 y T ρ P st ke in
-          let f = c .before .before .before .before .before .before .before .before .before .before .least .ensures .1 .goes y T ρ P (r .0) (r .1) in
-          let put : choiceOf (c .before .before .before .before .put .result) ≡ set (choiceOf (c .before .before .before .before .before .before .before .before .before .before .before .before .before .before .loop .choice)) (getD (y .order) d 0) (c .before .before .before .before .before .before .before .before .before .before .least .result) = rw (← P .turns .variables d lo) (c .before .before .before .before .put .ensures) in
-          let e = c .before .before .enter .ensures .goes y T ρ P (caches-on P (c .before .before .before .before .before .before .before .before .before .before .before .before .before .before .loop .choice) (c .before .before .before .before .put .result) (c .before .before .before .before .before .before .before .before .before .before .least .result) d lo put (f .1)) in
-          (rw deep (e .0), f .2, λ N. rw deep (nearer-next P (c .before .before .before .before .before .before .before .before .before .before .before .before .before .before .loop .at) d (c .before .before .before .before .before .before .before .before .before .before .before .before .before .before .loop .choice) (c .before .before .before .before .put .result) (c .before .before .before .before .before .before .before .before .before .before .least .result) lo (set-in P (c .before .before .before .before .before .before .before .before .before .before .before .before .before .before .loop .choice) d lo (r .0)) put (f .0) (e .1) (r .2 N))),
+          let lo : d < length (y .order) = omega (arith, P .turns .many, at-loop .loop .inv .0, at-loop-test .loop-test .taken) in
+          let r = at-loop .loop .inv .4 y T ρ P st ke in
+          let f = at-least .least .ensures .1 .goes y T ρ P (r .0) (r .1) in
+          let put : choiceOf (c .before .before .before .before .put .result) ≡ set (choiceOf (at-loop .loop .choice)) (getD (y .order) d 0) (at-least .least .result) = rw (← P .turns .variables d lo) (c .before .before .before .before .put .ensures) in
+          let e = c .before .before .enter .ensures .goes y T ρ P (caches-on P (at-loop .loop .choice) (c .before .before .before .before .put .result) (at-least .least .result) d lo put (f .1)) in
+          (rw deep (e .0), f .2, λ N. rw deep (nearer-next P (at-loop .loop .at) d (at-loop .loop .choice) (c .before .before .before .before .put .result) (at-least .least .result) lo (set-in P (at-loop .loop .choice) d lo (r .0)) put (f .0) (e .1) (r .2 N))),
     )
 
 same-length : tie.Need-same-length Inv-loop μ-loop
@@ -107,8 +132,10 @@ same-length-2 : tie.Need-same-length-2 Inv-loop μ-loop
 same-length-2 c = c .before .loop .inv .3
 
 returns : tie.Need-returns Inv-loop μ-loop
-returns c = λ y T ρ P st ke N.
-    let all : depthOf (c .before .before .before .before .before .before .before .args .plan .now) (c .before .loop .left) ≡ length (y .order) = omega (arith, P .turns .many, c .loop-test .left) in
+returns c =
+    let at-start = c .before .before .before .before .before .before .before in
+    λ y T ρ P st ke N.
+    let all : depthOf (at-start .args .plan .now) (c .before .loop .left) ≡ length (y .order) = omega (arith, P .turns .many, c .loop-test .left) in
     rw all at (c .before .loop .inv .4 y T ρ P st ke .2 N .descending)
 
 pub descend-spec : {M : Type 1} → statement M

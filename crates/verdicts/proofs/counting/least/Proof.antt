@@ -36,67 +36,82 @@ mul-v : tie.Need-mul-v Inv-loop μ-loop
 mul-v c = omega (arith, c .before .before .before .before .before .pre .0 .planned .turns .many, c .before .before .before .before .before .pre .0 .planned .turns .short)
 
 shared-slice-read-v : tie.Need-shared-slice-read-v Inv-loop μ-loop
-shared-slice-read-v c = omega (arith, c .before .before .before .before .before .before .pre .0 .planned .turns .many, c .before .before .before .before .before .before .pre .0 .planned .turns .short, c .before .before .before .before .before .before .pre .0 .planned .long)
+shared-slice-read-v c =
+    let at-start = c .before .before .before .before .before .before in
+    omega (arith, at-start .pre .0 .planned .turns .many, at-start .pre .0 .planned .turns .short, at-start .pre .0 .planned .long)
 
 add-rest : tie.Need-add-rest Inv-loop μ-loop
-add-rest c = omega (arith, c .before .before .before .before .before .before .pre .0 .planned .turns .many, c .before .before .before .before .before .before .pre .0 .planned .turns .short)
+add-rest c =
+    let at-start = c .before .before .before .before .before .before in
+    omega (arith, at-start .pre .0 .planned .turns .many, at-start .pre .0 .planned .turns .short)
 
 mul-rest : tie.Need-mul-rest Inv-loop μ-loop
-mul-rest c = omega (arith, c .before .before .before .before .before .before .pre .0 .planned .turns .many, c .before .before .before .before .before .before .pre .0 .planned .turns .short)
+mul-rest c =
+    let at-start = c .before .before .before .before .before .before in
+    omega (arith, at-start .pre .0 .planned .turns .many, at-start .pre .0 .planned .turns .short)
 
 shared-slice-read-rest : tie.Need-shared-slice-read-rest Inv-loop μ-loop
-shared-slice-read-rest c = omega (arith, c .before .before .before .before .before .before .before .pre .0 .planned .turns .many, c .before .before .before .before .before .before .before .pre .0 .planned .turns .short, c .before .before .before .before .before .before .before .pre .0 .planned .long)
+shared-slice-read-rest c =
+    let at-start = c .before .before .before .before .before .before .before in
+    omega (arith, at-start .pre .0 .planned .turns .many, at-start .pre .0 .planned .turns .short, at-start .pre .0 .planned .long)
 
 mul-rest-2 : tie.Need-mul-rest-2 Inv-loop μ-loop
-mul-rest-2 c = omega (arith, set-small (c .before .before .before .before .before .before .before .pre .0 .planned) (depthOf (c .before .before .before .before .before .before .before .args .plan .now) (c .before .before .before .before .before .before .before .args .left)) (omega (arith, c .before .before .before .before .before .before .before .pre .0 .planned .turns .many, c .before .before .before .before .before .before .before .pre .0 .within, c .before .before .before .before .before .before .before .pre .1)))
+mul-rest-2 c =
+    let at-start = c .before .before .before .before .before .before .before in
+    omega (arith, set-small (at-start .pre .0 .planned) (depthOf (at-start .args .plan .now) (at-start .args .left)) (omega (arith, at-start .pre .0 .planned .turns .many, at-start .pre .0 .within, at-start .pre .1)))
 
 slice-read-rest : tie.Need-slice-read-rest Inv-loop μ-loop
-slice-read-rest c = omega (arith, set-small (c .before .before .before .before .before .before .before .before .pre .0 .planned) (depthOf (c .before .before .before .before .before .before .before .before .args .plan .now) (c .before .before .before .before .before .before .before .before .args .left)) (omega (arith, c .before .before .before .before .before .before .before .before .pre .0 .planned .turns .many, c .before .before .before .before .before .before .before .before .pre .0 .within, c .before .before .before .before .before .before .before .before .pre .1)), c .before .before .before .before .before .before .before .before .pre .0 .room)
+slice-read-rest c =
+    let at-start = c .before .before .before .before .before .before .before .before in
+    omega (arith, set-small (at-start .pre .0 .planned) (depthOf (at-start .args .plan .now) (at-start .args .left)) (omega (arith, at-start .pre .0 .planned .turns .many, at-start .pre .0 .within, at-start .pre .1)), at-start .pre .0 .room)
 
 loop-holds : tie.Need-loop-holds Inv-loop μ-loop
 loop-holds c =
-    let d : ℕ = depthOf (c .before .before .before .before .before .before .before .before .args .plan .now) (c .before .before .before .before .before .before .before .before .args .left) in
-    let w : ℕ = getD (c .before .before .before .before .before .before .before .before .args .cache .now) (getD (c .before .before .before .before .before .before .before .before .args .plan .now) (setsFrom + d) 0) 0 in
-    let fit : w < 2 ^ 64 = omega (arith, c .slice-known3 .given (getD (c .before .before .before .before .before .before .before .before .args .plan .now) (setsFrom + d) 0)) in
-    (refl, refl, fit, λ y T ρ P st ke. (seeking-start w (breaksBelow P (c .before .before .before .before .before .before .before .before .args .mode) d (c .before .before .before .before .before .before .before .before .args .choice)) fit, st, ke))
-
-lowest-requires : tie.Need-lowest-requires Inv-loop μ-loop
-lowest-requires c κs = search needs
-
-item-requires : tie.Need-item-requires Inv-loop μ-loop
-item-requires c κs = search needs
-
-less-requires : tie.Need-less-requires Inv-loop μ-loop
-less-requires c κs = search needs
+    let at-start = c .before .before .before .before .before .before .before .before in
+    let d : ℕ = depthOf (at-start .args .plan .now) (at-start .args .left) in
+    let w : ℕ = getD (at-start .args .cache .now) (getD (at-start .args .plan .now) (setsFrom + d) 0) 0 in
+    let fit : w < 2 ^ 64 = omega (arith, c .slice-known3 .given (getD (at-start .args .plan .now) (setsFrom + d) 0)) in
+    (refl, refl, fit, λ y T ρ P st ke. (seeking-start w (breaksBelow P (at-start .args .mode) d (at-start .args .choice)) fit, st, ke))
 
 put-requires : tie.Need-put-requires Inv-loop μ-loop
 put-requires c κs =
+    let at-start = c .before .before .before .before .before .before .before .before .before .before .before .before .before in
     let l = lowest-item (c .before .before .before .before .loop .inv .2) (c .before .before .before .loop-test .taken) (c .before .before .lowest .ensures) in
     let Q = c .before .before .before .before .before .before .before .before .before .before .before .before .before .pre .0 in
-    let d : ℕ = depthOf (c .before .before .before .before .before .before .before .before .before .before .before .before .before .args .plan .now) (c .before .before .before .before .before .before .before .before .before .before .before .before .before .args .left) in
-    let lo : d < length (Q .layout .order) = omega (arith, Q .planned .turns .many, Q .within, c .before .before .before .before .before .before .before .before .before .before .before .before .before .pre .1) in
+    let d : ℕ = depthOf (at-start .args .plan .now) (at-start .args .left) in
+    let lo : d < length (Q .layout .order) = omega (arith, Q .planned .turns .many, Q .within, at-start .pre .1) in
     (omega (arith, Q .planned .turns .variables d lo, Q .planned .turns .known d lo, Q .planned .turns .few), omega arith)
 
 add-enter : tie.Need-add-enter Inv-loop μ-loop
-add-enter c = omega (arith, c .before .before .before .before .before .before .before .before .before .before .before .before .before .before .pre .0 .planned .turns .many, c .before .before .before .before .before .before .before .before .before .before .before .before .before .before .pre .0 .planned .turns .short)
+add-enter c =
+    let at-start = c .before .before .before .before .before .before .before .before .before .before .before .before .before .before in
+    omega (arith, at-start .pre .0 .planned .turns .many, at-start .pre .0 .planned .turns .short)
 
 enter-requires : tie.Need-enter-requires Inv-loop μ-loop
 enter-requires c κs =
+    let at-loop = c .before .before .before .before .before .before in
+    let at-start = at-loop .before .before .before .before .before .before .before .before .before in
     let Q = c .before .before .before .before .before .before .before .before .before .before .before .before .before .before .before .pre .0 in
-    (Q .planned .whole, plan-runs (Q .planned), c .before .before .before .before .before .before .loop .inv .0 ∙ Q .room, omega (arith, Q .planned .turns .many, Q .planned .turns .short, Q .within, c .before .before .before .before .before .before .before .before .before .before .before .before .before .before .before .pre .1), Q .modes)
+    (Q .planned .whole, plan-runs (Q .planned), at-loop .loop .inv .0 ∙ Q .room, omega (arith, Q .planned .turns .many, Q .planned .turns .short, Q .within, at-start .pre .1), Q .modes)
 
 sub-below : tie.Need-sub-below Inv-loop μ-loop
-sub-below c = omega (arith, c .before .before .before .before .before .before .before .before .before .before .before .before .before .before .before .before .before .before .pre .1)
+sub-below c =
+    let at-start = c .before .before .before .before .before .before .before .before .before .before .before .before .before .before .before .before .before .before in
+    omega (arith, at-start .pre .1)
 
 below-requires : tie.Need-below-requires Inv-loop μ-loop
 below-requires c κs =
+    let at-put = c .before .before .before .before .before .before in
+    let at-lowest = at-put .before .before .before in
+    let at-loop = at-lowest .before .before in
+    let at-start = at-loop .before .before .before .before .before .before .before .before .before in
     let Q = c .before .before .before .before .before .before .before .before .before .before .before .before .before .before .before .before .before .before .before .before .pre .0 in
-    let d : ℕ = depthOf (c .before .before .before .before .before .before .before .before .before .before .before .before .before .before .before .before .before .before .before .before .args .plan .now) (c .before .before .before .before .before .before .before .before .before .before .before .before .before .before .before .before .before .before .before .before .args .left) in
-    let lo : d < length (Q .layout .order) = omega (arith, Q .planned .turns .many, Q .within, c .before .before .before .before .before .before .before .before .before .before .before .before .before .before .before .before .before .before .before .before .pre .1) in
-    let put = c .before .before .before .before .before .before .put .ensures ∙ ap (λ (v : ℕ). set (choiceOf (c .before .before .before .before .before .before .before .before .before .before .before .before .before .before .before .before .before .before .before .before .args .choice)) v (c .before .before .before .before .before .before .before .before .before .lowest .result)) (Q .planned .turns .variables d lo) in
-    let r = c .before .before .before .before .before .before .before .before .before .before .before .loop .inv .3 (Q .layout) (Q .tables) (Q .rule) (Q .planned) (Q .stored) (Q .keeps) in
-    let e = c .before .before .before .before .enter .ensures .goes (Q .layout) (Q .tables) (Q .rule) (Q .planned) (caches-on (Q .planned) (c .before .before .before .before .before .before .before .before .before .before .before .before .before .before .before .before .before .before .before .before .args .choice) (c .before .before .before .before .before .before .put .result) (c .before .before .before .before .before .before .before .before .before .lowest .result) d lo put (r .1)) in
-    let deep : depthOf (c .before .before .before .before .before .before .before .before .before .before .before .before .before .before .before .before .before .before .before .before .args .plan .now) (c .before .before .before .before .before .before .before .before .before .before .before .before .before .before .before .before .before .before .before .before .args .left - 1) ≡ d + 1 = omega (arith, Q .within, c .before .before .before .before .before .before .before .before .before .before .before .before .before .before .before .before .before .before .before .before .pre .1) in
+    let d : ℕ = depthOf (at-start .args .plan .now) (at-start .args .left) in
+    let lo : d < length (Q .layout .order) = omega (arith, Q .planned .turns .many, Q .within, at-start .pre .1) in
+    let put = at-put .put .ensures ∙ ap (λ (v : ℕ). set (choiceOf (at-start .args .choice)) v (at-lowest .lowest .result)) (Q .planned .turns .variables d lo) in
+    let r = at-loop .loop .inv .3 (Q .layout) (Q .tables) (Q .rule) (Q .planned) (Q .stored) (Q .keeps) in
+    let e = c .before .before .before .before .enter .ensures .goes (Q .layout) (Q .tables) (Q .rule) (Q .planned) (caches-on (Q .planned) (at-start .args .choice) (at-put .put .result) (at-lowest .lowest .result) d lo put (r .1)) in
+    let deep : depthOf (at-start .args .plan .now) (at-start .args .left - 1) ≡ d + 1 = omega (arith, Q .within, at-start .pre .1) in
     record {
       layout = Q .layout;
       tables = Q .tables;
@@ -104,57 +119,85 @@ below-requires c κs =
       planned = Q .planned;
       modes = c .before .before .before .before .enter .ensures .modes;
       within = omega (arith, Q .within);
-      room = c .before .before .before .before .enter .ensures .room ∙ c .before .before .before .before .before .before .before .before .before .before .before .loop .inv .0 ∙ Q .room;
+      room = c .before .before .before .before .enter .ensures .room ∙ at-loop .loop .inv .0 ∙ Q .room;
       stored = rw deep (e .0);
       keeps = r .2;
     }
 
 same-length : tie.Need-same-length Inv-loop μ-loop
-same-length c = c .before .before .before .before .before .before .below .ensures .room ∙ c .before .before .before .before .before .before .before .before .before .before .before .enter .ensures .room ∙ c .before .before .before .before .before .before .before .before .before .before .before .before .before .before .before .before .before .before .loop .inv .0
+same-length c =
+    let at-below = c .before .before .before .before .before .before in
+    let at-enter = at-below .before .before .before .before .before in
+    let at-loop = at-enter .before .before .before .before .before .before .before in
+    at-below .below .ensures .room ∙ at-enter .enter .ensures .room ∙ at-loop .loop .inv .0
 
 same-length-2 : tie.Need-same-length-2 Inv-loop μ-loop
-same-length-2 c = c .before .before .before .before .before .before .below .ensures .slots ∙ c .before .before .before .before .before .before .before .before .before .before .before .before .before .before .before .before .before .before .loop .inv .1
+same-length-2 c =
+    let at-below = c .before .before .before .before .before .before in
+    let at-loop = at-below .before .before .before .before .before .before .before .before .before .before .before .before in
+    at-below .below .ensures .slots ∙ at-loop .loop .inv .1
 
 returns : tie.Need-returns Inv-loop μ-loop
 returns c =
+    let at-below = c .before .before .before .before .before .before in
+    let at-enter = at-below .before .before .before .before .before in
+    let at-put = at-enter .before .before in
+    let at-lowest = at-put .before .before .before in
+    let at-loop-test = at-lowest .before in
+    let at-loop = at-loop-test .before in
+    let at-start = at-loop .before .before .before .before .before .before .before .before .before in
     let Q = c .before .before .before .before .before .before .before .before .before .before .before .before .before .before .before .before .before .before .before .before .before .before .before .before .before .before .before .pre .0 in
-    let d : ℕ = depthOf (c .before .before .before .before .before .before .before .before .before .before .before .before .before .before .before .before .before .before .before .before .before .before .before .before .before .before .before .args .plan .now) (c .before .before .before .before .before .before .before .before .before .before .before .before .before .before .before .before .before .before .before .before .before .before .before .before .before .before .before .args .left) in
-    let deep : depthOf (c .before .before .before .before .before .before .before .before .before .before .before .before .before .before .before .before .before .before .before .before .before .before .before .before .before .before .before .args .plan .now) (c .before .before .before .before .before .before .before .before .before .before .before .before .before .before .before .before .before .before .before .before .before .before .before .before .before .before .before .args .left - 1) ≡ d + 1 = omega (arith, Q .within, c .before .before .before .before .before .before .before .before .before .before .before .before .before .before .before .before .before .before .before .before .before .before .before .before .before .before .before .pre .1) in
-    let l = lowest-item (c .before .before .before .before .before .before .before .before .before .before .before .before .before .before .before .before .before .before .loop .inv .2) (c .before .before .before .before .before .before .before .before .before .before .before .before .before .before .before .before .before .loop-test .taken) (c .before .before .before .before .before .before .before .before .before .before .before .before .before .before .before .before .lowest .ensures) in (
+    let d : ℕ = depthOf (at-start .args .plan .now) (at-start .args .left) in
+    let deep : depthOf (at-start .args .plan .now) (at-start .args .left - 1) ≡ d + 1 = omega (arith, Q .within, at-start .pre .1) in
+    let l = lowest-item (at-loop .loop .inv .2) (at-loop-test .loop-test .taken) (at-lowest .lowest .ensures) in (
       l,
       record {
-        room = c .before .before .before .before .before .before .below .ensures .room ∙ c .before .before .before .before .before .before .before .before .before .before .before .enter .ensures .room ∙ c .before .before .before .before .before .before .before .before .before .before .before .before .before .before .before .before .before .before .loop .inv .0;
-        slots = c .before .before .before .before .before .before .below .ensures .slots ∙ c .before .before .before .before .before .before .before .before .before .before .before .before .before .before .before .before .before .before .loop .inv .1;
+        room = at-below .below .ensures .room ∙ at-enter .enter .ensures .room ∙ at-loop .loop .inv .0;
+        slots = at-below .below .ensures .slots ∙ at-loop .loop .inv .1;
         goes = λ y T ρ P st ke.
-            let lo : d < length (y .order) = omega (arith, P .turns .many, Q .within, c .before .before .before .before .before .before .before .before .before .before .before .before .before .before .before .before .before .before .before .before .before .before .before .before .before .before .before .pre .1) in
-            let r = c .before .before .before .before .before .before .before .before .before .before .before .before .before .before .before .before .before .before .loop .inv .3 y T ρ P st ke in
-            let u = turned P (c .before .before .before .before .before .before .before .before .before .before .before .before .before .before .before .before .before .before .before .before .before .before .before .before .before .before .before .args .choice) (c .before .before .before .before .before .before .before .before .before .before .before .before .before .before .before .before .lowest .result) d (c .before .before .before .before .before .before .before .before .before .before .before .before .before .before .before .before .before .before .before .before .before .before .before .before .before .before .before .args .left - 1) lo deep (c .before .before .before .before .before .before .before .before .before .before .before .before .before .put .ensures) (c .before .before .before .before .before .before .before .before .before .before .before .enter .ensures) (c .before .before .before .before .before .before .below .ensures) (r .1) (r .2) in
-            let b = below-is P (c .before .before .before .before .before .before .before .before .before .before .before .before .before .before .before .before .before .before .before .before .before .before .before .before .before .before .before .args .mode) d (c .before .before .before .before .before .before .before .before .before .before .before .before .before .before .before .before .before .before .before .before .before .before .before .before .before .before .before .args .choice) (c .before .before .before .before .before .before .before .before .before .before .before .before .before .put .result) (c .before .before .before .before .before .before .before .before .before .before .before .before .before .before .before .before .lowest .result) (u .0) (u .1) (u .2) in
-            (λ some. seeking-hit (r .0) (c .before .before .before .before .before .before .before .before .before .before .before .before .before .before .before .before .lowest .result) l (c .before .before .before .before .before .before .before .before .before .before .before .before .before .before .before .before .lowest .ensures .found l) (c .before .before .before .before .before .before .before .before .before .before .before .before .before .before .before .before .lowest .ensures) (omega (arith, b, c .if1 .taken)), u .3, u .4);
+            let lo : d < length (y .order) = omega (arith, P .turns .many, Q .within, at-start .pre .1) in
+            let r = at-loop .loop .inv .3 y T ρ P st ke in
+            let u = turned P (at-start .args .choice) (at-lowest .lowest .result) d (at-start .args .left - 1) lo deep (at-put .put .ensures) (at-enter .enter .ensures) (at-below .below .ensures) (r .1) (r .2) in
+            let b = below-is P (at-start .args .mode) d (at-start .args .choice) (at-put .put .result) (at-lowest .lowest .result) (u .0) (u .1) (u .2) in
+            (λ some. seeking-hit (r .0) (at-lowest .lowest .result) l (at-lowest .lowest .ensures .found l) (at-lowest .lowest .ensures) (omega (arith, b, c .if1 .taken)), u .3, u .4);
       },
     )
 
 loop-less : tie.Need-loop-less Inv-loop μ-loop
 loop-less c =
-    let l = lowest-item (c .before .before .before .before .before .before .before .before .before .before .before .before .before .before .before .before .before .before .loop .inv .2) (c .before .before .before .before .before .before .before .before .before .before .before .before .before .before .before .before .before .loop-test .taken) (c .before .before .before .before .before .before .before .before .before .before .before .before .before .before .before .before .lowest .ensures) in
-    rw (c .before .before .before .before .before .before .before .before .before .before .before .before .before .before .less .ensures, c .before .before .before .before .before .before .before .before .before .before .before .before .before .before .before .item .ensures) (less-smaller (c .before .before .before .before .before .before .before .before .before .before .before .before .before .before .before .before .before .before .loop .rest) (c .before .before .before .before .before .before .before .before .before .before .before .before .before .before .before .before .lowest .result) (c .before .before .before .before .before .before .before .before .before .before .before .before .before .before .before .before .before .before .loop .inv .2) l (c .before .before .before .before .before .before .before .before .before .before .before .before .before .before .before .before .lowest .ensures .found l))
+    let at-less = c .before .before .before .before .before .before .before .before .before .before .before .before .before .before in
+    let at-item = at-less .before in
+    let at-lowest = at-item .before in
+    let at-loop-test = at-lowest .before in
+    let at-loop = at-loop-test .before in
+    let l = lowest-item (at-loop .loop .inv .2) (at-loop-test .loop-test .taken) (at-lowest .lowest .ensures) in
+    rw (at-less .less .ensures, at-item .item .ensures) (less-smaller (at-loop .loop .rest) (at-lowest .lowest .result) (at-loop .loop .inv .2) l (at-lowest .lowest .ensures .found l))
 
 loop-again : tie.Need-loop-again Inv-loop μ-loop
 loop-again c =
+    let at-below = c .before .before .before .before .before .before in
+    let at-enter = at-below .before .before .before .before .before in
+    let at-put = at-enter .before .before in
+    let at-less = at-put .before in
+    let at-item = at-less .before in
+    let at-lowest = at-item .before in
+    let at-loop-test = at-lowest .before in
+    let at-loop = at-loop-test .before in
+    let at-start = at-loop .before .before .before .before .before .before .before .before .before in
     let Q = c .before .before .before .before .before .before .before .before .before .before .before .before .before .before .before .before .before .before .before .before .before .before .before .before .before .before .before .pre .0 in
-    let d : ℕ = depthOf (c .before .before .before .before .before .before .before .before .before .before .before .before .before .before .before .before .before .before .before .before .before .before .before .before .before .before .before .args .plan .now) (c .before .before .before .before .before .before .before .before .before .before .before .before .before .before .before .before .before .before .before .before .before .before .before .before .before .before .before .args .left) in
-    let deep : depthOf (c .before .before .before .before .before .before .before .before .before .before .before .before .before .before .before .before .before .before .before .before .before .before .before .before .before .before .before .args .plan .now) (c .before .before .before .before .before .before .before .before .before .before .before .before .before .before .before .before .before .before .before .before .before .before .before .before .before .before .before .args .left - 1) ≡ d + 1 = omega (arith, Q .within, c .before .before .before .before .before .before .before .before .before .before .before .before .before .before .before .before .before .before .before .before .before .before .before .before .before .before .before .pre .1) in
-    let l = lowest-item (c .before .before .before .before .before .before .before .before .before .before .before .before .before .before .before .before .before .before .loop .inv .2) (c .before .before .before .before .before .before .before .before .before .before .before .before .before .before .before .before .before .loop-test .taken) (c .before .before .before .before .before .before .before .before .before .before .before .before .before .before .before .before .lowest .ensures) in
-    let smaller : c .before .before .before .before .before .before .before .before .before .before .before .before .before .before .less .result < c .before .before .before .before .before .before .before .before .before .before .before .before .before .before .before .before .before .before .loop .rest = rw (c .before .before .before .before .before .before .before .before .before .before .before .before .before .before .less .ensures, c .before .before .before .before .before .before .before .before .before .before .before .before .before .before .before .item .ensures) (less-smaller (c .before .before .before .before .before .before .before .before .before .before .before .before .before .before .before .before .before .before .loop .rest) (c .before .before .before .before .before .before .before .before .before .before .before .before .before .before .before .before .lowest .result) (c .before .before .before .before .before .before .before .before .before .before .before .before .before .before .before .before .before .before .loop .inv .2) l (c .before .before .before .before .before .before .before .before .before .before .before .before .before .before .before .before .lowest .ensures .found l)) in (
-      c .before .before .before .before .before .before .below .ensures .room ∙ c .before .before .before .before .before .before .before .before .before .before .before .enter .ensures .room ∙ c .before .before .before .before .before .before .before .before .before .before .before .before .before .before .before .before .before .before .loop .inv .0,
-      c .before .before .before .before .before .before .below .ensures .slots ∙ c .before .before .before .before .before .before .before .before .before .before .before .before .before .before .before .before .before .before .loop .inv .1,
-      omega (arith, c .before .before .before .before .before .before .before .before .before .before .before .before .before .before .before .before .before .before .loop .inv .2, smaller),
+    let d : ℕ = depthOf (at-start .args .plan .now) (at-start .args .left) in
+    let deep : depthOf (at-start .args .plan .now) (at-start .args .left - 1) ≡ d + 1 = omega (arith, Q .within, at-start .pre .1) in
+    let l = lowest-item (at-loop .loop .inv .2) (at-loop-test .loop-test .taken) (at-lowest .lowest .ensures) in
+    let smaller : at-less .less .result < at-loop .loop .rest = rw (at-less .less .ensures, at-item .item .ensures) (less-smaller (at-loop .loop .rest) (at-lowest .lowest .result) (at-loop .loop .inv .2) l (at-lowest .lowest .ensures .found l)) in (
+      at-below .below .ensures .room ∙ at-enter .enter .ensures .room ∙ at-loop .loop .inv .0,
+      at-below .below .ensures .slots ∙ at-loop .loop .inv .1,
+      omega (arith, at-loop .loop .inv .2, smaller),
       λ y T ρ P st ke.
-          let lo : d < length (y .order) = omega (arith, P .turns .many, Q .within, c .before .before .before .before .before .before .before .before .before .before .before .before .before .before .before .before .before .before .before .before .before .before .before .before .before .before .before .pre .1) in
-          let r = c .before .before .before .before .before .before .before .before .before .before .before .before .before .before .before .before .before .before .loop .inv .3 y T ρ P st ke in
-          let u = turned P (c .before .before .before .before .before .before .before .before .before .before .before .before .before .before .before .before .before .before .before .before .before .before .before .before .before .before .before .args .choice) (c .before .before .before .before .before .before .before .before .before .before .before .before .before .before .before .before .lowest .result) d (c .before .before .before .before .before .before .before .before .before .before .before .before .before .before .before .before .before .before .before .before .before .before .before .before .before .before .before .args .left - 1) lo deep (c .before .before .before .before .before .before .before .before .before .before .before .before .before .put .ensures) (c .before .before .before .before .before .before .before .before .before .before .before .enter .ensures) (c .before .before .before .before .before .before .below .ensures) (r .1) (r .2) in
-          let b = below-is P (c .before .before .before .before .before .before .before .before .before .before .before .before .before .before .before .before .before .before .before .before .before .before .before .before .before .before .before .args .mode) d (c .before .before .before .before .before .before .before .before .before .before .before .before .before .before .before .before .before .before .before .before .before .before .before .before .before .before .before .args .choice) (c .before .before .before .before .before .before .before .before .before .before .before .before .before .put .result) (c .before .before .before .before .before .before .before .before .before .before .before .before .before .before .before .before .lowest .result) (u .0) (u .1) (u .2) in
-          (rw (c .before .before .before .before .before .before .before .before .before .before .before .before .before .before .less .ensures, c .before .before .before .before .before .before .before .before .before .before .before .before .before .before .before .item .ensures) (seeking-past (r .0) (c .before .before .before .before .before .before .before .before .before .before .before .before .before .before .before .before .lowest .result) l (c .before .before .before .before .before .before .before .before .before .before .before .before .before .before .before .before .lowest .ensures .found l) (omega (arith, b, c .if1 .left))), u .3, u .4),
+          let lo : d < length (y .order) = omega (arith, P .turns .many, Q .within, at-start .pre .1) in
+          let r = at-loop .loop .inv .3 y T ρ P st ke in
+          let u = turned P (at-start .args .choice) (at-lowest .lowest .result) d (at-start .args .left - 1) lo deep (at-put .put .ensures) (at-enter .enter .ensures) (at-below .below .ensures) (r .1) (r .2) in
+          let b = below-is P (at-start .args .mode) d (at-start .args .choice) (at-put .put .result) (at-lowest .lowest .result) (u .0) (u .1) (u .2) in
+          (rw (at-less .less .ensures, at-item .item .ensures) (seeking-past (r .0) (at-lowest .lowest .result) l (at-lowest .lowest .ensures .found l) (omega (arith, b, c .if1 .left))), u .3, u .4),
     )
 
 same-length-3 : tie.Need-same-length-3 Inv-loop μ-loop
@@ -165,16 +208,17 @@ same-length-4 c = c .before .loop .inv .1
 
 returns-2 : tie.Need-returns-2 Inv-loop μ-loop
 returns-2 c =
+    let at-start = c .before .before .before .before .before .before .before .before .before .before in
     let Q = c .before .before .before .before .before .before .before .before .before .before .pre .0 in
-    let d : ℕ = depthOf (c .before .before .before .before .before .before .before .before .before .before .args .plan .now) (c .before .before .before .before .before .before .before .before .before .before .args .left) in (
+    let d : ℕ = depthOf (at-start .args .plan .now) (at-start .args .left) in (
       omega arith,
       record {
         room = c .before .loop .inv .0;
         slots = c .before .loop .inv .1;
         goes = λ y T ρ P st ke.
-            let lo : d < length (y .order) = omega (arith, P .turns .many, Q .within, c .before .before .before .before .before .before .before .before .before .before .pre .1) in
+            let lo : d < length (y .order) = omega (arith, P .turns .many, Q .within, at-start .pre .1) in
             let r = c .before .loop .inv .3 y T ρ P st ke in
-            (least-some P (c .before .before .before .before .before .before .before .before .before .before .args .mode) d (c .before .before .before .before .before .before .before .before .before .before .args .choice) _ lo (set-in P (c .before .before .before .before .before .before .before .before .before .before .args .choice) d lo st) (rw (c .loop-test .left) at (r .0)) 0, r .1, r .2);
+            (least-some P (at-start .args .mode) d (at-start .args .choice) _ lo (set-in P (at-start .args .choice) d lo st) (rw (c .loop-test .left) at (r .0)) 0, r .1, r .2);
       },
     )
 
@@ -195,9 +239,9 @@ least-spec =
     mul-rest-2
     slice-read-rest
     loop-holds
-    lowest-requires
-    item-requires
-    less-requires
+    (λ c κs. search needs)
+    (λ c κs. search needs)
+    (λ c κs. search needs)
     put-requires
     add-enter
     enter-requires

@@ -12,25 +12,14 @@ use borrow.Author.Needs.{needs}
 use Rattle.verdicts.proofs.counting.whole.Statement.{statement}
 use Rattle.verdicts.proofs.counting.whole.Tie as tie
 
-slice-aggregate-enter : tie.Need-slice-aggregate-enter
-slice-aggregate-enter c = search needs
-
 enter-requires : tie.Need-enter-requires
 enter-requires c κs = (c .before .before .before .pre .planned .whole, plan-runs (c .before .before .before .pre .planned), refl, omega arith, omega arith)
 
-shared-slice-read-count : tie.Need-shared-slice-read-count
-shared-slice-read-count c = search needs
-
-slice-aggregate-below : tie.Need-slice-aggregate-below
-slice-aggregate-below c = search needs
-
-slice-aggregate-below-2 : tie.Need-slice-aggregate-below-2
-slice-aggregate-below-2 c = search needs
-
 below-requires : tie.Need-below-requires
 below-requires c κs =
+    let at-start = c .before .before .before .before .before .before .before .before in
     let Q = c .before .before .before .before .before .before .before .before .pre in
-    let none : depthOf (c .before .before .before .before .before .before .before .before .args .plan .now) (getD (c .before .before .before .before .before .before .before .before .args .plan .now) variablesAt 0) ≡ 0 = omega arith in
+    let none : depthOf (at-start .args .plan .now) (getD (at-start .args .plan .now) variablesAt 0) ≡ 0 = omega arith in
     let e = c .before .before .before .before .enter .ensures .goes (Q .layout) (Q .tables) (Q .rule) (Q .planned) (caches-none (Q .planned) noChoice refl) in
     record {
       layout = Q .layout;
@@ -45,45 +34,47 @@ below-requires c κs =
     }
 
 returns : tie.Need-returns
-returns c = λ y T ρ P.
-    let none : depthOf (c .before .before .before .before .before .before .before .before .before .before .before .before .before .args .plan .now) (getD (c .before .before .before .before .before .before .before .before .before .before .before .before .before .args .plan .now) variablesAt 0) ≡ 0 = omega arith in
-    let e = c .before .before .before .before .before .before .before .before .before .enter .ensures .goes y T ρ P (caches-none P noChoice refl) in
+returns c =
+    let at-enter = c .before .before .before .before .before .before .before .before .before in
+    let at-start = at-enter .before .before .before .before in
+    λ y T ρ P.
+    let none : depthOf (at-start .args .plan .now) (getD (at-start .args .plan .now) variablesAt 0) ≡ 0 = omega arith in
+    let e = at-enter .enter .ensures .goes y T ρ P (caches-none P noChoice refl) in
     let r = c .before .before .before .before .below .ensures .goes y T ρ P (rw none (e .0)) (keeps-none P) in
     walks-none P (e .1) (rw none at (r .0)) (c .if1 .taken)
 
-slice-aggregate-descend : tie.Need-slice-aggregate-descend
-slice-aggregate-descend c = search needs
-
-slice-aggregate-descend-2 : tie.Need-slice-aggregate-descend-2
-slice-aggregate-descend-2 c = search needs
-
 descend-requires : tie.Need-descend-requires
 descend-requires c κs =
+    let at-below = c .before .before .before .before .before .before in
+    let at-enter = at-below .before .before .before .before .before in
+    let at-start = at-enter .before .before .before .before in
     let Q = c .before .before .before .before .before .before .before .before .before .before .before .before .before .before .before .pre in
-    let none : depthOf (c .before .before .before .before .before .before .before .before .before .before .before .before .before .before .before .args .plan .now) (getD (c .before .before .before .before .before .before .before .before .before .before .before .before .before .before .before .args .plan .now) variablesAt 0) ≡ 0 = omega arith in
-    let e = c .before .before .before .before .before .before .before .before .before .before .before .enter .ensures .goes (Q .layout) (Q .tables) (Q .rule) (Q .planned) (caches-none (Q .planned) noChoice refl) in
-    let r = c .before .before .before .before .before .before .below .ensures .goes (Q .layout) (Q .tables) (Q .rule) (Q .planned) (rw none (e .0)) (keeps-none (Q .planned)) in
+    let none : depthOf (at-start .args .plan .now) (getD (at-start .args .plan .now) variablesAt 0) ≡ 0 = omega arith in
+    let e = at-enter .enter .ensures .goes (Q .layout) (Q .tables) (Q .rule) (Q .planned) (caches-none (Q .planned) noChoice refl) in
+    let r = at-below .below .ensures .goes (Q .layout) (Q .tables) (Q .rule) (Q .planned) (rw none (e .0)) (keeps-none (Q .planned)) in
     record {
       layout = Q .layout;
       tables = Q .tables;
       rule = Q .rule;
       planned = Q .planned;
-      modes = c .before .before .before .before .before .before .before .before .before .before .before .enter .ensures .modes;
+      modes = at-enter .enter .ensures .modes;
       within = omega arith;
-      room = c .before .before .before .before .before .before .below .ensures .room ∙ c .before .before .before .before .before .before .before .before .before .before .before .enter .ensures .room;
+      room = at-below .below .ensures .room ∙ at-enter .enter .ensures .room;
       stored = r .1;
       keeps = r .2;
     }
 
-bytes-requires : tie.Need-bytes-requires
-bytes-requires c κs = search needs
-
 returns-2 : tie.Need-returns-2
-returns-2 c = λ y T ρ P.
-    let none : depthOf (c .before .before .before .before .before .before .before .before .before .before .before .before .before .before .before .before .before .before .before .args .plan .now) (getD (c .before .before .before .before .before .before .before .before .before .before .before .before .before .before .before .before .before .before .before .args .plan .now) variablesAt 0) ≡ 0 = omega arith in
-    let e = c .before .before .before .before .before .before .before .before .before .before .before .before .before .before .before .enter .ensures .goes y T ρ P (caches-none P noChoice refl) in
-    let r = c .before .before .before .before .before .before .before .before .before .before .below .ensures .goes y T ρ P (rw none (e .0)) (keeps-none P) in
-    let some : 0 < c .before .before .before .before .before .before .before .before .before .before .below .result .breaking = omega (arith, c .before .before .before .before .before .before .if1 .left) in
+returns-2 c =
+    let at-if1 = c .before .before .before .before .before .before in
+    let at-below = at-if1 .before .before .before .before in
+    let at-enter = at-below .before .before .before .before .before in
+    let at-start = at-enter .before .before .before .before in
+    λ y T ρ P.
+    let none : depthOf (at-start .args .plan .now) (getD (at-start .args .plan .now) variablesAt 0) ≡ 0 = omega arith in
+    let e = at-enter .enter .ensures .goes y T ρ P (caches-none P noChoice refl) in
+    let r = at-below .below .ensures .goes y T ρ P (rw none (e .0)) (keeps-none P) in
+    let some : 0 < at-below .below .result .breaking = omega (arith, at-if1 .if1 .left) in
     walks-some P (e .1) (rw none at (r .0)) (c .before .before .before .descend .result)
     (c .before .before .before .descend .ensures y T ρ P (rw none at (r .1)) (r .2) (nearer-start P (e .1) (rw none at (r .0)) some)) (c .bytes .result) (c .bytes .ensures)
 
@@ -91,15 +82,15 @@ pub whole-spec : {M : Type 1} → statement M
 whole-spec =
     tie.close
     (tie.spec
-    slice-aggregate-enter
+    (λ c. search needs)
     enter-requires
-    shared-slice-read-count
-    slice-aggregate-below
-    slice-aggregate-below-2
+    (λ c. search needs)
+    (λ c. search needs)
+    (λ c. search needs)
     below-requires
     returns
-    slice-aggregate-descend
-    slice-aggregate-descend-2
+    (λ c. search needs)
+    (λ c. search needs)
     descend-requires
-    bytes-requires
+    (λ c κs. search needs)
     returns-2)

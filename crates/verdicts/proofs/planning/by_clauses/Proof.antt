@@ -35,24 +35,28 @@ shared-slice-read-if1 : tie.Need-shared-slice-read-if1 Inv-loop μ-loop
 shared-slice-read-if1 c = omega (arith, c .before .before .before .before .before .pre .0, c .before .before .before .before .before .pre .2, c .before .loop-test .taken)
 
 mul-join : tie.Need-mul-join Inv-loop μ-loop
-mul-join c = omega (arith, c .before .before .before .before .before .before .pre .2, c .before .before .loop-test .taken)
+mul-join c =
+    let at-start = c .before .before .before .before .before .before in
+    omega (arith, at-start .pre .2, c .before .before .loop-test .taken)
 
 shared-slice-read-join : tie.Need-shared-slice-read-join Inv-loop μ-loop
-shared-slice-read-join c = omega (arith, c .before .before .before .before .before .before .before .pre .1, c .before .before .before .before .before .before .before .pre .2, c .before .before .before .loop-test .taken)
-
-join-requires : tie.Need-join-requires Inv-loop μ-loop
-join-requires c κs = search needs
+shared-slice-read-join c =
+    let at-start = c .before .before .before .before .before .before .before in
+    omega (arith, at-start .pre .1, at-start .pre .2, c .before .before .before .loop-test .taken)
 
 add-i : tie.Need-add-i Inv-loop μ-loop
-add-i c = omega (arith, c .before .before .before .before .before .before .pre .2, c .before .before .loop-test .taken)
+add-i c =
+    let at-start = c .before .before .before .before .before .before in
+    omega (arith, at-start .pre .2, c .before .before .loop-test .taken)
 
 loop-less : tie.Need-loop-less Inv-loop μ-loop
 loop-less c = omega (arith, c .before .before .loop-test .taken)
 
 loop-again : tie.Need-loop-again Inv-loop μ-loop
 loop-again c =
-    let P : List ℕ = c .before .before .before .before .before .before .args .plan .now in
-    let w : ℕ = getD (c .before .before .before .before .before .before .args .scopes .now) (c .before .before .before .loop .i) 0 in
+    let at-start = c .before .before .before .before .before .before in
+    let P : List ℕ = at-start .args .plan .now in
+    let w : ℕ = getD (at-start .args .scopes .now) (c .before .before .before .loop .i) 0 in
     let level : getD (drop levelsFrom P) (c .before .before .before .loop .i) 0 ≡ getD P (levelsFrom + c .before .before .before .loop .i) 0 = getD-drop levelsFrom P (c .before .before .before .loop .i) 0 in
     ⊎-elim
     (λ h.
@@ -64,7 +68,7 @@ loop-again c =
           let at-most : j ≤ c .before .before .before .loop .i = omega arith in
           ⊎-elim
           (λ (q : j ≡ c .before .before .before .loop .i). rw q (joined-right (c .before .before .before .loop .found) w (c .if1 .found) e fit))
-          (λ (q : j < c .before .before .before .loop .i). joined-left (c .before .before .before .loop .found) w (c .if1 .found) (has (getD (c .before .before .before .before .before .before .args .scopes .now) j 0)) e (c .before .before .before .loop .inv .1) (c .before .before .before .loop .inv .2 j q k))
+          (λ (q : j < c .before .before .before .loop .i). joined-left (c .before .before .before .loop .found) w (c .if1 .found) (has (getD (at-start .args .scopes .now) j 0)) e (c .before .before .before .loop .inv .1) (c .before .before .before .loop .inv .2 j q k))
           (eq-or-lt-of-le at-most),
     ))
     (λ h. (
@@ -73,7 +77,7 @@ loop-again c =
       λ j l k.
           let at-most : j ≤ c .before .before .before .loop .i = omega arith in
           ⊎-elim
-          (λ (q : j ≡ c .before .before .before .loop .i). let high : c .before .before .before .before .before .before .args .d < getD (drop levelsFrom P) (c .before .before .before .loop .i) 0 = rw q at k in absurd (omega (arith, h .0 .left, level)))
+          (λ (q : j ≡ c .before .before .before .loop .i). let high : at-start .args .d < getD (drop levelsFrom P) (c .before .before .before .loop .i) 0 = rw q at k in absurd (omega (arith, h .0 .left, level)))
           (λ (q : j < c .before .before .before .loop .i). rw (h .1) (c .before .before .before .loop .inv .2 j q k))
           (eq-or-lt-of-le at-most),
     ))
@@ -94,7 +98,7 @@ by-clauses-spec =
     shared-slice-read-if1
     mul-join
     shared-slice-read-join
-    join-requires
+    (λ c κs. search needs)
     add-i
     loop-less
     loop-again

@@ -32,28 +32,30 @@ mul-join : tie.Need-mul-join Inv-loop μ-loop
 mul-join c = omega (arith, c .before .before .before .before .before .pre .2 (c .before .before .loop .j) (c .before .loop-test .taken))
 
 shared-slice-read-join-2 : tie.Need-shared-slice-read-join-2 Inv-loop μ-loop
-shared-slice-read-join-2 c = omega (arith, c .before .before .before .before .before .before .pre .0, c .before .before .before .before .before .before .pre .2 (c .before .before .before .loop .j) (c .before .before .loop-test .taken))
-
-join-requires : tie.Need-join-requires Inv-loop μ-loop
-join-requires c κs = search needs
+shared-slice-read-join-2 c =
+    let at-start = c .before .before .before .before .before .before in
+    omega (arith, at-start .pre .0, at-start .pre .2 (c .before .before .before .loop .j) (c .before .before .loop-test .taken))
 
 add-j : tie.Need-add-j Inv-loop μ-loop
-add-j c = omega (arith, c .before .before .before .before .before .before .before .pre .1, c .before .before .before .loop-test .taken)
+add-j c =
+    let at-start = c .before .before .before .before .before .before .before in
+    omega (arith, at-start .pre .1, c .before .before .before .loop-test .taken)
 
 loop-less : tie.Need-loop-less Inv-loop μ-loop
 loop-less c = omega (arith, c .before .before .before .loop-test .taken)
 
 loop-again : tie.Need-loop-again Inv-loop μ-loop
 loop-again c =
-    let w : ℕ = getD (c .before .before .before .before .before .before .before .args .names .now) (getD (c .before .before .before .before .before .before .before .args .order .now) (c .before .before .before .before .loop .j) 0) 0 in
-    let fit : w < 2 ^ 64 = omega (arith, c .before .shared-slice-known4 .given (getD (c .before .before .before .before .before .before .before .args .order .now) (c .before .before .before .before .loop .j) 0)) in (
+    let at-start = c .before .before .before .before .before .before .before in
+    let w : ℕ = getD (at-start .args .names .now) (getD (at-start .args .order .now) (c .before .before .before .before .loop .j) 0) 0 in
+    let fit : w < 2 ^ 64 = omega (arith, c .before .shared-slice-known4 .given (getD (at-start .args .order .now) (c .before .before .before .before .loop .j) 0)) in (
       omega (arith, c .before .before .before .before .loop .inv .0),
       joined-small (c .before .before .before .before .loop .found) w (c .join .result) (c .join .ensures),
       λ i l k m.
           let at-most : i ≤ c .before .before .before .before .loop .j = omega arith in
           ⊎-elim
           (λ (e : i ≡ c .before .before .before .before .loop .j). rw e (joined-right (c .before .before .before .before .loop .found) w (c .join .result) (c .join .ensures) fit))
-          (λ (e : i < c .before .before .before .before .loop .j). joined-left (c .before .before .before .before .loop .found) w (c .join .result) (has (getD (c .before .before .before .before .before .before .before .args .names .now) (getD (c .before .before .before .before .before .before .before .args .order .now) i 0) 0)) (c .join .ensures) (c .before .before .before .before .loop .inv .1) (c .before .before .before .before .loop .inv .2 i l e m))
+          (λ (e : i < c .before .before .before .before .loop .j). joined-left (c .before .before .before .before .loop .found) w (c .join .result) (has (getD (at-start .args .names .now) (getD (at-start .args .order .now) i 0) 0)) (c .join .ensures) (c .before .before .before .before .loop .inv .1) (c .before .before .before .before .loop .inv .2 i l e m))
           (eq-or-lt-of-le at-most),
     )
 
@@ -71,7 +73,7 @@ by-sets-spec =
     cast-join
     mul-join
     shared-slice-read-join-2
-    join-requires
+    (λ c κs. search needs)
     add-j
     loop-less
     loop-again

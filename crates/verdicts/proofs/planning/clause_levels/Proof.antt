@@ -25,31 +25,44 @@ mul-level : tie.Need-mul-level Inv-loop μ-loop
 mul-level c = omega (arith, c .before .before .before .before .before .pre .1, c .loop-test .taken)
 
 shared-slice-read-level : tie.Need-shared-slice-read-level Inv-loop μ-loop
-shared-slice-read-level c = omega (arith, c .before .before .before .before .before .before .pre .1, c .before .before .before .before .before .before .pre .2, c .before .loop-test .taken)
+shared-slice-read-level c =
+    let at-start = c .before .before .before .before .before .before in
+    omega (arith, at-start .pre .1, at-start .pre .2, c .before .loop-test .taken)
 
 level-requires : tie.Need-level-requires Inv-loop μ-loop
-level-requires c κs = (c .before .before .before .before .before .before .pre .3, c .before .before .before .before .before .before .pre .4)
+level-requires c κs =
+    let at-start = c .before .before .before .before .before .before in
+    (at-start .pre .3, at-start .pre .4)
 
 cast-plan : tie.Need-cast-plan Inv-loop μ-loop
-cast-plan c = omega (arith, c .level .ensures .within, c .before .before .before .before .before .before .before .pre .3)
+cast-plan c =
+    let at-start = c .before .before .before .before .before .before .before in
+    omega (arith, c .level .ensures .within, at-start .pre .3)
 
 add-plan : tie.Need-add-plan Inv-loop μ-loop
-add-plan c = omega (arith, c .before .before .before .before .before .before .before .pre .1, c .before .before .loop-test .taken)
+add-plan c =
+    let at-start = c .before .before .before .before .before .before .before in
+    omega (arith, at-start .pre .1, c .before .before .loop-test .taken)
 
 mul-plan : tie.Need-mul-plan Inv-loop μ-loop
-mul-plan c = omega (arith, c .before .before .before .before .before .before .before .pre .1, c .before .before .loop-test .taken)
+mul-plan c =
+    let at-start = c .before .before .before .before .before .before .before in
+    omega (arith, at-start .pre .1, c .before .before .loop-test .taken)
 
 slice-write-plan : tie.Need-slice-write-plan Inv-loop μ-loop
-slice-write-plan c = omega (arith, c .before .before .before .before .before .before .before .pre .0, c .before .before .before .before .before .before .before .pre .1, c .before .before .before .loop .inv .1 .long, c .before .before .loop-test .taken)
+slice-write-plan c =
+    let at-start = c .before .before .before .before .before .before .before in
+    omega (arith, at-start .pre .0, at-start .pre .1, c .before .before .before .loop .inv .1 .long, c .before .before .loop-test .taken)
 
 add-i : tie.Need-add-i Inv-loop μ-loop
-add-i c = omega (arith, c .before .before .before .before .before .before .before .pre .1, c .before .before .loop-test .taken)
-
-loop-less : tie.Need-loop-less Inv-loop μ-loop
-loop-less c = search needs
+add-i c =
+    let at-start = c .before .before .before .before .before .before .before in
+    omega (arith, at-start .pre .1, c .before .before .loop-test .taken)
 
 loop-again : tie.Need-loop-again Inv-loop μ-loop
-loop-again c = (omega arith, filled-more (c .before .before .before .loop .inv .1) (omega (arith, c .before .before .before .before .before .before .before .pre .0, c .before .before .before .before .before .before .before .pre .1, c .before .before .loop-test .taken)) _ (c .level .ensures))
+loop-again c =
+    let at-start = c .before .before .before .before .before .before .before in
+    (omega arith, filled-more (c .before .before .before .loop .inv .1) (omega (arith, at-start .pre .0, at-start .pre .1, c .before .before .loop-test .taken)) _ (c .level .ensures))
 
 same-length : tie.Need-same-length Inv-loop μ-loop
 same-length c = c .before .loop .inv .1 .long
@@ -72,7 +85,7 @@ clause-levels-spec =
     mul-plan
     slice-write-plan
     add-i
-    loop-less
+    (λ c. search needs)
     loop-again
     same-length
     returns)

@@ -29,29 +29,20 @@ mul-operation c = omega (arith, c .loop .inv .0, c .before .before .before .pre 
 shared-slice-read-operation : tie.Need-shared-slice-read-operation Inv-loop μ-loop
 shared-slice-read-operation c = omega (arith, c .before .loop .inv .0, c .before .before .before .before .pre .0 .fits)
 
-operation-requires : tie.Need-operation-requires Inv-loop μ-loop
-operation-requires c κs = search needs
-
 mul-left : tie.Need-mul-left Inv-loop μ-loop
-mul-left c = omega (arith, c .before .before .before .loop .inv .0, c .before .before .before .before .before .before .pre .2)
+mul-left c =
+    let at-start = c .before .before .before .before .before .before in
+    omega (arith, c .before .before .before .loop .inv .0, at-start .pre .2)
 
 shared-slice-read-left : tie.Need-shared-slice-read-left Inv-loop μ-loop
-shared-slice-read-left c = omega (arith, c .before .before .before .before .loop .inv .0, c .before .before .before .before .before .before .before .pre .0 .fits)
-
-left-requires : tie.Need-left-requires Inv-loop μ-loop
-left-requires c κs = search needs
-
-cast-tests-at : tie.Need-cast-tests-at Inv-loop μ-loop
-cast-tests-at c = search needs
+shared-slice-read-left c =
+    let at-start = c .before .before .before .before .before .before .before in
+    omega (arith, c .before .before .before .before .loop .inv .0, at-start .pre .0 .fits)
 
 tests-at-requires : tie.Need-tests-at-requires Inv-loop μ-loop
-tests-at-requires c κs = (c .before .before .before .before .before .before .before .before .pre .0, omega (arith, left-in (c .before .before .before .before .before .before .before .before .pre .0) (c .before .before .before .before .before .loop .inv .0) (omega (arith, c .before .before .before .operation .ensures, c .before .before .if1 .taken)), c .left .ensures))
-
-cast-plan : tie.Need-cast-plan Inv-loop μ-loop
-cast-plan c = search needs
-
-cast-plan-2 : tie.Need-cast-plan-2 Inv-loop μ-loop
-cast-plan-2 c = search needs
+tests-at-requires c κs =
+    let at-start = c .before .before .before .before .before .before .before .before in
+    (at-start .pre .0, omega (arith, left-in (at-start .pre .0) (c .before .before .before .before .before .loop .inv .0) (omega (arith, c .before .before .before .operation .ensures, c .before .before .if1 .taken)), c .left .ensures))
 
 mul-plan : tie.Need-mul-plan Inv-loop μ-loop
 mul-plan c = omega (arith, c .struct-known2 .given)
@@ -60,51 +51,68 @@ add-plan : tie.Need-add-plan Inv-loop μ-loop
 add-plan c = omega (arith, c .before .struct-known .given, c .struct-known2 .given)
 
 add-plan-2 : tie.Need-add-plan-2 Inv-loop μ-loop
-add-plan-2 c = omega (arith, c .before .before .before .before .before .before .before .before .loop .inv .1, c .before .before .before .before .before .before .before .before .before .before .before .pre .1, c .before .before .before .before .before .before .before .before .before .before .before .pre .2)
+add-plan-2 c =
+    let at-loop = c .before .before .before .before .before .before .before .before in
+    let at-start = at-loop .before .before .before in
+    omega (arith, at-loop .loop .inv .1, at-start .pre .1, at-start .pre .2)
 
 mul-plan-2 : tie.Need-mul-plan-2 Inv-loop μ-loop
-mul-plan-2 c = omega (arith, c .before .before .before .before .before .before .before .before .loop .inv .1, c .before .before .before .before .before .before .before .before .before .before .before .pre .1, c .before .before .before .before .before .before .before .before .before .before .before .pre .2)
+mul-plan-2 c =
+    let at-loop = c .before .before .before .before .before .before .before .before in
+    let at-start = at-loop .before .before .before in
+    omega (arith, at-loop .loop .inv .1, at-start .pre .1, at-start .pre .2)
 
 slice-write-plan : tie.Need-slice-write-plan Inv-loop μ-loop
-slice-write-plan c = omega (arith, c .before .before .before .before .before .before .before .before .loop .inv .1, c .before .before .before .before .before .before .before .before .before .before .before .pre .1, c .before .before .before .before .before .before .before .before .before .before .before .pre .2, c .before .before .before .before .before .before .before .before .before .before .before .pre .3, c .before .before .before .before .before .before .before .before .loop .inv .2 .long)
+slice-write-plan c =
+    let at-loop = c .before .before .before .before .before .before .before .before in
+    let at-start = at-loop .before .before .before in
+    omega (arith, at-loop .loop .inv .1, at-start .pre .1, at-start .pre .2, at-start .pre .3, at-loop .loop .inv .2 .long)
 
 mul-right : tie.Need-mul-right Inv-loop μ-loop
-mul-right c = omega (arith, c .before .before .before .before .before .before .before .before .loop .inv .0, c .before .before .before .before .before .before .before .before .before .before .before .pre .2)
+mul-right c =
+    let at-loop = c .before .before .before .before .before .before .before .before in
+    let at-start = at-loop .before .before .before in
+    omega (arith, at-loop .loop .inv .0, at-start .pre .2)
 
 shared-slice-read-right : tie.Need-shared-slice-read-right Inv-loop μ-loop
-shared-slice-read-right c = omega (arith, c .before .before .before .before .before .before .before .before .before .loop .inv .0, c .before .before .before .before .before .before .before .before .before .before .before .before .pre .0 .fits)
-
-right-requires : tie.Need-right-requires Inv-loop μ-loop
-right-requires c κs = search needs
-
-cast-at : tie.Need-cast-at Inv-loop μ-loop
-cast-at c = search needs
+shared-slice-read-right c =
+    let at-loop = c .before .before .before .before .before .before .before .before .before in
+    let at-start = at-loop .before .before .before in
+    omega (arith, at-loop .loop .inv .0, at-start .pre .0 .fits)
 
 add-i : tie.Need-add-i Inv-loop μ-loop
-add-i c = omega (arith, c .before .before .before .before .before .before .before .before .before .before .loop .inv .1, c .before .before .before .before .before .before .before .before .before .before .before .before .before .pre .1, c .before .before .before .before .before .before .before .before .before .before .before .before .before .pre .2)
+add-i c =
+    let at-loop = c .before .before .before .before .before .before .before .before .before .before in
+    let at-start = at-loop .before .before .before in
+    omega (arith, at-loop .loop .inv .1, at-start .pre .1, at-start .pre .2)
 
 loop-less : tie.Need-loop-less Inv-loop μ-loop
-loop-less c = omega (arith, right-below₂ (c .before .before .before .before .before .before .before .before .before .before .before .before .before .pre .0) (c .before .before .before .before .before .before .before .before .before .before .loop .inv .0) (omega (arith, c .before .before .before .before .before .before .before .before .operation .ensures, c .before .before .before .before .before .before .before .if1 .taken)), c .right .ensures)
+loop-less c =
+    let at-if1 = c .before .before .before .before .before .before .before in
+    let at-operation = at-if1 .before in
+    let at-loop = at-operation .before .before in
+    let at-start = at-loop .before .before .before in
+    omega (arith, right-below₂ (at-start .pre .0) (at-loop .loop .inv .0) (omega (arith, at-operation .operation .ensures, at-if1 .if1 .taken)), c .right .ensures)
 
 loop-again : tie.Need-loop-again Inv-loop μ-loop
 loop-again c =
-    let o = sym (c .before .before .before .before .before .before .before .before .operation .ensures) ∙ c .before .before .before .before .before .before .before .if1 .taken in
-    let less = right-below₂ (c .before .before .before .before .before .before .before .before .before .before .before .before .before .pre .0) (c .before .before .before .before .before .before .before .before .before .before .loop .inv .0) (omega (arith, c .before .before .before .before .before .before .before .before .operation .ensures, c .before .before .before .before .before .before .before .if1 .taken)) in (
-      omega (arith, less, c .right .ensures, c .before .before .before .before .before .before .before .before .before .before .loop .inv .0),
-      omega (arith, less, c .right .ensures, c .before .before .before .before .before .before .before .before .before .before .loop .inv .1),
-      filled-more (c .before .before .before .before .before .before .before .before .before .before .loop .inv .2) (omega (arith, c .before .before .before .before .before .before .before .before .before .before .loop .inv .1, c .before .before .before .before .before .before .before .before .before .before .before .before .before .pre .1, c .before .before .before .before .before .before .before .before .before .before .before .before .before .pre .2, c .before .before .before .before .before .before .before .before .before .before .before .before .before .pre .3)) _
-          (clause-made (omega (arith, c .before .before .before .struct-known .given)) (c .before .before .before .before .tests-at .ensures) (λ ρ x. rw (c .before .before .before .before .before .left .ensures) (rest-also (c .before .before .before .before .before .before .before .before .before .before .before .before .before .args .nodes .now) ρ (c .before .before .before .before .before .before .before .before .before .before .loop .i) (c .before .before .before .before .before .before .before .before .before .before .loop .at) (c .before .before .before .before .before .before .before .before .before .before .loop .inv .3 ρ x) o .0))),
-      λ ρ x. rw (c .right .ensures) (rest-also (c .before .before .before .before .before .before .before .before .before .before .before .before .before .args .nodes .now) ρ (c .before .before .before .before .before .before .before .before .before .before .loop .i) (c .before .before .before .before .before .before .before .before .before .before .loop .at) (c .before .before .before .before .before .before .before .before .before .before .loop .inv .3 ρ x) o .1),
+    let at-if1 = c .before .before .before .before .before .before .before in
+    let at-operation = at-if1 .before in
+    let at-loop = at-operation .before .before in
+    let at-start = at-loop .before .before .before in
+    let o = sym (at-operation .operation .ensures) ∙ at-if1 .if1 .taken in
+    let less = right-below₂ (at-start .pre .0) (at-loop .loop .inv .0) (omega (arith, at-operation .operation .ensures, at-if1 .if1 .taken)) in (
+      omega (arith, less, c .right .ensures, at-loop .loop .inv .0),
+      omega (arith, less, c .right .ensures, at-loop .loop .inv .1),
+      filled-more (at-loop .loop .inv .2) (omega (arith, at-loop .loop .inv .1, at-start .pre .1, at-start .pre .2, at-start .pre .3)) _
+          (clause-made (omega (arith, c .before .before .before .struct-known .given)) (c .before .before .before .before .tests-at .ensures) (λ ρ x. rw (c .before .before .before .before .before .left .ensures) (rest-also (at-start .args .nodes .now) ρ (at-loop .loop .i) (at-loop .loop .at) (at-loop .loop .inv .3 ρ x) o .0))),
+      λ ρ x. rw (c .right .ensures) (rest-also (at-start .args .nodes .now) ρ (at-loop .loop .i) (at-loop .loop .at) (at-loop .loop .inv .3 ρ x) o .1),
     )
 
 tests-at-requires-2 : tie.Need-tests-at-requires-2 Inv-loop μ-loop
-tests-at-requires-2 c κs = (c .before .before .before .before .before .before .pre .0, c .before .before .before .loop .inv .0)
-
-cast-plan-3 : tie.Need-cast-plan-3 Inv-loop μ-loop
-cast-plan-3 c = search needs
-
-cast-plan-4 : tie.Need-cast-plan-4 Inv-loop μ-loop
-cast-plan-4 c = search needs
+tests-at-requires-2 c κs =
+    let at-start = c .before .before .before .before .before .before in
+    (at-start .pre .0, c .before .before .before .loop .inv .0)
 
 mul-plan-3 : tie.Need-mul-plan-3 Inv-loop μ-loop
 mul-plan-3 c = omega (arith, c .struct-known4 .given)
@@ -113,27 +121,43 @@ add-plan-3 : tie.Need-add-plan-3 Inv-loop μ-loop
 add-plan-3 c = omega (arith, c .before .struct-known3 .given, c .struct-known4 .given)
 
 add-plan-4 : tie.Need-add-plan-4 Inv-loop μ-loop
-add-plan-4 c = omega (arith, c .before .before .before .before .before .before .loop .inv .1, c .before .before .before .before .before .before .before .before .before .pre .1, c .before .before .before .before .before .before .before .before .before .pre .2)
+add-plan-4 c =
+    let at-loop = c .before .before .before .before .before .before in
+    let at-start = at-loop .before .before .before in
+    omega (arith, at-loop .loop .inv .1, at-start .pre .1, at-start .pre .2)
 
 mul-plan-4 : tie.Need-mul-plan-4 Inv-loop μ-loop
-mul-plan-4 c = omega (arith, c .before .before .before .before .before .before .loop .inv .1, c .before .before .before .before .before .before .before .before .before .pre .1, c .before .before .before .before .before .before .before .before .before .pre .2)
+mul-plan-4 c =
+    let at-loop = c .before .before .before .before .before .before in
+    let at-start = at-loop .before .before .before in
+    omega (arith, at-loop .loop .inv .1, at-start .pre .1, at-start .pre .2)
 
 slice-write-plan-2 : tie.Need-slice-write-plan-2 Inv-loop μ-loop
-slice-write-plan-2 c = omega (arith, c .before .before .before .before .before .before .loop .inv .1, c .before .before .before .before .before .before .before .before .before .pre .1, c .before .before .before .before .before .before .before .before .before .pre .2, c .before .before .before .before .before .before .before .before .before .pre .3, c .before .before .before .before .before .before .loop .inv .2 .long)
+slice-write-plan-2 c =
+    let at-loop = c .before .before .before .before .before .before in
+    let at-start = at-loop .before .before .before in
+    omega (arith, at-loop .loop .inv .1, at-start .pre .1, at-start .pre .2, at-start .pre .3, at-loop .loop .inv .2 .long)
 
 add-result : tie.Need-add-result Inv-loop μ-loop
-add-result c = omega (arith, c .before .before .before .before .before .before .loop .inv .1, c .before .before .before .before .before .before .before .before .before .pre .1, c .before .before .before .before .before .before .before .before .before .pre .2)
+add-result c =
+    let at-loop = c .before .before .before .before .before .before in
+    let at-start = at-loop .before .before .before in
+    omega (arith, at-loop .loop .inv .1, at-start .pre .1, at-start .pre .2)
 
 same-length : tie.Need-same-length Inv-loop μ-loop
-same-length c = length-set (c .before .before .before .before .before .before .loop .plan) _ _ ∙ c .before .before .before .before .before .before .loop .inv .2 .long
+same-length c =
+    let at-loop = c .before .before .before .before .before .before in
+    length-set (at-loop .loop .plan) _ _ ∙ at-loop .loop .inv .2 .long
 
 returns : tie.Need-returns Inv-loop μ-loop
 returns c =
+    let at-loop = c .before .before .before .before .before .before in
+    let at-start = at-loop .before .before .before in
     record {
-      filled = filled-more (c .before .before .before .before .before .before .loop .inv .2) (omega (arith, c .before .before .before .before .before .before .loop .inv .1, c .before .before .before .before .before .before .before .before .before .pre .1, c .before .before .before .before .before .before .before .before .before .pre .2, c .before .before .before .before .before .before .before .before .before .pre .3)) _
-          (clause-made (omega (arith, c .before .struct-known3 .given)) (c .before .before .tests-at2 .ensures) (λ ρ x. rest-last (c .before .before .before .before .before .before .before .before .before .args .nodes .now) ρ (c .before .before .before .before .before .before .loop .i) (c .before .before .before .before .before .before .loop .at) (c .before .before .before .before .before .before .loop .inv .3 ρ x) (λ e. c .before .before .before .if1 .left (c .before .before .before .before .operation .ensures ∙ e)) .0));
-      small = omega (arith, c .before .before .before .before .before .before .loop .inv .1, c .before .before .before .before .before .before .before .before .before .pre .1, c .before .before .before .before .before .before .before .before .before .pre .2);
-      many = λ ρ x. sym (rest-last (c .before .before .before .before .before .before .before .before .before .args .nodes .now) ρ (c .before .before .before .before .before .before .loop .i) (c .before .before .before .before .before .before .loop .at) (c .before .before .before .before .before .before .loop .inv .3 ρ x) (λ e. c .before .before .before .if1 .left (c .before .before .before .before .operation .ensures ∙ e)) .1);
+      filled = filled-more (at-loop .loop .inv .2) (omega (arith, at-loop .loop .inv .1, at-start .pre .1, at-start .pre .2, at-start .pre .3)) _
+          (clause-made (omega (arith, c .before .struct-known3 .given)) (c .before .before .tests-at2 .ensures) (λ ρ x. rest-last (at-start .args .nodes .now) ρ (at-loop .loop .i) (at-loop .loop .at) (at-loop .loop .inv .3 ρ x) (λ e. c .before .before .before .if1 .left (c .before .before .before .before .operation .ensures ∙ e)) .0));
+      small = omega (arith, at-loop .loop .inv .1, at-start .pre .1, at-start .pre .2);
+      many = λ ρ x. sym (rest-last (at-start .args .nodes .now) ρ (at-loop .loop .i) (at-loop .loop .at) (at-loop .loop .inv .3 ρ x) (λ e. c .before .before .before .if1 .left (c .before .before .before .before .operation .ensures ∙ e)) .1);
     }
 
 pub clauses-spec : {M : Type 1} → statement M
@@ -145,14 +169,14 @@ clauses-spec =
     loop-holds
     mul-operation
     shared-slice-read-operation
-    operation-requires
+    (λ c κs. search needs)
     mul-left
     shared-slice-read-left
-    left-requires
-    cast-tests-at
+    (λ c κs. search needs)
+    (λ c. search needs)
     tests-at-requires
-    cast-plan
-    cast-plan-2
+    (λ c. search needs)
+    (λ c. search needs)
     mul-plan
     add-plan
     add-plan-2
@@ -160,14 +184,14 @@ clauses-spec =
     slice-write-plan
     mul-right
     shared-slice-read-right
-    right-requires
-    cast-at
+    (λ c κs. search needs)
+    (λ c. search needs)
     add-i
     loop-less
     loop-again
     tests-at-requires-2
-    cast-plan-3
-    cast-plan-4
+    (λ c. search needs)
+    (λ c. search needs)
     mul-plan-3
     add-plan-3
     add-plan-4

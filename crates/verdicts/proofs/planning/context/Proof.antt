@@ -5,21 +5,12 @@ use borrow.Author.Needs.{needs}
 use Rattle.verdicts.proofs.planning.context.Statement.{statement}
 use Rattle.verdicts.proofs.planning.context.Tie as tie
 
-by-sets-requires : tie.Need-by-sets-requires
-by-sets-requires c κs = search needs
-
 returns : tie.Need-returns
 returns c = context-less _ _ _ _ _ _ (c .before .by-sets .result) (c .if1 .taken) (c .before .by-sets .ensures .1)
-
-by-clauses-requires : tie.Need-by-clauses-requires
-by-clauses-requires c κs = search needs
-
-join-requires : tie.Need-join-requires
-join-requires c κs = search needs
 
 returns-2 : tie.Need-returns-2
 returns-2 c = context-both _ _ _ _ _ _ (c .before .before .before .by-sets .result) (c .before .by-clauses .result) (c .join .result) (c .before .before .before .by-sets .ensures .0) (c .before .by-clauses .ensures .0) (c .join .ensures) (c .before .before .before .by-sets .ensures .1) (c .before .by-clauses .ensures .1)
 
 pub context-spec : {M : Type 1} → statement M
 context-spec =
-    tie.close (tie.spec by-sets-requires returns by-clauses-requires join-requires returns-2)
+    tie.close (tie.spec (λ c κs. search needs) returns (λ c κs. search needs) (λ c κs. search needs) returns-2)

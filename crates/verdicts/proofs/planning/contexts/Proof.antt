@@ -20,7 +20,9 @@ loop-holds : tie.Need-loop-holds Inv-loop μ-loop
 loop-holds c = (omega arith, filled-none _ contextsFrom)
 
 context-requires : tie.Need-context-requires Inv-loop μ-loop
-context-requires c κs = (c .before .before .before .before .before .before .before .pre .0, c .before .before .loop .inv .1 .long ∙ c .before .before .before .before .before .before .before .pre .1, c .before .before .before .before .before .before .before .pre .2, c .before .before .before .before .before .before .before .pre .3, c .before .before .before .before .before .before .before .pre .4, c .before .before .before .before .before .before .before .pre .5)
+context-requires c κs =
+    let at-start = c .before .before .before .before .before .before .before in
+    (at-start .pre .0, c .before .before .loop .inv .1 .long ∙ at-start .pre .1, at-start .pre .2, at-start .pre .3, at-start .pre .4, at-start .pre .5)
 
 add-plan : tie.Need-add-plan Inv-loop μ-loop
 add-plan c = omega (arith, c .before .before .loop-test .taken)
@@ -29,7 +31,9 @@ mul-plan : tie.Need-mul-plan Inv-loop μ-loop
 mul-plan c = omega (arith, c .before .before .loop-test .taken)
 
 slice-write-plan : tie.Need-slice-write-plan Inv-loop μ-loop
-slice-write-plan c = omega (arith, c .before .before .before .before .before .before .before .before .pre .1, c .before .before .before .loop .inv .1 .long, c .before .before .loop-test .taken)
+slice-write-plan c =
+    let at-start = c .before .before .before .before .before .before .before .before in
+    omega (arith, at-start .pre .1, c .before .before .before .loop .inv .1 .long, c .before .before .loop-test .taken)
 
 add-at : tie.Need-add-at Inv-loop μ-loop
 add-at c = omega (arith, c .before .before .loop-test .taken)
@@ -38,11 +42,12 @@ loop-less : tie.Need-loop-less Inv-loop μ-loop
 loop-less c = omega (arith, c .before .before .loop-test .taken)
 
 loop-again : tie.Need-loop-again Inv-loop μ-loop
-loop-again c = (
-  omega (arith, c .before .before .loop-test .taken),
-  filled-more (c .before .before .before .loop .inv .1) (omega (arith, c .before .before .before .before .before .before .before .before .pre .1, c .before .before .loop-test .taken)) (c .context .result)
-      (context-same (c .before .before .before .before .before .before .before .before .args .names .now) (c .before .before .before .before .before .before .before .before .args .scopes .now) (c .before .before .before .before .before .before .before .before .args .order .now) (c .before .before .before .before .before .before .before .before .args .plan .now) (c .before .before .before .loop .plan) (c .before .before .before .before .before .before .before .before .args .many) (c .before .before .before .loop .at) (c .context .result) (levels-same (c .before .before .before .before .before .before .before .before .args .plan .now) (c .before .before .before .loop .plan) (c .before .before .before .before .before .before .before .before .args .many) (c .before .before .before .loop .at) _ (c .before .before .before .before .before .before .before .before .pre .3) (c .before .before .before .loop .inv .1)) (c .context .ensures)),
-)
+loop-again c =
+    let at-start = c .before .before .before .before .before .before .before .before in (
+      omega (arith, c .before .before .loop-test .taken),
+      filled-more (c .before .before .before .loop .inv .1) (omega (arith, at-start .pre .1, c .before .before .loop-test .taken)) (c .context .result)
+          (context-same (at-start .args .names .now) (at-start .args .scopes .now) (at-start .args .order .now) (at-start .args .plan .now) (c .before .before .before .loop .plan) (at-start .args .many) (c .before .before .before .loop .at) (c .context .result) (levels-same (at-start .args .plan .now) (c .before .before .before .loop .plan) (at-start .args .many) (c .before .before .before .loop .at) _ (at-start .pre .3) (c .before .before .before .loop .inv .1)) (c .context .ensures)),
+    )
 
 same-length : tie.Need-same-length Inv-loop μ-loop
 same-length c = c .before .loop .inv .1 .long

@@ -29,9 +29,6 @@ mul-spread c = omega (arith, c .loop-test .taken)
 slice-read-spread : tie.Need-slice-read-spread Inv-loop μ-loop
 slice-read-spread c = omega (arith, c .before .before .before .before .pre, c .before .before .loop .inv .1 .long, c .before .loop-test .taken)
 
-spread-requires : tie.Need-spread-requires Inv-loop μ-loop
-spread-requires c κs = search needs
-
 add-plan : tie.Need-add-plan Inv-loop μ-loop
 add-plan c = omega (arith, c .before .before .loop-test .taken)
 
@@ -69,7 +66,7 @@ masks-spec =
     add-spread
     mul-spread
     slice-read-spread
-    spread-requires
+    (λ c κs. search needs)
     add-plan
     mul-plan
     slice-write-plan

@@ -29,7 +29,9 @@ shared-slice-read-found : tie.Need-shared-slice-read-found Inv-loop μ-loop
 shared-slice-read-found c = omega (arith, c .before .before .before .before .before .loop-test .taken)
 
 cast-found : tie.Need-cast-found Inv-loop μ-loop
-cast-found c = omega (arith, c .shared-slice-known3 .given (c .before .before .before .before .before .before .loop .j))
+cast-found c =
+    let at-loop = c .before .before .before .before .before .before in
+    omega (arith, c .shared-slice-known3 .given (at-loop .loop .j))
 
 add-j : tie.Need-add-j Inv-loop μ-loop
 add-j c = omega (arith, c .before .loop-test .taken)
@@ -39,9 +41,6 @@ loop-less c = omega (arith, c .before .loop-test .taken)
 
 loop-again : tie.Need-loop-again Inv-loop μ-loop
 loop-again c = omega (arith, c .before .loop-test .taken)
-
-returns : tie.Need-returns Inv-loop μ-loop
-returns c = search needs
 
 pub pick-spec : {M : Type 1} → statement M
 pick-spec =
@@ -58,4 +57,4 @@ pick-spec =
     add-j
     loop-less
     loop-again
-    returns)
+    (λ c. search needs))

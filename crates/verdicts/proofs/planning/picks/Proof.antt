@@ -36,7 +36,9 @@ mul-plan : tie.Need-mul-plan Inv-loop μ-loop
 mul-plan c = omega (arith, c .before .before .loop-test .taken)
 
 slice-write-plan : tie.Need-slice-write-plan Inv-loop μ-loop
-slice-write-plan c = omega (arith, c .before .before .before .before .before .before .pre .0, c .before .before .before .loop .inv .1 .long, c .before .before .loop-test .taken)
+slice-write-plan c =
+    let at-start = c .before .before .before .before .before .before in
+    omega (arith, at-start .pre .0, c .before .before .before .loop .inv .1 .long, c .before .before .loop-test .taken)
 
 add-at : tie.Need-add-at Inv-loop μ-loop
 add-at c = omega (arith, c .before .before .loop-test .taken)
@@ -45,7 +47,9 @@ loop-less : tie.Need-loop-less Inv-loop μ-loop
 loop-less c = omega (arith, c .before .before .loop-test .taken)
 
 loop-again : tie.Need-loop-again Inv-loop μ-loop
-loop-again c = (omega (arith, c .before .before .loop-test .taken), filled-more (c .before .before .before .loop .inv .1) (omega (arith, c .before .before .before .before .before .before .pre .0, c .before .before .loop-test .taken)) (c .pick .result) refl)
+loop-again c =
+    let at-start = c .before .before .before .before .before .before in
+    (omega (arith, c .before .before .loop-test .taken), filled-more (c .before .before .before .loop .inv .1) (omega (arith, at-start .pre .0, c .before .before .loop-test .taken)) (c .pick .result) refl)
 
 same-length : tie.Need-same-length Inv-loop μ-loop
 same-length c = c .before .loop .inv .1 .long

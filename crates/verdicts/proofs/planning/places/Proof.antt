@@ -37,9 +37,6 @@ slice-write-plan c = omega (arith, c .before .before .before .pre .0, c .before 
 add-d : tie.Need-add-d Inv-loop μ-loop
 add-d c = omega (arith, c .before .before .before .pre .1, c .before .loop-test .taken)
 
-loop-less : tie.Need-loop-less Inv-loop μ-loop
-loop-less c = search needs
-
 loop-again : tie.Need-loop-again Inv-loop μ-loop
 loop-again c = (omega arith, filled-more (c .before .before .loop .inv .1) (omega (arith, c .before .before .before .pre .0, c .before .before .before .pre .1, c .before .loop-test .taken)) _ refl)
 
@@ -62,7 +59,7 @@ places-spec =
     mul-plan
     slice-write-plan
     add-d
-    loop-less
+    (λ c. search needs)
     loop-again
     same-length
     returns)

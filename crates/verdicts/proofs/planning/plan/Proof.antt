@@ -12,154 +12,116 @@ use Rattle.verdicts.proofs.planning.plan.Tie as tie
 levels-requires : tie.Need-levels-requires
 levels-requires c κs = (c .before .before .before .before .pre .tidy, c .before .before .before .before .pre .small, c .before .before .before .before .pre .short, λ i l. omega (arith, c .before .before .before .before .pre .known i l, c .before .before .before .before .pre .few))
 
-slice-aggregate-chain : tie.Need-slice-aggregate-chain
-slice-aggregate-chain c = search needs
-
 chain-requires : tie.Need-chain-requires
 chain-requires c κs =
+    let at-start = c .before .before .before .before .before .before in
     let long : length (c .before .levels .result) ≡ 256 = search needs in
-    (c .before .before .before .before .before .before .pre .small, omega (arith, c .before .before .before .before .before .before .pre .small, long), λ k l. omega (arith, c .before .levels .ensures .small k l, c .before .before .before .before .before .before .pre .short))
-
-slice-aggregate-steps : tie.Need-slice-aggregate-steps
-slice-aggregate-steps c = search needs
-
-slice-aggregate-steps-2 : tie.Need-slice-aggregate-steps-2
-slice-aggregate-steps-2 c = search needs
+    (at-start .pre .small, omega (arith, at-start .pre .small, long), λ k l. omega (arith, c .before .levels .ensures .small k l, at-start .pre .short))
 
 steps-requires : tie.Need-steps-requires
-steps-requires c κs = (
-  record {
-    tidy = c .before .before .before .before .before .before .before .before .before .before .before .pre .tidy;
-    small = c .before .before .before .before .before .before .before .before .before .before .before .pre .small;
-    kinded = c .before .before .before .before .before .before .before .before .before .before .before .pre .kinded;
-    few = c .before .before .before .before .before .before .before .before .before .before .before .pre .few;
-    long = c .before .before .before .before .chain .ensures .linked .long;
-    within = λ k l. c .before .before .before .before .chain .ensures .linked .each k l .within;
-  },
-  search needs,
-)
-
-slice-aggregate-starts : tie.Need-slice-aggregate-starts
-slice-aggregate-starts c = search needs
-
-slice-aggregate-starts-2 : tie.Need-slice-aggregate-starts-2
-slice-aggregate-starts-2 c = search needs
-
-starts-requires : tie.Need-starts-requires
-starts-requires c κs = search needs
-
-slice-aggregate-clauses : tie.Need-slice-aggregate-clauses
-slice-aggregate-clauses c = search needs
-
-clauses-requires : tie.Need-clauses-requires
-clauses-requires c κs = search needs
-
-slice-aggregate-scopes : tie.Need-slice-aggregate-scopes
-slice-aggregate-scopes c = search needs
+steps-requires c κs =
+    let at-start = c .before .before .before .before .before .before .before .before .before .before .before in (
+      record {
+        tidy = at-start .pre .tidy;
+        small = at-start .pre .small;
+        kinded = at-start .pre .kinded;
+        few = at-start .pre .few;
+        long = c .before .before .before .before .chain .ensures .linked .long;
+        within = λ k l. c .before .before .before .before .chain .ensures .linked .each k l .within;
+      },
+      search needs,
+    )
 
 scopes-requires : tie.Need-scopes-requires
-scopes-requires c κs = (c .before .before .before .before .before .before .before .before .before .before .before .before .before .before .before .before .before .before .before .before .before .pre .tidy, search needs, c .before .before .clauses .ensures .small, λ i l. c .before .before .clauses .ensures .filled .inside i l .low, λ i l. c .before .before .clauses .ensures .filled .inside i l .low₂)
-
-slice-aggregate-clause-levels : tie.Need-slice-aggregate-clause-levels
-slice-aggregate-clause-levels c = search needs
-
-slice-aggregate-clause-levels-2 : tie.Need-slice-aggregate-clause-levels-2
-slice-aggregate-clause-levels-2 c = search needs
+scopes-requires c κs =
+    let at-start = c .before .before .before .before .before .before .before .before .before .before .before .before .before .before .before .before .before .before .before .before .before in
+    (at-start .pre .tidy, search needs, c .before .before .clauses .ensures .small, λ i l. c .before .before .clauses .ensures .filled .inside i l .low, λ i l. c .before .before .clauses .ensures .filled .inside i l .low₂)
 
 clause-levels-requires : tie.Need-clause-levels-requires
-clause-levels-requires c κs = (search needs, c .before .before .before .before .before .clauses .ensures .small, search needs, c .before .before .before .before .before .before .before .before .before .before .before .before .before .before .before .before .before .before .before .before .before .before .before .before .pre .short, λ i l. omega (arith, c .before .before .before .before .before .before .before .before .before .before .before .before .before .before .before .before .before .before .before .before .before .before .before .before .pre .known i l, c .before .before .before .before .before .before .before .before .before .before .before .before .before .before .before .before .before .before .before .before .before .before .before .before .pre .few))
-
-slice-aggregate-places : tie.Need-slice-aggregate-places
-slice-aggregate-places c = search needs
+clause-levels-requires c κs =
+    let at-start = c .before .before .before .before .before .before .before .before .before .before .before .before .before .before .before .before .before .before .before .before .before .before .before .before in
+    (search needs, c .before .before .before .before .before .clauses .ensures .small, search needs, at-start .pre .short, λ i l. omega (arith, at-start .pre .known i l, at-start .pre .few))
 
 places-requires : tie.Need-places-requires
-places-requires c κs = (search needs, c .before .before .before .before .before .before .before .before .before .before .before .before .before .before .before .before .before .before .before .before .before .before .before .before .before .before .before .pre .short)
-
-slice-aggregate-sets : tie.Need-slice-aggregate-sets
-slice-aggregate-sets c = search needs
+places-requires c κs =
+    let at-start = c .before .before .before .before .before .before .before .before .before .before .before .before .before .before .before .before .before .before .before .before .before .before .before .before .before .before .before in
+    (search needs, at-start .pre .short)
 
 sets-requires : tie.Need-sets-requires
-sets-requires c κs = (search needs, c .before .before .before .before .before .before .before .before .before .before .before .before .before .before .before .before .before .before .before .before .before .before .before .before .before .before .before .before .before .before .pre .short, c .before .before .before .before .before .before .before .before .before .before .before .before .before .before .before .before .before .before .before .before .before .before .before .before .before .before .before .before .before .before .pre .few, c .before .before .before .before .before .before .before .before .before .before .before .before .before .before .before .before .before .before .before .before .before .before .before .before .before .before .before .before .before .before .pre .known)
+sets-requires c κs =
+    let at-start = c .before .before .before .before .before .before .before .before .before .before .before .before .before .before .before .before .before .before .before .before .before .before .before .before .before .before .before .before .before .before in
+    (search needs, at-start .pre .short, at-start .pre .few, at-start .pre .known)
 
 names-requires : tie.Need-names-requires
-names-requires c κs = (c .before .before .before .before .before .before .before .before .before .before .before .before .before .before .before .before .before .before .before .before .before .before .before .before .before .before .before .before .before .before .before .before .pre .tidy, c .before .before .before .before .before .before .before .before .before .before .before .before .before .before .before .before .before .before .before .before .before .before .before .before .before .before .before .before .before .before .before .before .pre .few, c .before .before .before .before .before .before .before .before .before .before .before .before .before .before .before .before .before .before .before .before .before .before .before .before .before .before .before .before .before .before .before .before .pre .nodes)
-
-slice-aggregate-contexts : tie.Need-slice-aggregate-contexts
-slice-aggregate-contexts c = search needs
-
-slice-aggregate-contexts-2 : tie.Need-slice-aggregate-contexts-2
-slice-aggregate-contexts-2 c = search needs
-
-slice-aggregate-contexts-3 : tie.Need-slice-aggregate-contexts-3
-slice-aggregate-contexts-3 c = search needs
+names-requires c κs =
+    let at-start = c .before .before .before .before .before .before .before .before .before .before .before .before .before .before .before .before .before .before .before .before .before .before .before .before .before .before .before .before .before .before .before .before in
+    (at-start .pre .tidy, at-start .pre .few, at-start .pre .nodes)
 
 contexts-requires : tie.Need-contexts-requires
-contexts-requires c κs = (search needs, search needs, search needs, c .before .before .before .before .before .before .before .before .before .before .before .before .before .before .before .before .before .clauses .ensures .small, c .before .before .before .before .before .before .before .before .before .before .before .before .before .before .before .before .before .before .before .before .before .before .before .before .before .before .before .before .before .before .before .before .before .before .before .before .pre .short, λ i l. omega (arith, c .before .before .before .before .before .before .before .before .before .before .before .before .before .before .before .before .before .before .before .before .before .before .before .before .before .before .before .before .before .before .before .before .before .before .before .before .pre .known i l, c .before .before .before .before .before .before .before .before .before .before .before .before .before .before .before .before .before .before .before .before .before .before .before .before .before .before .before .before .before .before .before .before .before .before .before .before .pre .few))
-
-slice-aggregate-masks : tie.Need-slice-aggregate-masks
-slice-aggregate-masks c = search needs
-
-masks-requires : tie.Need-masks-requires
-masks-requires c κs = search needs
-
-slice-aggregate-picks : tie.Need-slice-aggregate-picks
-slice-aggregate-picks c = search needs
+contexts-requires c κs =
+    (search needs, search needs, search needs, (let at-clauses = c .before .before .before .before .before .before .before .before .before .before .before .before .before .before .before .before .before in at-clauses .clauses .ensures .small), (let at-start = c .before .before .before .before .before .before .before .before .before .before .before .before .before .before .before .before .before .before .before .before .before .before .before .before .before .before .before .before .before .before .before .before .before .before .before .before in at-start .pre .short), (let at-start = c .before .before .before .before .before .before .before .before .before .before .before .before .before .before .before .before .before .before .before .before .before .before .before .before .before .before .before .before .before .before .before .before .before .before .before .before in λ i l. omega (arith, at-start .pre .known i l, at-start .pre .few)))
 
 picks-requires : tie.Need-picks-requires
-picks-requires c κs = (search needs, λ i l. omega (arith, c .before .before .before .before .before .before .before .before .before .before .before .before .before .before .before .before .before .before .before .before .before .before .before .before .before .before .before .before .before .before .before .before .before .before .before .before .before .before .before .before .before .before .pre .known i l, c .before .before .before .before .before .before .before .before .before .before .before .before .before .before .before .before .before .before .before .before .before .before .before .before .before .before .before .before .before .before .before .before .before .before .before .before .before .before .before .before .before .before .pre .few))
-
-array-write-plan : tie.Need-array-write-plan
-array-write-plan c = search needs
-
-array-write-plan-2 : tie.Need-array-write-plan-2
-array-write-plan-2 c = search needs
-
-array-write-plan-3 : tie.Need-array-write-plan-3
-array-write-plan-3 c = search needs
+picks-requires c κs =
+    let at-start = c .before .before .before .before .before .before .before .before .before .before .before .before .before .before .before .before .before .before .before .before .before .before .before .before .before .before .before .before .before .before .before .before .before .before .before .before .before .before .before .before .before .before in
+    (search needs, λ i l. omega (arith, at-start .pre .known i l, at-start .pre .few))
 
 returns : tie.Need-returns
-returns c = record {
-  levels = c .before .before .before .before .before .before .before .before .before .before .before .before .before .before .before .before .before .before .before .before .before .before .before .before .before .before .before .before .before .before .before .before .before .before .before .before .before .before .before .levels .result;
-  level = c .before .before .before .before .before .before .before .before .before .before .before .before .before .before .before .before .before .before .before .before .before .before .before .before .before .before .before .before .before .before .before .before .before .before .before .before .before .before .before .levels .ensures;
-  planned = λ ts T ρ full W x after early.
-      planned-by (c .before .before .before .before .before .before .before .before .before .before .before .before .before .before .before .before .before .before .before .before .before .before .before .before .before .before .before .before .before .before .before .before .before .before .before .before .before .before .before .before .before .before .before .before .pre) (c .before .before .before .before .before .before .before .before .before .before .before .before .before .before .before .before .before .before .before .before .before .before .before .before .before .before .before .before .before .before .before .before .before .before .before .before .before .before .before .levels .ensures) (c .before .before .before .before .before .before .before .before .before .before .before .before .before .before .before .before .before .before .before .before .before .before .before .before .before .before .before .before .before .before .before .before .before .before .before .before .before .chain .ensures) (c .before .before .before .before .before .before .before .before .before .before .before .names .ensures) refl (c .before .before .before .before .before .before .before .before .before .before .before .before .before .before .before .before .before .before .before .before .before .before .before .before .before .before .before .before .before .before .before .before .steps .ensures) (c .before .before .before .before .before .before .before .before .before .before .before .before .before .before .before .before .before .before .before .before .before .before .before .before .before .before .before .before .starts .ensures) (c .before .before .before .before .before .before .before .before .before .before .before .before .before .before .before .before .before .before .before .before .before .before .before .before .before .clauses .ensures) (c .before .before .before .before .before .before .before .before .before .before .before .before .before .before .before .before .before .before .before .before .before .before .scopes .ensures)
-      (c .before .before .before .before .before .before .before .before .before .before .before .before .before .before .before .before .before .before .before .clause-levels .ensures) (c .before .before .before .before .before .before .before .before .before .before .before .before .before .before .before .before .places .ensures) (c .before .before .before .before .before .before .before .before .before .before .before .before .before .sets .ensures) (c .before .before .before .before .before .before .before .contexts .ensures) (c .before .before .before .before .masks .ensures) (c .before .picks .ensures) ts T ρ full W x after early;
-}
+returns c =
+    let at-contexts = c .before .before .before .before .before .before .before in
+    let at-names = at-contexts .before .before .before .before in
+    let at-sets = at-names .before .before in
+    let at-places = at-sets .before .before .before in
+    let at-clause-levels = at-places .before .before .before in
+    let at-scopes = at-clause-levels .before .before .before in
+    let at-clauses = at-scopes .before .before .before in
+    let at-starts = at-clauses .before .before .before in
+    let at-steps = at-starts .before .before .before .before in
+    let at-chain = at-steps .before .before .before .before .before in
+    let at-levels = at-chain .before .before in
+    let at-start = at-levels .before .before .before .before .before in
+    record {
+      levels = at-levels .levels .result;
+      level = at-levels .levels .ensures;
+      planned = λ ts T ρ full W x after early.
+          planned-by (at-start .pre) (at-levels .levels .ensures) (at-chain .chain .ensures) (at-names .names .ensures) refl (at-steps .steps .ensures) (at-starts .starts .ensures) (at-clauses .clauses .ensures) (at-scopes .scopes .ensures)
+          (at-clause-levels .clause-levels .ensures) (at-places .places .ensures) (at-sets .sets .ensures) (at-contexts .contexts .ensures) (c .before .before .before .before .masks .ensures) (c .before .picks .ensures) ts T ρ full W x after early;
+    }
 
 pub plan-spec : {M : Type 1} → statement M
 plan-spec =
     tie.close
     (tie.spec
     levels-requires
-    slice-aggregate-chain
+    (λ c. search needs)
     chain-requires
-    slice-aggregate-steps
-    slice-aggregate-steps-2
+    (λ c. search needs)
+    (λ c. search needs)
     steps-requires
-    slice-aggregate-starts
-    slice-aggregate-starts-2
-    starts-requires
-    slice-aggregate-clauses
-    clauses-requires
-    slice-aggregate-scopes
+    (λ c. search needs)
+    (λ c. search needs)
+    (λ c κs. search needs)
+    (λ c. search needs)
+    (λ c κs. search needs)
+    (λ c. search needs)
     scopes-requires
-    slice-aggregate-clause-levels
-    slice-aggregate-clause-levels-2
+    (λ c. search needs)
+    (λ c. search needs)
     clause-levels-requires
-    slice-aggregate-places
+    (λ c. search needs)
     places-requires
-    slice-aggregate-sets
+    (λ c. search needs)
     sets-requires
     names-requires
-    slice-aggregate-contexts
-    slice-aggregate-contexts-2
-    slice-aggregate-contexts-3
+    (λ c. search needs)
+    (λ c. search needs)
+    (λ c. search needs)
     contexts-requires
-    slice-aggregate-masks
-    masks-requires
-    slice-aggregate-picks
+    (λ c. search needs)
+    (λ c κs. search needs)
+    (λ c. search needs)
     picks-requires
-    array-write-plan
-    array-write-plan-2
-    array-write-plan-3
+    (λ c. search needs)
+    (λ c. search needs)
+    (λ c. search needs)
     returns)

@@ -7,7 +7,7 @@ use borrow.Author.Needs.{needs}
 use lib.ListN.{length, getD, length-set, length-replicate}
 use Rattle.values.specs.code.Clauses.{ClauseNamesOf}
 use Rattle.values.specs.code.Plan.{clausesFrom, firstIn, secondIn}
-use Rattle.values.proofs.LevelLaws.{more-at}
+use Rattle.rules.proofs.NodeLaws.{more-at}
 use Rattle.verdicts.proofs.planning.scopes.Statement.{statement}
 use Rattle.verdicts.proofs.planning.scopes.Tie as tie
 
@@ -27,7 +27,9 @@ mul-w : tie.Need-mul-w Inv-loop μ-loop
 mul-w c = omega (arith, c .before .before .before .before .before .pre .2, c .loop-test .taken)
 
 shared-slice-read-w : tie.Need-shared-slice-read-w Inv-loop μ-loop
-shared-slice-read-w c = omega (arith, c .before .before .before .before .before .before .pre .1, c .before .before .before .before .before .before .pre .2, c .before .loop-test .taken)
+shared-slice-read-w c =
+    let at-start = c .before .before .before .before .before .before in
+    omega (arith, at-start .pre .1, at-start .pre .2, c .before .loop-test .taken)
 
 cast-clause : tie.Need-cast-clause Inv-loop μ-loop
 cast-clause c = omega arith
@@ -36,27 +38,36 @@ cast-clause-2 : tie.Need-cast-clause-2 Inv-loop μ-loop
 cast-clause-2 c = omega (arith, c .shared-slice-known4 .given (clausesFrom + c .before .before .loop .i))
 
 clause-requires : tie.Need-clause-requires Inv-loop μ-loop
-clause-requires c κs = (c .before .before .before .before .before .before .pre .0, c .before .before .before .before .before .before .pre .3 (c .before .before .loop .i) (c .before .loop-test .taken), c .before .before .before .before .before .before .pre .4 (c .before .before .loop .i) (c .before .loop-test .taken))
+clause-requires c κs =
+    let at-start = c .before .before .before .before .before .before in
+    (at-start .pre .0, at-start .pre .3 (c .before .before .loop .i) (c .before .loop-test .taken), at-start .pre .4 (c .before .before .loop .i) (c .before .loop-test .taken))
 
 mul-found : tie.Need-mul-found Inv-loop μ-loop
-mul-found c = omega (arith, c .before .before .before .before .before .before .before .pre .2, c .before .before .loop-test .taken)
+mul-found c =
+    let at-start = c .before .before .before .before .before .before .before in
+    omega (arith, at-start .pre .2, c .before .before .loop-test .taken)
 
 array-write-found : tie.Need-array-write-found Inv-loop μ-loop
-array-write-found c = omega (arith, c .before .before .before .before .before .before .before .pre .2, c .before .before .loop-test .taken, c .before .before .before .loop .inv .1)
+array-write-found c =
+    let at-start = c .before .before .before .before .before .before .before in
+    omega (arith, at-start .pre .2, c .before .before .loop-test .taken, c .before .before .before .loop .inv .1)
 
 add-i : tie.Need-add-i Inv-loop μ-loop
-add-i c = omega (arith, c .before .before .before .before .before .before .before .pre .2, c .before .before .loop-test .taken)
+add-i c =
+    let at-start = c .before .before .before .before .before .before .before in
+    omega (arith, at-start .pre .2, c .before .before .loop-test .taken)
 
 loop-less : tie.Need-loop-less Inv-loop μ-loop
 loop-less c = omega (arith, c .before .before .loop-test .taken)
 
 loop-again : tie.Need-loop-again Inv-loop μ-loop
-loop-again c = (
-  omega (arith, c .before .before .loop-test .taken),
-  length-set (c .before .before .before .loop .found) (c .before .before .before .loop .i) (c .clause .result) ∙ c .before .before .before .loop .inv .1,
-  more-at (λ (j r : ℕ). ClauseNamesOf (c .before .before .before .before .before .before .before .args .nodes .now) (c .before .before .before .before .before .before .before .args .n) (c .before .before .before .before .before .before .before .args .vars .now) (firstIn (getD (c .before .before .before .before .before .before .before .args .plan .now) (clausesFrom + j) 0)) (secondIn (getD (c .before .before .before .before .before .before .before .args .plan .now) (clausesFrom + j) 0)) r)
-      (c .before .before .before .loop .found) (c .before .before .before .loop .i) (c .clause .result) (omega (arith, c .before .before .before .before .before .before .before .pre .2, c .before .before .loop-test .taken, c .before .before .before .loop .inv .1)) (c .before .before .before .loop .inv .2) (c .clause .ensures),
-)
+loop-again c =
+    let at-start = c .before .before .before .before .before .before .before in (
+      omega (arith, c .before .before .loop-test .taken),
+      length-set (c .before .before .before .loop .found) (c .before .before .before .loop .i) (c .clause .result) ∙ c .before .before .before .loop .inv .1,
+      more-at (λ (j r : ℕ). ClauseNamesOf (at-start .args .nodes .now) (at-start .args .n) (at-start .args .vars .now) (firstIn (getD (at-start .args .plan .now) (clausesFrom + j) 0)) (secondIn (getD (at-start .args .plan .now) (clausesFrom + j) 0)) r)
+          (c .before .before .before .loop .found) (c .before .before .before .loop .i) (c .clause .result) 0 (omega (arith, at-start .pre .2, c .before .before .loop-test .taken, c .before .before .before .loop .inv .1)) (c .before .before .before .loop .inv .2) (c .clause .ensures),
+    )
 
 returns : tie.Need-returns Inv-loop μ-loop
 returns c = λ i l. c .before .loop .inv .2 i (omega (arith, c .loop-test .left))

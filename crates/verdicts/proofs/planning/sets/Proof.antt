@@ -46,9 +46,6 @@ slice-write-plan c = omega (arith, c .before .before .before .before .pre .0, c 
 add-d : tie.Need-add-d Inv-loop μ-loop
 add-d c = omega (arith, c .before .before .before .before .pre .1, c .before .before .loop-test .taken)
 
-loop-less : tie.Need-loop-less Inv-loop μ-loop
-loop-less c = search needs
-
 loop-again : tie.Need-loop-again Inv-loop μ-loop
 loop-again c = (omega arith, filled-more (c .before .before .before .loop .inv .1) (omega (arith, c .before .before .before .before .pre .0, c .before .before .before .before .pre .1, c .before .before .loop-test .taken)) _ refl)
 
@@ -74,7 +71,7 @@ sets-spec =
     mul-plan-2
     slice-write-plan
     add-d
-    loop-less
+    (λ c. search needs)
     loop-again
     same-length
     returns)

@@ -20,29 +20,14 @@ abbrev μ-loop : tie.MeasureT-loop
 loop-holds : tie.Need-loop-holds Inv-loop μ-loop
 loop-holds c = (omega arith, filled-none _ startsFrom)
 
-mul-plan : tie.Need-mul-plan Inv-loop μ-loop
-mul-plan c = search needs
-
 shared-slice-read-plan : tie.Need-shared-slice-read-plan Inv-loop μ-loop
 shared-slice-read-plan c = omega (arith, c .before .before .before .pre .1, c .before .loop-test .taken)
 
 cast-plan : tie.Need-cast-plan Inv-loop μ-loop
 cast-plan c = omega (arith, c .shared-slice-known .given (c .before .before .loop .d))
 
-add-plan : tie.Need-add-plan Inv-loop μ-loop
-add-plan c = search needs
-
-mul-plan-2 : tie.Need-mul-plan-2 Inv-loop μ-loop
-mul-plan-2 c = search needs
-
 slice-write-plan : tie.Need-slice-write-plan Inv-loop μ-loop
 slice-write-plan c = omega (arith, c .before .before .before .pre .0, c .before .before .loop .inv .1 .long, c .before .loop-test .taken)
-
-add-d : tie.Need-add-d Inv-loop μ-loop
-add-d c = search needs
-
-loop-less : tie.Need-loop-less Inv-loop μ-loop
-loop-less c = search needs
 
 loop-again : tie.Need-loop-again Inv-loop μ-loop
 loop-again c = (omega arith, filled-more (c .before .before .loop .inv .1) (omega (arith, c .before .before .before .pre .0, c .before .loop-test .taken)) _ refl)
@@ -60,14 +45,14 @@ starts-spec =
     Inv-loop
     μ-loop
     loop-holds
-    mul-plan
+    (λ c. search needs)
     shared-slice-read-plan
     cast-plan
-    add-plan
-    mul-plan-2
+    (λ c. search needs)
+    (λ c. search needs)
     slice-write-plan
-    add-d
-    loop-less
+    (λ c. search needs)
+    (λ c. search needs)
     loop-again
     same-length
     returns)

@@ -19,22 +19,24 @@ loop-holds : tie.Need-loop-holds Inv-loop μ-loop
 loop-holds c = (omega arith, filled-none _ 0)
 
 word-requires : tie.Need-word-requires Inv-loop μ-loop
-word-requires c κs = (c .before .before .before .before .before .before .before .pre .0, c .loop-test .taken)
+word-requires c κs =
+    let at-start = c .before .before .before .before .before .before .before in
+    (at-start .pre .0, c .loop-test .taken)
 
 mul-plan : tie.Need-mul-plan Inv-loop μ-loop
-mul-plan c = omega (arith, c .before .before .before .before .before .before .before .before .pre .0 .small, c .before .loop-test .taken)
+mul-plan c =
+    let at-start = c .before .before .before .before .before .before .before .before in
+    omega (arith, at-start .pre .0 .small, c .before .loop-test .taken)
 
 slice-write-plan : tie.Need-slice-write-plan Inv-loop μ-loop
-slice-write-plan c = omega (arith, c .before .before .before .before .before .before .before .before .pre .0 .small, c .before .before .before .before .before .before .before .before .pre .1, c .before .before .loop .inv .1 .long, c .before .loop-test .taken)
-
-add-k : tie.Need-add-k Inv-loop μ-loop
-add-k c = search needs
-
-loop-less : tie.Need-loop-less Inv-loop μ-loop
-loop-less c = search needs
+slice-write-plan c =
+    let at-start = c .before .before .before .before .before .before .before .before in
+    omega (arith, at-start .pre .0 .small, at-start .pre .1, c .before .before .loop .inv .1 .long, c .before .loop-test .taken)
 
 loop-again : tie.Need-loop-again Inv-loop μ-loop
-loop-again c = (omega arith, filled-front (c .before .before .loop .inv .1) (omega (arith, c .before .before .before .before .before .before .before .before .pre .0 .small, c .before .before .before .before .before .before .before .before .pre .1, c .before .loop-test .taken)) (c .word .result) (c .word .ensures))
+loop-again c =
+    let at-start = c .before .before .before .before .before .before .before .before in
+    (omega arith, filled-front (c .before .before .loop .inv .1) (omega (arith, at-start .pre .0 .small, at-start .pre .1, c .before .loop-test .taken)) (c .word .result) (c .word .ensures))
 
 same-length : tie.Need-same-length Inv-loop μ-loop
 same-length c = c .before .loop .inv .1 .long
@@ -54,8 +56,8 @@ steps-spec =
     word-requires
     mul-plan
     slice-write-plan
-    add-k
-    loop-less
+    (λ c. search needs)
+    (λ c. search needs)
     loop-again
     same-length
     returns)

@@ -17,37 +17,22 @@ use Rattle.verdicts.proofs.ruling.along.Tie as tie
 same-list : (c : tie.After-all) → take (length (c .before .before .before .before .before .before .before .before .args .vars .now)) (c .before .variables .result) ≡ variablesOf (c .before .before .before .before .before .before .before .before .args .order .now)
 same-list c = rw (c .before .before .if1 .left) at (c .before .variables .ensures)
 
-refused-requires : tie.Need-refused-requires
-refused-requires c κs = search needs
-
 returns : tie.Need-returns
-returns c = λ T ρ C. c .refused .ensures ∙ other-length C (c .before .before .before .before .before .before .before .pre .few) (c .before .before .before .before .before .before .before .args .order .now) (c .before .if1 .taken)
-
-variables-requires : tie.Need-variables-requires
-variables-requires c κs = search needs
-
-array-share-prefix-all : tie.Need-array-share-prefix-all
-array-share-prefix-all c = search needs
+returns c =
+    let at-start = c .before .before .before .before .before .before .before in
+    λ T ρ C. c .refused .ensures ∙ other-length C (at-start .pre .few) (at-start .args .order .now) (c .before .if1 .taken)
 
 slice-aggregate-listed : tie.Need-slice-aggregate-listed
 slice-aggregate-listed c = let S = c .before .before .before .before .before .before .before .before in sym (ap length (same-list c) ∙ length-variables-of (S .args .order .now) ∙ c .before .before .if1 .left)
 
-names-requires : tie.Need-names-requires
-names-requires c κs = search needs
-
-slice-aggregate-ordered : tie.Need-slice-aggregate-ordered
-slice-aggregate-ordered c = search needs
-
-ordered-requires : tie.Need-ordered-requires
-ordered-requires c κs = search needs
-
 whole-requires : tie.Need-whole-requires
 whole-requires c κs =
+    let at-if1 = c .before .before .before .before .before .before in
     let S = c .before .before .before .before .before .before .before .before .before .before .before .before in
     let n : ℕ = length (S .args .vars .now) in
     let listed : List ℕ = take n (c .before .before .before .before .before .variables .result) in
     let same = same-list (c .before .before .before .before) in
-    let long : length listed ≡ n = ap length same ∙ length-variables-of (S .args .order .now) ∙ c .before .before .before .before .before .before .if1 .left in
+    let long : length listed ≡ n = ap length same ∙ length-variables-of (S .args .order .now) ∙ at-if1 .if1 .left in
     let ok = sym (c .before .ordered .ensures) ∙ c .if2 .taken in
     (S .pre, record { short = omega (arith, long, S .pre .few); small = order-small (namedBy (c .before .before .before .names .result)) n listed ok }, in-turn (c .before .before .before .names .result) listed (S .pre .few) (c .before .before .before .names .ensures) ok)
 
@@ -60,14 +45,13 @@ ruled-requires c κs =
     (c .whole .ensures (L .tables) (L .rule) (L .isCase))
 
 returns-2 : tie.Need-returns-2
-returns-2 c = λ T ρ C.
+returns-2 c =
+    let at-6 = c .before .before .before .before .before .before in
+    λ T ρ C.
     let S = c .before .before .before .before .before .before .before .before .before .before .before .before .before .before in
     c .ruled .ensures
     ∙ order-ruled C (S .pre .few) (c .before .before .before .before .before .names .result) (S .args .order .now) _ (c .before .before .before .ordered .result)
-    (c .before .before .before .before .before .names .ensures (ruleVars [] ρ) (C .world .variables)) (same-list (c .before .before .before .before .before .before)) (c .before .before .before .ordered .ensures) (c .before .before .if2 .taken) (c .before .whole .result) (c .before .whole .ensures T ρ C)
-
-refused-requires-2 : tie.Need-refused-requires-2
-refused-requires-2 c κs = search needs
+    (c .before .before .before .before .before .names .ensures (ruleVars [] ρ) (C .world .variables)) (same-list (at-6)) (c .before .before .before .ordered .ensures) (c .before .before .if2 .taken) (c .before .whole .result) (c .before .whole .ensures T ρ C)
 
 returns-3 : tie.Need-returns-3
 returns-3 c = λ T ρ C.
@@ -80,16 +64,16 @@ pub along-spec : {M : Type 1} → statement M
 along-spec =
     tie.close
     (tie.spec
-    refused-requires
+    (λ c κs. search needs)
     returns
-    variables-requires
-    array-share-prefix-all
+    (λ c κs. search needs)
+    (λ c. search needs)
     slice-aggregate-listed
-    names-requires
-    slice-aggregate-ordered
-    ordered-requires
+    (λ c κs. search needs)
+    (λ c. search needs)
+    (λ c κs. search needs)
     whole-requires
     ruled-requires
     returns-2
-    refused-requires-2
+    (λ c κs. search needs)
     returns-3)
