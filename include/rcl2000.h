@@ -43,7 +43,7 @@
 /* The stack that each call takes at the most, in bytes. */
 #define RCL2000_STACK_REDUCE (16 * 1024)
 #define RCL2000_STACK_REBUILD (48 * 1024)
-#define RCL2000_STACK_JUDGE (64 * 1024)
+#define RCL2000_STACK_JUDGE (112 * 1024)
 
 /* A verdict is 26 bytes: the word, full and breaking as numbers of 8 bytes, lowest byte first, the first breaking choice
    by variable, and the share in a hundred. Unused items of the choice, and the share of an idle rule, are 255. */

@@ -21,7 +21,7 @@ pub const STACK_REDUCE: usize = 16 * 1024;
 pub const STACK_REBUILD: usize = 48 * 1024;
 
 /// The stack that [`judge`] takes at the most, in bytes.
-pub const STACK_JUDGE: usize = 64 * 1024;
+pub const STACK_JUDGE: usize = 112 * 1024;
 
 /// The order that lists every variable in turn.
 const IN_TURN: [u8; MAX_VARIABLES] = [1, 2, 3, 4, 5, 6, 7, 8];
@@ -157,7 +157,7 @@ pub fn rebuild_into(formula: &[u8], out: &mut [u8]) -> Result<usize, Refusal> {
 /// be as many as 64 to the power of the number of variables: with two variables at most 4,096 and
 /// a tenth of a millisecond, with four 16 million and a third of a second, with eight 2.8 × 10¹⁴
 /// and months. A call cannot be interrupted: whoever judges rules that others wrote looks at
-/// [`variables`] first, or judges where it may run on. At most 64 KiB of stack ([`STACK_JUDGE`]).
+/// [`variables`] first, or judges where it may run on. At most 112 KiB of stack ([`STACK_JUDGE`]).
 pub fn judge(tables: &[u8], rule: &[u8], order: &[u8]) -> Result<Verdict, Refusal> {
     let mut out = [0; Verdict::BYTES];
     judge_into(tables, rule, order, &mut out)?;

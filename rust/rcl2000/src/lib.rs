@@ -40,7 +40,7 @@
 //!   grow as 64 to the power of the number of variables. It cannot be interrupted. Each call says
 //!   what it may cost.
 //! - **Stack.** The library takes its memory from the stack of the thread that calls it:
-//!   at the most 16 KiB for [`reduce`], 48 KiB for [`rebuild`] and 64 KiB for [`judge`],
+//!   at the most 16 KiB for [`reduce`], 48 KiB for [`rebuild`] and 112 KiB for [`judge`],
 //!   whatever the input ([`STACK_REDUCE`], [`STACK_REBUILD`], [`STACK_JUDGE`]; measured, not
 //!   proved). Rust's threads have 2 MiB unless asked for less.
 //! - **Threads.** The library keeps no state between calls and shares none: any number of threads
