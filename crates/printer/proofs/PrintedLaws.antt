@@ -9,7 +9,7 @@ use native.Mathlib.Numerals.{add-one}
 use native.Mathlib.Decide.{decLt}
 use lib.ListN.{length, take, drop, getD, set, replicate, length-set, length-append, length-take, length-drop, drop-of-length-le}
 use lib.Seq.{paste-suc, take-all, take-length, length-take-le, drop-nil, take-append-seam, drop-append-seam, take-append-add}
-use lib.Seq.{take-append-le, drop-drop, take-nil, take-at}
+use lib.Seq.{take-append-le, drop-drop, take-nil, take-at, getD-take, getD-drop}
 use borrow.Rule.Slice.PartAt.{part-to-end}
 use borrow.Rule.Slice.PartMut.{midOf, postOf, putMid, mid-len, same-len-mid}
 use Rattle.syntax.specs.Bytes.{Bytes}
@@ -83,22 +83,28 @@ puts-then {w} {v} {old} {mid} {rest} {r} {s} p q =
 pub puts-as : {w v old new : Bytes} {r : ℕ} → w ≡ v → Puts w old new r → Puts v old new r
 puts-as e p = rw e at p
 
--- A table of texts, each in a row of 13 bytes, and of their lengths.
+-- A table of texts, each in a row of so many bytes, and of their lengths.
 
-unfoldable pub row : Bytes → Bytes
-row w = w ++ replicate (13 - length w) 32
+unfoldable pub row : ℕ → Bytes → Bytes
+row width w = w ++ replicate (width - length w) 32
 
-pub row-room : (ws : List Bytes) (k : ℕ) → getD (map length ws) k 0 ≤ length (getD (map row ws) k [])
+pub row-room : (width : ℕ) (ws : List Bytes) (k : ℕ) → getD (map length ws) k 0 ≤ length (getD (map (row width) ws) k [])
 unfolding row
-row-room [] k = omega arith
-row-room (w ∷ ws) zero = rw length-append (omega arith)
-row-room (w ∷ ws) (suc k) = row-room ws k
+row-room width [] k = omega arith
+row-room width (w ∷ ws) zero = rw length-append (omega arith)
+row-room width (w ∷ ws) (suc k) = row-room width ws k
 
-pub row-text : (ws : List Bytes) (k : ℕ) → take (getD (map length ws) k 0) (getD (map row ws) k []) ≡ getD ws k []
+pub row-text : (width : ℕ) (ws : List Bytes) (k : ℕ) → take (getD (map length ws) k 0) (getD (map (row width) ws) k []) ≡ getD ws k []
 unfolding row
-row-text [] k = refl
-row-text (w ∷ ws) zero = take-append-seam w _
-row-text (w ∷ ws) (suc k) = row-text ws k
+row-text width [] k = refl
+row-text width (w ∷ ws) zero = take-append-seam w _
+row-text width (w ∷ ws) (suc k) = row-text width ws k
+
+-- The texts from one on, so many of them.
+pub part-text : (ws : List Bytes) (a m k : ℕ) → a ≤ k → k < a + m → getD (take m (drop a ws)) (k - a) [] ≡ getD ws k []
+part-text ws a m k h l =
+    let e : a + (k - a) ≡ k = omega arith in
+    getD-take m (drop a ws) (k - a) [] (omega arith) ∙ getD-drop a ws (k - a) [] ∙ ap (λ (i : ℕ). getD ws i []) e
 
 -- Rooms, one after the other.
 

@@ -1,29 +1,32 @@
 // The names and signs of the language, as fixed byte strings put into a sheet.
-// Each stands in its operation's row of a table.
+// Each stands in its operation's row of one of four tables.
 ghost use Prim.Native.Nat.{_+_, _%_, _<_, _≤_};
 ghost use lib.ListN.{length};
 ghost use Rattle.syntax.specs.Rule.{digits};
-ghost use Rattle.syntax.specs.code.Nodes.{firstPair, memberOp};
+ghost use Rattle.syntax.specs.code.Nodes.{firstCall, firstPair, memberOp};
 ghost use Rattle.printer.specs.code.Printed.{Adds};
 ghost use Rattle.printer.specs.code.Signs.{signOf, signsEnd, openOf, variable, bound, without};
 use crate::sheet::put;
+use syntax::nodes::FIRST_CALL;
 use syntax::nodes::FIRST_PAIR;
-use syntax::nodes::WHEN;
 
-// Behind the signs of the operations below `=>` stands what opens a term of two, from the first such operation on.
-const OPENINGS: u32 = WHEN;
+// The names and signs of the operations, by their numbers, each in a row of its table, and how many bytes of the row it is.
+// The tables are small, since a call makes the one that it reads.
+const BASES: [[u8; 3]; 9] = [
+    *b"U  ",
+    *b"R  ",
+    *b"OP ",
+    *b"OBJ",
+    *b"P  ",
+    *b"S  ",
+    *b"CR ",
+    *b"CP ",
+    *b"CU ",
+];
 
-// The names and signs of the operations, by their numbers, each in a row of 13 bytes.
-const SIGNS: [[u8; 13]; 41] = [
-    *b"U            ",
-    *b"R            ",
-    *b"OP           ",
-    *b"OBJ          ",
-    *b"P            ",
-    *b"S            ",
-    *b"CR           ",
-    *b"CP           ",
-    *b"CU           ",
+const BASE_LENGTHS: [usize; 9] = [1, 1, 2, 3, 1, 1, 2, 2, 2];
+
+const CALLS: [[u8; 13]; 9] = [
     *b"user(        ",
     *b"roles(       ",
     *b"roles*(      ",
@@ -33,75 +36,71 @@ const SIGNS: [[u8; 13]; 41] = [
     *b"object(      ",
     *b"OE(          ",
     *b"AO(          ",
-    *b",            ",
-    *b"&            ",
-    *b"+            ",
-    *b"@            ",
-    *b"=            ",
-    *b"!=           ",
-    *b"=            ",
-    *b"!=           ",
-    *b"<            ",
-    *b"<=           ",
-    *b">            ",
-    *b">=           ",
-    *b"=            ",
-    *b"!=           ",
-    *b"<            ",
-    *b"<=           ",
-    *b">            ",
-    *b">=           ",
-    *b"=            ",
-    *b"!=           ",
-    *b"operations(  ",
-    *b"(            ",
-    *b"(            ",
 ];
 
-// How many bytes of its row each is.
-const LENGTHS: [usize; 41] = [
-    1,
-    1,
-    2,
-    3,
-    1,
-    1,
-    2,
-    2,
-    2,
-    5,
-    6,
-    7,
-    9,
-    12,
-    13,
-    7,
-    3,
-    3,
-    1,
-    1,
-    1,
-    1,
-    1,
-    2,
-    1,
-    2,
-    1,
-    2,
-    1,
-    2,
-    1,
-    2,
-    1,
-    2,
-    1,
-    2,
-    1,
-    2,
-    11,
-    1,
-    1,
+const CALL_LENGTHS: [usize; 9] = [5, 6, 7, 9, 12, 13, 7, 3, 3];
+
+const SIGNS: [[u8; 2]; 20] = [
+    *b", ",
+    *b"& ",
+    *b"+ ",
+    *b"@ ",
+    *b"= ",
+    *b"!=",
+    *b"= ",
+    *b"!=",
+    *b"< ",
+    *b"<=",
+    *b"> ",
+    *b">=",
+    *b"= ",
+    *b"!=",
+    *b"< ",
+    *b"<=",
+    *b"> ",
+    *b">=",
+    *b"= ",
+    *b"!=",
 ];
+
+const SIGN_LENGTHS: [usize; 20] = [1, 1, 1, 1, 1, 2, 1, 2, 1, 2, 1, 2, 1, 2, 1, 2, 1, 2, 1, 2];
+
+const OPENINGS: [[u8; 11]; 3] = [*b"operations(", *b"(          ", *b"(          "];
+
+const OPENING_LENGTHS: [usize; 3] = [11, 1, 1];
+
+fn put_base(out: &mut [u8], at: usize, op: u32) -> usize
+    requires { ⌜ op < firstCall ⌝ }
+    requires { ⌜ at ≤ length (now out) ⌝ }
+    ensures { λ r. ⌜ Adds (signOf op) (now (out .entry)) (now (out .exit)) at r ⌝ }
+{
+    let k = op as usize;
+    let row = BASES[k];
+    let n = BASE_LENGTHS[k];
+    put(out, at, &row[..n])
+}
+
+fn put_call(out: &mut [u8], at: usize, op: u32) -> usize
+    requires { ⌜ (firstCall ≤ op) × (op < firstPair) ⌝ }
+    requires { ⌜ at ≤ length (now out) ⌝ }
+    ensures { λ r. ⌜ Adds (signOf op) (now (out .entry)) (now (out .exit)) at r ⌝ }
+{
+    let k = (op - FIRST_CALL) as usize;
+    let row = CALLS[k];
+    let n = CALL_LENGTHS[k];
+    put(out, at, &row[..n])
+}
+
+fn put_between(out: &mut [u8], at: usize, op: u32) -> usize
+    requires { ⌜ (firstPair ≤ op) × (op < signsEnd) ⌝ }
+    requires { ⌜ at ≤ length (now out) ⌝ }
+    ensures { λ r. ⌜ Adds (signOf op) (now (out .entry)) (now (out .exit)) at r ⌝ }
+{
+    let k = (op - FIRST_PAIR) as usize;
+    let row = SIGNS[k];
+    let n = SIGN_LENGTHS[k];
+    put(out, at, &row[..n])
+}
 
 // The name or sign of an operation on terms or counts.
 pub fn put_sign(out: &mut [u8], at: usize, op: u32) -> usize
@@ -109,10 +108,13 @@ pub fn put_sign(out: &mut [u8], at: usize, op: u32) -> usize
     requires { ⌜ at ≤ length (now out) ⌝ }
     ensures { λ r. ⌜ Adds (signOf op) (now (out .entry)) (now (out .exit)) at r ⌝ }
 {
-    let k = op as usize;
-    let row = SIGNS[k];
-    let n = LENGTHS[k];
-    put(out, at, &row[..n])
+    if op < FIRST_CALL {
+        return put_base(out, at, op);
+    }
+    if op < FIRST_PAIR {
+        return put_call(out, at, op);
+    }
+    put_between(out, at, op)
 }
 
 // A number below 100 without leading zero; of a larger one its last two digits.
@@ -135,7 +137,10 @@ pub fn put_open(out: &mut [u8], at: usize, op: u32) -> usize
     requires { ⌜ at ≤ length (now out) ⌝ }
     ensures { λ r. ⌜ Adds (openOf op) (now (out .entry)) (now (out .exit)) at r ⌝ }
 {
-    put_sign(out, at, op - FIRST_PAIR + OPENINGS)
+    let k = (op - FIRST_PAIR) as usize;
+    let row = OPENINGS[k];
+    let n = OPENING_LENGTHS[k];
+    put(out, at, &row[..n])
 }
 
 // The variable of index `d`: v1 for the first.

@@ -18,7 +18,6 @@ unfoldable pub openings : List Bytes
 openings = spell (opening (calls operations)) ∷ spell (opening (joins meet)) ∷ spell (opening (joins join)) ∷ []
 
 -- By the operation's number; of those that make one term of two what parts the two. A count is compared with a number, and with a count.
--- Behind the last of them, the openings.
 unfoldable pub signs : List Bytes
 signs =
     spell (isBase bU) ∷ spell (isBase bR) ∷ spell (isBase bOP) ∷ spell (isBase bOBJ) ∷ spell (isBase bP) ∷ spell (isBase bS)
@@ -27,17 +26,17 @@ signs =
     ∷ spell (isCall permissions*) ∷ spell (isCall object) ∷ spell isOE ∷ spell isAO
     ∷ parting (calls operations) ∷ parting (joins meet) ∷ parting (joins join)
     ∷ spellBetween isIn ∷ spellBetween (isSign is) ∷ spellBetween (isSign isnt) ∷ spellBetween (isSign is) ∷ spellBetween (isSign isnt)
-    ∷ (cmpSigns ++ (cmpSigns ++ openings))
+    ∷ (cmpSigns ++ cmpSigns)
 
 abbrev pub signOf : ℕ → Bytes
 signOf op = getD signs op []
 
 abbrev pub signsEnd : ℕ
-signsEnd = whenOp + 3
+signsEnd = whenOp
 
 -- What stands before the first of two terms.
 abbrev pub openOf : ℕ → Bytes
-openOf op = signOf (op - firstPair + whenOp)
+openOf op = getD openings (op - firstPair) []
 
 -- What names a choice, by its digit: its variable, the beginning of its quantifier, and the end of a term without it.
 

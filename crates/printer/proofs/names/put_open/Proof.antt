@@ -1,33 +1,37 @@
--- `put_sign` cuts the row of its operation at its length.
+-- `put_open` cuts the row of its operation at its length.
 -- Assumes nothing.
 use mathlib.Core.Path.{sym}
+use Prim.Native.Nat.{_-_}
 use lib.Seq.{length-take-le}
 use Rattle.syntax.specs.Term.{spell, opening, parting, spellMiddle}
 use Rattle.syntax.specs.Rule.{spellBetween, spellCmp}
+use Rattle.syntax.specs.code.Nodes.{firstPair}
 use Rattle.printer.specs.code.Signs.{signs, cmpSigns, openings}
 use Rattle.printer.proofs.PrintedLaws.{row, row-room, row-text, adds-as}
 use borrow.Author.Needs.{needs}
-use Rattle.printer.proofs.names.put_sign.Statement.{statement}
-use Rattle.printer.proofs.names.put_sign.Tie as tie
+use Rattle.printer.proofs.names.put_open.Statement.{statement}
+use Rattle.printer.proofs.names.put_open.Tie as tie
 
 array-share-prefix-row : tie.Need-array-share-prefix-row
 unfolding row signs cmpSigns openings opening spell parting spellMiddle spellBetween spellCmp
-array-share-prefix-row c = row-room signs (c .before .before .before .args .op)
+array-share-prefix-row c = row-room 11 openings (c .before .before .before .args .op - firstPair)
 
 slice-aggregate-put : tie.Need-slice-aggregate-put
 unfolding row signs cmpSigns openings opening spell parting spellMiddle spellBetween spellCmp
-slice-aggregate-put c = sym (length-take-le _ _ (row-room signs (c .before .before .before .before .args .op)))
+slice-aggregate-put c = sym (length-take-le _ _ (row-room 11 openings (c .before .before .before .before .args .op - firstPair)))
 
 returns : tie.Need-returns
 unfolding row signs cmpSigns openings opening spell parting spellMiddle spellBetween spellCmp
 returns c =
     let at-start = c .before .before .before .before .before .before .before in
-    adds-as (row-text signs (at-start .args .op)) (c .before .before .put .ensures)
+    adds-as (row-text 11 openings (at-start .args .op - firstPair)) (c .before .before .put .ensures)
 
-pub put-sign-spec : {M : Type 1} → statement M
-put-sign-spec =
+pub put-open-spec : {M : Type 1} → statement M
+put-open-spec =
     tie.close
     (tie.spec
+    (λ c. search needs)
+    (λ c. search needs)
     (λ c. search needs)
     (λ c. search needs)
     (λ c. search needs)
