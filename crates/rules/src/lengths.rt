@@ -17,7 +17,7 @@ ghost use Rattle.syntax.specs.code.Arena.{Tidy};
 ghost use Rattle.rules.specs.code.Lengths.{extra, plainLength, knownLength, stepLength, lengthCap, capped, LengthsOf, FormulaLength};
 
 // How many bytes an operation adds to what it stands on: names with their brackets, signs, bars.
-const EXTRA: [u32; 40] = [
+const EXTRA: [u8; 40] = [
     1,
     1,
     2,
@@ -66,7 +66,11 @@ const LENGTH_CAP: u32 = 65535;
 fn extra_of(op: u32) -> u32
     ensures { λ r. ⌜ (r ≡ extra op) × (r ≤ 14) ⌝ }
 {
-    if op < OPS_END { EXTRA[op as usize] } else { 0 }
+    if op < OPS_END {
+        EXTRA[op as usize] as u32
+    } else {
+        0
+    }
 }
 
 // The length of an operation's text by those of its parts, which is m where the right part is a number.
