@@ -6,5 +6,4 @@ pub mod levels;
 pub mod names;
 pub mod plan;
 pub mod scopes;
-pub mod terms;
 pub mod truth;

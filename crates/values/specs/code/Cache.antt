@@ -3,7 +3,7 @@
 use mathlib.Core.Path.{_≡_}
 use mathlib.Core.Bool.{Bool, true}
 use mathlib.Core.List.{List}
-use Prim.Native.Nat.{ℕ, _+_, _<_, _≤_}
+use Prim.Native.Nat.{ℕ, _<_, _≤_}
 use lib.ListN.{length, getD}
 use Rattle.tables.specs.Tables.{Tables}
 use Rattle.syntax.specs.Term.{Term, Choices}
@@ -14,7 +14,6 @@ use Rattle.values.specs.Values.{value}
 use Rattle.values.specs.Truth.{testTrue, clauseTrue, ruleTrue}
 use Rattle.values.specs.Sets.{namesIn}
 use Rattle.values.specs.code.Nodes.{World, ValueAt}
-use Rattle.values.specs.code.Levels.{Levels, Linked, Following}
 use Rattle.values.specs.code.Clauses.{testNames, clauseNames, TestNode, ClauseNodes}
 
 -- The cache has, under the choice c, the values of the terms at node k's left and right, where its operation is of them.
@@ -54,9 +53,3 @@ TruthAt ns n cache k r = (T : Tables) (σ : Choices) (c : List ℕ) → Valued n
 pub record Stored (ts ns : List ℕ) (n : ℕ) (ks vs c cache levels : List ℕ) (depth : ℕ) : Type 0 where
   pub long : n ≤ length cache
   pub holds : (k : ℕ) → k < n → getD levels k 0 < depth → ValueAt ts ns n ks vs c k (getD cache k 0)
-
--- After the nodes of a chain are evaluated, the cache has one level more.
-abbrev pub Settles : List ℕ → List ℕ → ℕ → List ℕ → List ℕ → List ℕ → List ℕ → ℕ → List ℕ → List ℕ → Type 0
-Settles ts ns n ks vs c next from before after =
-    (order levels : List ℕ) (d : ℕ) → Levels ns n vs order levels → Linked n levels next → Following n levels d 0 from
-    → Stored ts ns n ks vs c before levels d → Stored ts ns n ks vs c after levels (d + 1)

@@ -38,11 +38,6 @@ pub record Linked (n : ℕ) (levels next : List ℕ) : Type 0 where
   pub long : n ≤ length next
   pub each : (k : ℕ) → k < n → Following n levels (getD levels k 0) (k + 1) (getD next k 0)
 
--- It goes up, whatever the levels.
-pub record Climbs (n : ℕ) (next : List ℕ) : Type 0 where
-  pub long : n ≤ length next
-  pub up : (k : ℕ) → k < n → k < getD next k 0
-
 -- Level 0 and one for each variable that there may be.
 abbrev pub levelCount : ℕ
 levelCount = suc choicesLimit
