@@ -1,4 +1,4 @@
--- Whether a node's test, clause or rule is true, by the number of its operation and what is below it.
+-- Whether a node's test or clause is true, by the number of its operation and what is below it.
 -- Assumes nothing.
 use mathlib.Core.Path.{_≡_, refl, sym, ap, _∙_}
 use mathlib.Core.Bool.{Bool, true, false, not, _&&_, true≢false}
@@ -12,12 +12,12 @@ use Rattle.words.specs.Words.{meetOf, sizeOf}
 use Rattle.tables.specs.Tables.{Tables}
 use Rattle.syntax.specs.Term.{Term, Choices}
 use Rattle.syntax.specs.Rule.{Cmp, lt, le, gt, ge, eq, ne, Sign, is, isnt, number, count, Test, member, alike, empty, sized}
-use Rattle.syntax.specs.Rule.{Clause, plain, when, Rule, last, also}
-use Rattle.syntax.specs.code.Arena.{alikeOp, emptyOp, cmpNumber, Numbered, Holds, HoldsTest, HoldsClause, HoldsRule, hasTwo, Low, Down, Tidy}
-use Rattle.syntax.specs.code.Nodes.{firstPair, memberOp, firstAlike, firstEmpty, firstNumbered, firstCounted, whenOp, alsoOp, opAt, leftAt, rightAt, opRoom, operationOf, leftOf, rightOf}
-use Rattle.syntax.proofs.ArenaLaws.{Parts, parts, one-parts, both-parts, holds-one, numbered-parts}
+use Rattle.syntax.specs.Rule.{Clause, plain, when}
+use Rattle.syntax.specs.code.Arena.{alikeOp, emptyOp, cmpNumber, Holds, HoldsTest, HoldsClause, hasTwo, Low, Down, Tidy}
+use Rattle.syntax.specs.code.Nodes.{firstPair, memberOp, firstAlike, firstEmpty, firstNumbered, firstCounted, whenOp, opAt, leftAt, rightAt, operationOf, leftOf, rightOf}
+use Rattle.syntax.proofs.ArenaLaws.{one-parts, both-parts, holds-one, numbered-parts}
 use Rattle.values.specs.Values.{value}
-use Rattle.values.specs.Truth.{compared, signed, countValue, testTrue, clauseTrue, ruleTrue}
+use Rattle.values.specs.Truth.{compared, signed, countValue, testTrue, clauseTrue}
 use Rattle.values.specs.Sets.{namesIn}
 use Rattle.values.specs.code.Nodes.{cmpAt, relatedAt, emptyAt}
 use Rattle.values.specs.code.Cache.{ValuedIn}
@@ -168,29 +168,6 @@ module _ (ns : List ℕ) (k : ℕ) where
         let w : z ≡ sizeOf (value T σ c u) = g ∙ ap sizeOf (jh u (rw (q .right) (x .4))) in
         let o : opAt ns k - firstCounted ≡ cmpNumber d = omega (arith, q .op) in
         e ∙ rw (o, cmp-at d, v, w)
-
-    clause-small : (q : Clause) → HoldsClause ns k q → opAt ns k < alsoOp
-    unfolding HoldsClause
-    clause-small (plain p) x = omega (arith, test-range p x .most)
-    clause-small (when p q) x = omega (arith, both-parts (x .2) (omega arith) .op)
-
-    -- A rule is a clause where its number is not that of `^`; where it is, a is its first clause, and r the rest where a is true.
-    pub rule-clause : (ρ : Rule) → HoldsRule ns k ρ → (r : Bool) → (opAt ns k ≡ alsoOp → ⊥)
-        → ((q : Clause) → HoldsClause ns k q → r ≡ clauseTrue T σ c q) → r ≡ ruleTrue T σ c ρ
-    unfolding HoldsRule ruleTrue
-    rule-clause (last q) x r h ih = ih q x
-    rule-clause (also q ρ) x r h ih = absurd (h (both-parts (x .2) (omega arith) .op))
-
-    pub rule-also : (ρ : Rule) → HoldsRule ns k ρ → (a : Bool) → opAt ns k ≡ alsoOp
-        → ((q : Clause) → HoldsClause ns (leftAt ns k) q → a ≡ clauseTrue T σ c q)
-        → ((r : Bool) → a ≡ true → ((π : Rule) → HoldsRule ns (rightAt ns k) π → r ≡ ruleTrue T σ c π) → r ≡ ruleTrue T σ c ρ)
-        × (a ≡ false → false ≡ ruleTrue T σ c ρ)
-    unfolding HoldsRule ruleTrue
-    rule-also (last q) x a h ih = absurd (omega (arith, clause-small q x))
-    rule-also (also q ρ) x a h ih =
-        let y = both-parts (x .2) (omega arith) in
-        let f : a ≡ clauseTrue T σ c q = ih q (rw (y .left) (x .3)) in
-        (λ r e jh. jh ρ (rw (y .right) (x .4)) ∙ rw (← f, e), λ e. rw (← f, e))
 
 -- ---- a test by the number of its node, where the cache has the values of its terms
 

@@ -1,7 +1,6 @@
-// The leaves of an evaluation: all items of a sort, the chosen item, comparisons.
+// The leaves of an evaluation: all items of a sort, one item, comparisons.
 ghost use mathlib.Core.Path.{_≡_};
 ghost use Prim.Native.Nat.{_<_};
-ghost use lib.ListN.{getD};
 ghost use Rattle.tables.specs.Tables.{Tables};
 ghost use Rattle.tables.specs.Accepted.{Fits};
 ghost use Rattle.tables.specs.code.Layout.{Whole};
@@ -60,17 +59,6 @@ pub fn one(t: &[u64], kind: u8, x: usize) -> u64
     let k = (kind - FIRST_COLLECTION) as usize;
     let at = COLLECTIONS[k] + x;
     t[at]
-}
-
-// The item chosen for the variable u.
-pub fn chosen(choice: &[u8], u: usize) -> usize
-    ensures { λ r. ⌜ r ≡ getD (now (choice .entry)) u 0 ⌝ }
-{
-    if u < choice.len() {
-        choice[u] as usize
-    } else {
-        0
-    }
 }
 
 // Whether the kind is an element or a set of the sort, 0 to 5 for U, R, OP, OBJ, P, S.

@@ -1,7 +1,6 @@
-// Whether a rule is true, where a cache has the values of the terms: by the numbers of the nodes of its tests.
+// Whether a clause is true, where a cache has the values of the terms: by the numbers of the nodes of its tests.
 use crate::items;
 use syntax::nodes;
-use syntax::nodes::ALSO;
 use syntax::nodes::FIRST_COUNTED;
 use syntax::nodes::FIRST_NUMBERED;
 use syntax::nodes::IS;
@@ -9,11 +8,11 @@ use syntax::nodes::IS_EMPTY;
 use syntax::nodes::MEMBER;
 use syntax::nodes::WHEN;
 ghost use mathlib.Core.Path.{_≡_};
-ghost use Prim.Native.Nat.{_<_, _≤_};
+ghost use Prim.Native.Nat.{_<_};
 ghost use lib.ListN.{length};
 ghost use Rattle.syntax.specs.code.Arena.{Low, Tidy};
 ghost use Rattle.values.specs.code.Nodes.{relatedAt, emptyAt};
-ghost use Rattle.values.specs.code.Cache.{TestOf, ClauseOf, TruthAt};
+ghost use Rattle.values.specs.code.Cache.{TestOf, ClauseOf};
 ghost use Rattle.values.specs.code.Clauses.{TestsAt};
 
 // `@`, `=` and `!=` of two values. An element is in a set where they have an item in common.
@@ -102,23 +101,4 @@ pub fn tests_at(nodes: &[u32], n: usize, k: usize) -> Tests
     let first = nodes[left];
     let second = nodes[right];
     Tests { first, second }
-}
-
-// `^` means and: clause by clause, to the first that is false.
-pub fn truth(nodes: &[u32], n: usize, cache: &[u64], k: usize) -> bool
-    requires { ⌜ Tidy (now nodes) n × (k < n) × (n ≤ length (now cache)) ⌝ }
-    ensures { λ r. ⌜ TruthAt (now (nodes .entry)) n (now (cache .entry)) k r ⌝ }
-{
-    let mut at = k;
-    while nodes::operation(nodes[at]) == ALSO {
-        let left = nodes::left(nodes[at]) as usize;
-        let tests = tests_at(nodes, n, left);
-        if clause(tests.first, tests.second, cache) {
-            at = nodes::right(nodes[at]) as usize;
-        } else {
-            return false;
-        }
-    }
-    let tests = tests_at(nodes, n, at);
-    clause(tests.first, tests.second, cache)
 }

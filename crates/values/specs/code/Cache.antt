@@ -7,11 +7,11 @@ use Prim.Native.Nat.{ℕ, _<_, _≤_}
 use lib.ListN.{length, getD}
 use Rattle.tables.specs.Tables.{Tables}
 use Rattle.syntax.specs.Term.{Term, Choices}
-use Rattle.syntax.specs.Rule.{Test, Clause, Rule}
-use Rattle.syntax.specs.code.Arena.{Holds, HoldsRule}
+use Rattle.syntax.specs.Rule.{Test, Clause}
+use Rattle.syntax.specs.code.Arena.{Holds}
 use Rattle.syntax.specs.code.Nodes.{firstCall, oeOp, firstPair, opAt, leftAt, rightAt}
 use Rattle.values.specs.Values.{value}
-use Rattle.values.specs.Truth.{testTrue, clauseTrue, ruleTrue}
+use Rattle.values.specs.Truth.{testTrue, clauseTrue}
 use Rattle.values.specs.Sets.{namesIn}
 use Rattle.values.specs.code.Nodes.{World, ValueAt}
 use Rattle.values.specs.code.Clauses.{testNames, clauseNames, TestNode, ClauseNodes}
@@ -26,17 +26,13 @@ pub record Fed (T : Tables) (σ : Choices) (c ns cache : List ℕ) (k : ℕ) : T
 abbrev pub StepAt : List ℕ → List ℕ → ℕ → List ℕ → List ℕ → List ℕ → ℕ → List ℕ → ℕ → Type 0
 StepAt ts ns n ks vs c k cache r = (T : Tables) (σ : Choices) → World ts ns n ks vs T σ → (a : Term) → Holds ns k a → Fed T σ c ns cache k → r ≡ value T σ c a
 
--- The cache has, under the choice c, the value of each term of the first n nodes.
-abbrev pub Valued : List ℕ → ℕ → List ℕ → Tables → Choices → List ℕ → Type 0
-Valued ns n cache T σ c = (i : ℕ) → i < n → (a : Term) → Holds ns i a → getD cache i 0 ≡ value T σ c a
-
--- The same of the terms that name only what `named` says: those of a clause, once its variables are chosen.
+-- The cache has, under the choice c, the values of the terms among the first n nodes that name only what `named` says: those of a clause, once its variables are chosen.
 abbrev pub ValuedIn : List ℕ → ℕ → List ℕ → Tables → Choices → List ℕ → (ℕ → Bool) → Type 0
 ValuedIn ns n cache T σ c named =
     (i : ℕ) → i < n → (a : Term) → Holds ns i a → ((u : ℕ) → namesIn σ a u ≡ true → named u ≡ true) → getD cache i 0 ≡ value T σ c a
 
 -- What is shown under each choice for which the cache has the values of its terms: r says whether the test of a node, the clause of two
--- tests' nodes, the rule of node k is true.
+-- tests' nodes is true.
 abbrev pub TestOf : ℕ → List ℕ → Bool → Type 0
 TestOf v cache r =
     (ns : List ℕ) (n : ℕ) (p : Test) → TestNode ns n v p → (T : Tables) (σ : Choices) (c : List ℕ) → ValuedIn ns n cache T σ c (testNames σ p) → r ≡ testTrue T σ c p
@@ -45,9 +41,6 @@ abbrev pub ClauseOf : ℕ → ℕ → List ℕ → Bool → Type 0
 ClauseOf first second cache r =
     (ns : List ℕ) (n : ℕ) (q : Clause) → ClauseNodes ns n first second q → (T : Tables) (σ : Choices) (c : List ℕ) → ValuedIn ns n cache T σ c (clauseNames σ q)
     → r ≡ clauseTrue T σ c q
-
-abbrev pub TruthAt : List ℕ → ℕ → List ℕ → ℕ → Bool → Type 0
-TruthAt ns n cache k r = (T : Tables) (σ : Choices) (c : List ℕ) → Valued ns n cache T σ c → (ρ : Rule) → HoldsRule ns k ρ → r ≡ ruleTrue T σ c ρ
 
 -- The cache has, under the choice c, the value of each node's term whose level is below the depth.
 pub record Stored (ts ns : List ℕ) (n : ℕ) (ks vs c cache levels : List ℕ) (depth : ℕ) : Type 0 where

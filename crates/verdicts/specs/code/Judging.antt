@@ -1,12 +1,9 @@
 -- What the slices hold that judging is lent: a rule's tree with its kinds and variables, and an order of them.
 -- Internal: contracts of entry points do not speak of it. Assumes nothing.
 use mathlib.Core.Path.{_≡_}
-use mathlib.Core.Bool.{Bool, true, false}
 use mathlib.Core.List.{List, []}
-use mathlib.Core.Option.{some}
-use Prim.Native.Nat.{ℕ, _+_, _-_, _<_, _≤_}
+use Prim.Native.Nat.{ℕ, _-_, _<_, _≤_}
 use lib.ListN.{length, getD, drop}
-use Rattle.words.specs.Words.{has, gate}
 use Rattle.tables.specs.Tables.{Tables}
 use Rattle.tables.specs.Flat.{flat}
 use Rattle.tables.specs.Accepted.{Sound}
@@ -18,17 +15,14 @@ use Rattle.rules.specs.Accept.{refusal}
 use Rattle.rules.specs.declared.Parsed.{Parsed}
 use Rattle.rules.specs.code.Parsed.{Parses}
 use Rattle.walks.specs.declared.Tally.{Tally}
-use Rattle.walks.specs.Walk.{gateO, choiceBytes}
 use Rattle.walks.specs.Meaning.{After}
 use Rattle.walks.specs.code.Among.{Within}
-use Rattle.walks.specs.code.Tally.{Walked, Upto}
+use Rattle.walks.specs.code.Tally.{Walked}
 use Rattle.walks.specs.Share.{shareOf}
 use Rattle.verdicts.specs.Verdict.{outcomeOf, orderVerdict, acceptedVerdict, turnVerdict}
 use Rattle.verdicts.specs.declared.Verdict.{Verdict}
 use Rattle.values.specs.Sets.{itemsOf, inSet, names, breaks}
 use Rattle.values.specs.code.Nodes.{Evaluable, Variables, World}
-use Rattle.values.specs.code.Levels.{Levels, Chained}
-use Rattle.values.specs.code.Cache.{Valued, Stored}
 
 -- Under a full choice the rule's variables have items of their sorts.
 abbrev pub InSorts : Tables → Rule → Type 0
