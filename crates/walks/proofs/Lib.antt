@@ -8,7 +8,6 @@ pub mod FirstLaws
 pub mod OrderLaws
 pub mod TurnLaws
 pub mod LoopLaws
-pub mod StepLaws
 pub mod ShareLaws
 pub mod ClauseLaws
 pub mod SummedLaws

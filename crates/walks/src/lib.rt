@@ -1,42 +1,18 @@
 // The walk over choices: its tally, the test of an order, the share.
 // Nothing here knows tables or rules: what a variable's set names is a word of variables.
 ghost use mathlib.Core.Path.{_≡_};
-ghost use Prim.Native.Nat.{ℕ, _+_, _<_, _≤_, _^_};
+ghost use Prim.Native.Nat.{ℕ, _<_, _≤_, _^_};
 ghost use lib.ListN.{length, getD, drop, take};
 ghost use Rattle.walks.specs.Order.{count, isSmall, isOnce, isFree, isAfter, isOrder, namedBy, variableOf, variablesOf};
 ghost use Rattle.walks.specs.Share.{shareOf};
-ghost use Rattle.walks.specs.code.Tally.{Joined};
 
 pub mod kept;
 
-// What judging carries up: full and breaking choices, and the first breaking one (255 where there is none).
+// What judging counts: full and breaking choices, and the first breaking one (255 where there is none).
 pub struct Tally {
     pub full: u64,
     pub breaking: u64,
     pub first: [u8; 8],
-}
-
-// The tally of what a counted and then of what b counted.
-pub fn join(a: Tally, b: Tally) -> Tally
-    requires { ⌜ (a .full + b .full < 2 ^ 64) × (a .breaking + b .breaking < 2 ^ 64) ⌝ }
-    ensures { λ r. ⌜ Joined a b r ⌝ }
-{
-    let full = a.full + b.full;
-    let breaking = a.breaking + b.breaking;
-    if 0 < a.breaking {
-        let first = a.first;
-        return Tally {
-            full,
-            breaking,
-            first,
-        };
-    }
-    let first = b.first;
-    Tally {
-        full,
-        breaking,
-        first,
-    }
 }
 
 // The variable that a byte of an order numbers: v1 is the variable 0, and 0 numbers none.
