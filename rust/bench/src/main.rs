@@ -1,73 +1,71 @@
-//! Times the proved library beside the reference's fast modules, in the same run, and prints a
-//! table for docs/BENCHMARKS.md. `bench ROUNDS` sets how many rounds each median is of.
+//! Times the proved library beside the reference's fast modules, in the same run, and prints the
+//! tables of docs/BENCHMARKS.md. `bench ROUNDS` sets how many rounds each median is of.
 
 use std::hint::black_box;
 use std::time::{Duration, Instant};
 
 use differential::hold::Question;
 use differential::random::Random;
-use differential::rules::PAPER;
+use differential::rules::{COMMITTEE, PAPER};
+use differential::subjects;
 use differential::tables::{self, Plain};
 
 /// A round repeats a call until it has lasted this long.
 const ROUND: Duration = Duration::from_millis(40);
 
-/// Where a rule has more choices than this on the largest tables, the collections are cut.
+/// Rounds of one row end once they have lasted this long.
+const ROW: Duration = Duration::from_secs(2);
+
+/// Where a rule has more full choices than this, the other program's time is computed from cut tables.
 const MANY: u64 = 20_000_000;
+
+const NAMES: [&str; 19] = [
+    "I.1", "I.2", "I.3", "I.4", "I.5", "I.6", "II.1", "II.1-1", "II.2", "II.2-1", "C1", "C2", "C3",
+    "C4", "C5", "C6", "C7", "C8", "C9",
+];
 
 fn main() {
     let rounds = std::env::args()
         .nth(1)
         .map_or(7, |text| text.parse().expect("a number"));
-    println!("| call | full choices | ours | per choice | fast | per choice | ours / fast |");
-    println!("|---|---|---|---|---|---|---|");
-    for (name, question) in questions() {
-        row(&name, &question, rounds);
+    println!("| judge | tables | full choices | ours | fast | fast / ours |");
+    println!("|---|---|---|---|---|---|");
+    let random = tables::full(&mut Random::new(1));
+    let office = tables::office(&mut Random::new(1), 64);
+    for plain in [&random, &office] {
+        assert_eq!(plain.bytes().len(), 3_785, "the largest tables");
+    }
+    let rules: Vec<&str> = PAPER.iter().chain(&COMMITTEE).copied().collect();
+    for (name, rule) in NAMES.iter().zip(rules) {
+        judged(&format!("{name} | random"), rule, &random, rounds);
+        judged(&format!("{name} | office"), rule, &office, rounds);
+    }
+    println!("\n| call | ours | fast | ours / fast |");
+    println!("|---|---|---|---|");
+    for (name, question) in others(&random) {
+        let (ours, fast, ratio) = beside(&question, rounds);
+        println!(
+            "| {name} | {} | {} | {ratio:.2} |",
+            shown(ours),
+            shown(fast)
+        );
     }
 }
 
-/// What is timed, with its name in the table.
-fn questions() -> Vec<(String, Question)> {
-    let largest = tables::full(&mut Random::new(1));
-    assert_eq!(largest.bytes().len(), 3_785, "the largest tables");
-    let names = [
-        "I.1", "I.2", "I.3", "I.4", "I.5", "I.6", "II.1", "II.1-1", "II.2", "II.2-1",
-    ];
-    let mut questions: Vec<_> = names
-        .iter()
-        .zip(PAPER)
-        .map(|(name, rule)| judged(name, rule, &largest))
-        .collect();
-    let read = Question::judge(largest.bytes(), b"U=U".to_vec(), vec![]);
-    questions.push(("judge `U=U` (reading the tables)".to_string(), read));
+/// The calls that walk nothing, with their names in the table.
+fn others(tables: &Plain) -> Vec<(String, Question)> {
     let rule = long_rule();
     let formula = reference::fast::reduce(rule.as_bytes()).expect("an accepted rule");
-    questions.push((
-        "reduce 256 bytes".to_string(),
-        Question::Reduce(rule.into_bytes().into()),
-    ));
-    let name = format!("rebuild those, from {}", formula.len());
-    questions.push((name, Question::Rebuild(formula.into())));
-    questions
-}
-
-/// A rule on the largest tables, in the order 1, 2, ..; the collections cut to 8 words where the
-/// walk would be too long otherwise.
-fn judged(name: &str, rule: &str, tables: &Plain) -> (String, Question) {
-    let read = reference::rule::read(rule.as_bytes()).expect("an accepted rule");
-    let order: Vec<u8> = (1..=read.variables.len() as u8).collect();
-    let mut tables = tables.clone();
-    let mut name = format!("judge {name}");
-    if 64u64.pow(order.len() as u32) > MANY {
-        for words in [&mut tables.cr, &mut tables.cu, &mut tables.cp] {
-            words.truncate(8);
-        }
-        name += ", collections of 8";
-    }
-    (
-        name,
-        Question::judge(tables.bytes(), rule.as_bytes().to_vec(), order),
-    )
+    let rebuild = format!("rebuild those, from {}", formula.len());
+    let read = Question::judge(tables.bytes(), b"U=U".to_vec(), vec![]);
+    vec![
+        ("judge `U=U` (reading the tables)".to_string(), read),
+        (
+            "reduce 256 bytes".to_string(),
+            Question::Reduce(rule.into_bytes().into()),
+        ),
+        (rebuild, Question::Rebuild(formula.into())),
+    ]
 }
 
 /// The longest rule of Table I, filled up to 256 bytes.
@@ -80,41 +78,74 @@ fn long_rule() -> String {
     rule
 }
 
-fn row(name: &str, question: &Question, rounds: usize) {
+/// A rule's row, in the order 1, 2, ..
+fn judged(name: &str, rule: &str, tables: &Plain, rounds: usize) {
+    let read = reference::rule::read(rule.as_bytes()).expect("an accepted rule");
+    let count = read.variables.len() as u8;
+    let asked = |tables: &Plain, order: Vec<u8>| {
+        Question::judge(tables.bytes(), rule.as_bytes().to_vec(), order)
+    };
+    let question = asked(tables, (1..=count).collect());
+    let full = choices(&question);
+    let (ours, fast, mark, ratio) = if full <= MANY {
+        let (ours, fast, ratio) = beside(&question, rounds);
+        (ours, fast, "", 1.0 / ratio)
+    } else {
+        let cut = (0..).map(|times| asked(&cut(tables, times), (1..=count).collect()));
+        let cut = cut.into_iter().find(|cut| choices(cut) <= MANY);
+        let cut = cut.expect("tables without conflicts");
+        let (_, fast, _) = beside(&cut, 1);
+        let fast = fast / choices(&cut) as f64 * full as f64;
+        let ours = ours(&question, rounds);
+        (ours, fast, "~", fast / ours)
+    };
+    println!(
+        "| {name} | {full} | {} | {mark}{} | {mark}{ratio:.1} |",
+        shown(ours),
+        shown(fast),
+    );
+}
+
+/// The full choices of a verdict.
+fn choices(question: &Question) -> u64 {
+    let mut out = [0; 26];
+    question.ask(&mut out).expect("an accepted question");
+    subjects::full(&out)
+}
+
+/// The tables with sessions and collections halved so many times.
+fn cut(tables: &Plain, times: u32) -> Plain {
+    let mut tables = tables.clone();
+    let most = (64usize >> times).max(1);
+    tables.sessions.truncate(most);
+    for words in [&mut tables.cr, &mut tables.cu, &mut tables.cp] {
+        words.truncate(most);
+    }
+    tables
+}
+
+/// Nanoseconds for a call of ours and one of the other, in turn, and the ratio: medians.
+fn beside(question: &Question, rounds: usize) -> (f64, f64, f64) {
     let expected = question.fast().expect("an accepted question");
     question.hold(&Ok(expected.clone()), expected.len(), 0);
-    let full = match question {
-        Question::Judge(..) => u64::from_le_bytes(expected[1..9].try_into().unwrap()),
-        _ => 0,
-    };
     let mut out = vec![0; expected.len()];
-    let mut ours = Vec::new();
-    let mut fast = Vec::new();
-    let mut ratios = Vec::new();
-    for _ in 0..rounds {
+    let (mut ours, mut fast, mut ratios) = (Vec::new(), Vec::new(), Vec::new());
+    let start = Instant::now();
+    while ours.len() < rounds && (ours.is_empty() || start.elapsed() < ROW) {
         let a = time(|| black_box(question).ask(&mut out));
         let b = time(|| black_box(question).fast());
         ratios.push(a / b);
         ours.push(a);
         fast.push(b);
     }
-    let (ours, fast, ratio) = (median(ours), median(fast), median(ratios));
-    let choice = |time: f64| match full {
-        0 | 1 => "".to_string(),
-        full => format!("{:.1} ns", time / full as f64),
-    };
-    let full = if full == 0 {
-        String::new()
-    } else {
-        full.to_string()
-    };
-    println!(
-        "| {name} | {full} | {} | {} | {} | {} | {ratio:.2} |",
-        shown(ours),
-        choice(ours),
-        shown(fast),
-        choice(fast)
-    );
+    (median(ours), median(fast), median(ratios))
+}
+
+/// Nanoseconds for a call of ours, the median of some rounds.
+fn ours(question: &Question, rounds: usize) -> f64 {
+    let mut out = [0; 26];
+    let times = (0..rounds).map(|_| time(|| black_box(question).ask(&mut out)));
+    median(times.collect())
 }
 
 /// Nanoseconds for one call, over as many as fill a round.
@@ -137,6 +168,7 @@ fn shown(nanoseconds: f64) -> String {
     match nanoseconds {
         small if small < 1e4 => format!("{small:.0} ns"),
         middle if middle < 1e7 => format!("{:.1} µs", middle / 1e3),
-        long => format!("{:.0} ms", long / 1e6),
+        long if long < 1e10 => format!("{:.0} ms", long / 1e6),
+        longer => format!("{:.0} s", longer / 1e9),
     }
 }

@@ -153,10 +153,11 @@ pub fn rebuild_into(formula: &[u8], out: &mut [u8]) -> Result<usize, Refusal> {
 ///
 /// # Cost
 ///
-/// Time goes with the full choices, some 20 to 100 ns for each on a present machine, and these can
-/// be as many as 64 to the power of the number of variables: with two variables at most 4,096 and
-/// a tenth of a millisecond, with four 16 million and a third of a second, with eight 2.8 × 10¹⁴
-/// and months. A call cannot be interrupted: whoever judges rules that others wrote looks at
+/// Two variables take a tenth of a millisecond, and most rules of a committee a few milliseconds,
+/// whatever their full choices: what was counted below a choice is not counted again. A rule with
+/// one clause over many variables, or an order that puts those of a clause far apart, can still
+/// take some 20 to 100 ns for each full choice, and these can be as many as 64 to the power of the
+/// number of variables. A call cannot be interrupted: whoever judges rules that others wrote looks at
 /// [`variables`] first, or judges where it may run on. At most 112 KiB of stack ([`STACK_JUDGE`]).
 pub fn judge(tables: &[u8], rule: &[u8], order: &[u8]) -> Result<Verdict, Refusal> {
     let mut out = [0; Verdict::BYTES];
