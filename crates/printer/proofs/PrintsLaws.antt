@@ -1,19 +1,17 @@
 -- Writers one after the other, and a writer's text as that of the thing that a node holds.
 -- Assumes nothing.
 use mathlib.Core.Path.{_≡_, refl, ap, _∙_}
-use mathlib.Core.Bool.{Bool, true, false, _&&_, _||_}
+use mathlib.Core.Bool.{true}
 use mathlib.Core.List.{List, _++_, append-assoc}
 use mathlib.Core.Option.{some}
 use Prim.Native.Nat.{ℕ, _+_, _≤_, _<_}
 use native.Mathlib.Omega.{arith}
-use lib.Dec.{leb, ltb}
 use lib.ListN.{length}
-use borrow.Author.Tests.{le-leb, lt-ltb}
 use Rattle.syntax.specs.Bytes.{Bytes, ascii}
 use Rattle.syntax.specs.Term.{Term, base, call, oe, ao, two, Choices, text, aoText, spell, spellMiddle}
 use Rattle.syntax.specs.code.Arena.{Holds, HoldsAll, Down, hasTwo}
 use Rattle.syntax.specs.code.Reading.{Sought}
-use Rattle.syntax.specs.code.Nodes.{firstCall, oeOp, aoOp, firstPair, memberOp, firstEmpty, firstCounted, opAt, leftAt, rightAt}
+use Rattle.syntax.specs.code.Nodes.{firstCall, oeOp, aoOp, firstPair, memberOp, opAt, leftAt, rightAt}
 use Rattle.printer.specs.code.Signs.{signOf, openOf, variable, without}
 use Rattle.printer.specs.code.Printed.{Adds, Prints, Appends, Printable}
 use Rattle.syntax.proofs.ArenaLaws.{base-small, fn-range, two-range, opOf, holds-op}
@@ -117,18 +115,6 @@ module _ {ns vs : List ℕ} {k : ℕ} (w : Printable ns k vs) {op : ℕ} (e : op
           appends-as
           (λ σ t y x. text-others ns k σ (49 + d) (λ a z. choice-some v s σ y a (rw q z) h) t (omega arith) (omega arith) x)
           (rw q at p)
-
-pub has-two : (o : ℕ) → firstPair ≤ o → o < firstEmpty → hasTwo o ≡ true
-unfolding hasTwo
-has-two o h g = rw (le-leb firstPair o h, lt-ltb o firstEmpty g)
-
-or-true : (b : Bool) → (b || true) ≡ true
-or-true true = refl
-or-true false = refl
-
-pub has-two-last : (o : ℕ) → firstCounted ≤ o → hasTwo o ≡ true
-unfolding hasTwo
-has-two-last o h = rw (le-leb firstCounted o h) (or-true (leb firstPair o && ltb o firstEmpty))
 
 pub no-term : (ns : List ℕ) (k : ℕ) (t : Term) → memberOp ≤ opAt ns k → Holds ns k t → ⊥
 unfolding opOf

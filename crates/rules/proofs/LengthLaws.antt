@@ -13,12 +13,13 @@ use Rattle.syntax.specs.Term.{Term, Choices, digit}
 use Rattle.syntax.specs.code.Arena.{hasTwo, Holds, Apart}
 use Rattle.syntax.specs.code.Reading.{mk, Knows}
 use Rattle.syntax.specs.code.Nodes.{firstCall, oeOp, aoOp, firstPair, firstNumbered, opsEnd, opAt, leftAt, rightAt, operationOf, leftOf, rightOf}
+use Rattle.syntax.proofs.ArenaLaws.{two-less}
 use Rattle.rules.specs.code.Thing.{Thing, term, HoldsThing}
 use Rattle.rules.specs.code.Lengths.{extraTable, extra, plainLength, knownLength, nodeLength, stepLength, capped, Measured}
 use Rattle.rules.specs.code.Variables.{placeIn}
 use Rattle.rules.proofs.TableLaws.{entry}
 use Rattle.rules.proofs.NodeLaws.{more-at}
-use Rattle.rules.proofs.ShapeLaws.{two-less, len, tail, chosenLength, alone-none, Shape, bare, single, choosing, double, shape}
+use Rattle.rules.proofs.ShapeLaws.{len, tail, chosenLength, alone-none, Shape, bare, single, choosing, double, shape}
 use Rattle.rules.proofs.VariableLaws.{digit-found}
 
 -- No entry of the table is above 14.

@@ -9,7 +9,7 @@ use Prim.Native.Nat.{ℕ, _+_, _<_, _≤_}
 use native.Mathlib.Omega.{arith}
 use lib.Dec.{eqb, ltb}
 use lib.ListN.{length, getD, length-append}
-use borrow.Author.Tests.{lt-ltb, le-ltb, le-leb, lt-leb}
+use borrow.Author.Tests.{lt-ltb, le-ltb}
 use Rattle.syntax.specs.Term.{Base, bU, bR, bOP, bOBJ, bP, bS, bCR, bCP, bCU, Fn, user, roles, roles*, sessions, permissions, permissions*, object}
 use Rattle.syntax.specs.Term.{operations, meet, join, Term, base, call, oe, ao, two, Choices, digit, isBase, isCall}
 use Rattle.syntax.specs.Term.{spell, spellMiddle, oeText, aoText, text, Pair, calls, joins, opening, parting}
@@ -20,31 +20,11 @@ use Rattle.syntax.specs.code.Arena.{baseOp, fnOp, twoOp, alikeOp, emptyOp, cmpN
 use Rattle.syntax.specs.code.Nodes.{firstCall, oeOp, aoOp, firstPair, firstJoin, memberOp, firstEmpty, firstNumbered, firstCounted, whenOp, alsoOp, opAt, leftAt, rightAt, opRoom}
 use Rattle.rules.specs.code.Thing.{Thing, term, test, clause, rule, HoldsThing, thingVars, thingText}
 use Rattle.rules.specs.code.Lengths.{extraTable, extra}
-use Rattle.syntax.proofs.ArenaLaws.{base-small, fn-range, two-range, Parts, none-parts, one-parts, both-parts, numbered-parts}
+use Rattle.syntax.proofs.ArenaLaws.{base-small, fn-range, two-range, two-less, two-none, Parts, none-parts, one-parts, both-parts, numbered-parts}
+pub use Rattle.syntax.proofs.ArenaLaws.{two-low, two-high}
 use Rattle.syntax.proofs.TestLaws.{cmp-small}
 use Rattle.rules.proofs.KindLaws.{alike-op, empty-op}
 use Rattle.rules.proofs.NodeLaws.{lt-or-le}
-
--- Which operations have two nodes below.
-
-pub two-less : (o : ℕ) → o < firstPair → hasTwo o ≡ false
-unfolding hasTwo
-two-less o h = let l : o < firstCounted = omega arith in rw (lt-leb firstPair o h, lt-leb firstCounted o l)
-
-pub two-none : (o : ℕ) → firstEmpty ≤ o → o < firstCounted → hasTwo o ≡ false
-unfolding hasTwo
-two-none o lo hi = let l : firstPair ≤ o = omega arith in rw (le-leb firstPair o l, le-ltb o firstEmpty lo, lt-leb firstCounted o hi)
-
-pub two-low : (o : ℕ) → firstPair ≤ o → o < firstEmpty → hasTwo o ≡ true
-unfolding hasTwo
-two-low o lo hi = rw (le-leb firstPair o lo, lt-ltb o firstEmpty hi)
-
-pub two-high : (o : ℕ) → firstCounted ≤ o → hasTwo o ≡ true
-unfolding hasTwo
-two-high o h =
-    let l : firstPair ≤ o = omega arith in
-    let m : firstEmpty ≤ o = omega arith in
-    rw (le-leb firstPair o l, le-ltb o firstEmpty m, le-leb firstCounted o h)
 
 -- The lengths of what is spelled, by the table.
 

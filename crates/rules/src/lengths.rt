@@ -1,11 +1,11 @@
 // Lengths of terms, tests, clauses and rules as they are written, from the nodes alone.
 // Equal subtrees are one node, so that a text that is long to write is quick to measure.
-use super::variables::has_two;
 use syntax::nodes::AO;
 use syntax::nodes::FIRST_CALL;
 use syntax::nodes::FIRST_NUMBERED;
 use syntax::nodes::OE;
 use syntax::nodes::OPS_END;
+use syntax::nodes::has_two;
 use syntax::nodes::left;
 use syntax::nodes::operation;
 use syntax::nodes::right;

@@ -3,15 +3,14 @@
 ghost use mathlib.Core.Path.{_≡_};
 ghost use Prim.Native.Nat.{_<_, _≤_};
 ghost use lib.ListN.{length};
-ghost use Rattle.syntax.specs.code.Arena.{Tidy, hasTwo};
+ghost use Rattle.syntax.specs.code.Arena.{Tidy};
 ghost use Rattle.rules.specs.Accept.{choicesLimit};
 ghost use Rattle.rules.specs.code.Variables.{Walked, Added};
 use super::CHOICES_LIMIT;
 use syntax::nodes::FIRST_CALL;
-use syntax::nodes::FIRST_COUNTED;
 use syntax::nodes::FIRST_PAIR;
-use syntax::nodes::IS_EMPTY;
 use syntax::nodes::OE;
+use syntax::nodes::has_two;
 use syntax::nodes::left;
 use syntax::nodes::operation;
 use syntax::nodes::right;
@@ -34,19 +33,6 @@ fn add(vars: &mut [u32], count: usize, node: u32) -> usize
     }
     vars[count] = node;
     count + 1
-}
-
-// Whether a node of the operation has two nodes below it.
-pub fn has_two(op: u32) -> bool
-    ensures { λ r. ⌜ r ≡ hasTwo op ⌝ }
-{
-    if op < FIRST_PAIR {
-        return false;
-    }
-    if op < IS_EMPTY {
-        return true;
-    }
-    op >= FIRST_COUNTED
 }
 
 // The count after the variables of what node k holds, which are put behind the others: first those below it, then its own.

@@ -1,19 +1,42 @@
 -- Laws of the nodes: what a node holds, it holds alone and for ever; a node is found again in one place; its parts stand below it.
 -- Assumes nothing.
 use mathlib.Core.Path.{_≡_, refl, sym, ap, ap₂, _∙_}
+use mathlib.Core.Bool.{true, false}
 use mathlib.Core.List.{List, [], _∷_}
 use mathlib.Core.Logic.{⊎-elim}
 use Prim.Native.Nat.{ℕ, suc, _+_, _-_, _<_, _≤_}
 use native.Mathlib.Nat.{eq-or-lt-of-le}
 use native.Mathlib.Omega.{arith}
-use lib.ListN.{length, getD, set, length-set}
-use lib.Seq.{getD-set-same, getD-set-other}
+use borrow.Author.Tests.{lt-ltb, le-ltb, le-leb, lt-leb}
+use lib.ListN.{length, getD, set, take, drop, length-set}
+use lib.Seq.{getD-set-same, getD-set-other, getD-take, getD-drop}
 use Rattle.syntax.specs.Term.{Base, bU, bR, bOP, bOBJ, bP, bS, bCR, bCP, bCU, Fn, user, roles, roles*, sessions, permissions}
 use Rattle.syntax.specs.Term.{permissions*, object, operations, meet, join, Term, base, call, oe, ao, two, Choices, Pair, calls, joins}
 use Rattle.syntax.specs.Rule.{number, count, Test, member, alike, empty, sized, Clause, plain, when, Rule, last, also}
-use Rattle.syntax.specs.code.Arena.{baseOp, fnOp, twoOp, None, One, Numbered, Both, Holds, HoldsTest, HoldsClause, HoldsRule, HoldsAll, Apart, Low, Down, Tidy}
-use Rattle.syntax.specs.code.Reading.{Arena, Stays, Knows}
-use Rattle.syntax.specs.code.Nodes.{firstCall, oeOp, aoOp, firstPair, memberOp, operationOf, leftOf, rightOf, nodeOf, opAt, opRoom, indexRoom}
+use Rattle.syntax.specs.code.Arena.{baseOp, fnOp, twoOp, None, One, Numbered, Both, Holds, HoldsTest, HoldsClause, HoldsRule, HoldsAll, Apart, hasTwo, Low, Down, Tidy}
+use Rattle.syntax.specs.code.Reading.{Arena, Stays, Sought, Knows}
+use Rattle.syntax.specs.code.Nodes.{firstCall, oeOp, aoOp, firstPair, memberOp, firstEmpty, firstCounted, operationOf, leftOf, rightOf, nodeOf, opAt, opRoom, indexRoom}
+
+-- Which operations have two nodes below.
+
+pub two-less : (o : ℕ) → o < firstPair → hasTwo o ≡ false
+unfolding hasTwo
+two-less o h = let l : o < firstCounted = omega arith in rw (lt-leb firstPair o h, lt-leb firstCounted o l)
+
+pub two-none : (o : ℕ) → firstEmpty ≤ o → o < firstCounted → hasTwo o ≡ false
+unfolding hasTwo
+two-none o lo hi = let l : firstPair ≤ o = omega arith in rw (le-leb firstPair o l, le-ltb o firstEmpty lo, lt-leb firstCounted o hi)
+
+pub two-low : (o : ℕ) → firstPair ≤ o → o < firstEmpty → hasTwo o ≡ true
+unfolding hasTwo
+two-low o lo hi = rw (le-leb firstPair o lo, lt-ltb o firstEmpty hi)
+
+pub two-high : (o : ℕ) → firstCounted ≤ o → hasTwo o ≡ true
+unfolding hasTwo
+two-high o h =
+    let l : firstPair ≤ o = omega arith in
+    let m : firstEmpty ≤ o = omega arith in
+    rw (le-leb firstPair o l, le-ltb o firstEmpty m, le-leb firstCounted o h)
 
 -- The numbers of operations.
 
@@ -305,3 +328,24 @@ tidy-more ns n v h d low new =
 pub tidy-none : (ns : List ℕ) → length ns ≤ 4096 → Tidy ns 0
 unfolding Apart Down
 tidy-none ns l = record { size = l; fits = omega arith; apart = λ i j h. absurd (omega arith); down = λ k h. absurd (omega arith) }
+
+-- What is sought among the nodes from a place on.
+
+module _ (ns : List ℕ) (from m n : ℕ) {v r : ℕ} (h : n ≤ from + m) (s : Sought (take m (drop from ns)) (n - from) v r) where
+  behind : (k : ℕ) → from ≤ k → k < n → getD (take m (drop from ns)) (k - from) 0 ≡ getD ns k 0
+  behind k l g =
+      let e : from + (k - from) ≡ k = omega arith in
+      let i : k - from < m = omega arith in
+      getD-take m (drop from ns) (k - from) 0 i ∙ getD-drop from ns (k - from) 0 ∙ ap (λ (x : ℕ). getD ns x 0) e
+
+  pub sought-found : from + r < n → getD ns (from + r) 0 ≡ v
+  sought-found g =
+      let e : from + r - from ≡ r = omega arith in
+      sym (behind (from + r) (omega arith) g) ∙ rw e (s .found (omega arith))
+
+  -- A node that stands nowhere from there on, and would stand nowhere below, is none of the nodes.
+  pub sought-none : Down ns n → ((k : ℕ) → Low v k → from ≤ k) → n ≤ from + r → (k : ℕ) → k < n → getD ns k 0 ≡ v → ⊥
+  unfolding Down
+  sought-none d low g k l e =
+      let b : from ≤ k = low k (rw e at (d k l)) in
+      s .before (k - from) (omega arith) (behind k b l ∙ e)

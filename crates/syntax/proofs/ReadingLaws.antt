@@ -5,7 +5,7 @@ use mathlib.Core.Bool.{Bool, true, false}
 use mathlib.Core.List.{List, [], _∷_}
 use Prim.Native.Nat.{ℕ, _+_, _<_, _≤_}
 use native.Mathlib.Omega.{arith}
-use borrow.Author.Tests.{lt-leb, lt-ltb, le-ltb}
+use borrow.Author.Tests.{lt-ltb, le-ltb}
 use lib.ListN.{length, getD, drop}
 use Rattle.syntax.specs.Bytes.{Bytes, ascii, Read, fail, got, Reader, next, skip, either, scan}
 use Rattle.syntax.specs.Term.{Base, operations, meet, join, Term, base, call, oe, ao, two, Choices, Head, isBase, isCall, isOE}
@@ -16,9 +16,9 @@ use Rattle.syntax.specs.code.Reading.{Signed, headOp, Choice, Arena, mk,
 use Rattle.syntax.specs.code.Reading.{someThing, Makes, Joint, pair, away, jointOp, spellJoint, fn2At, joints, choice, less, ending, paired}
 use Rattle.syntax.specs.declared.arena.Place.{Place}
 use Rattle.syntax.specs.declared.arena.Place.the-variants.{Nothing, Got}
-use Rattle.syntax.specs.code.Nodes.{firstCall, oeOp, aoOp, firstPair, firstJoin, firstCounted, opsEnd, bracketHead, choiceHead, operationOf, nodeOf, opAt, indexRoom}
+use Rattle.syntax.specs.code.Nodes.{firstCall, oeOp, aoOp, firstPair, firstJoin, opsEnd, bracketHead, choiceHead, operationOf, nodeOf, opAt, indexRoom}
 use Rattle.syntax.proofs.BytesLaws.{next-agree}
-use Rattle.syntax.proofs.ArenaLaws.{base-small, fn-range, two-range, stays-refl, stays-trans, holds-later, knows-later, parts}
+use Rattle.syntax.proofs.ArenaLaws.{base-small, fn-range, two-range, two-less, stays-refl, stays-trans, holds-later, knows-later, parts}
 use Rattle.syntax.proofs.NameLaws.{Hit, meant}
 use Rattle.syntax.proofs.Fuel.{term-step}
 
@@ -65,19 +65,13 @@ ready-on g f l h =
 
 -- A node may be put behind the others.
 
-has-few : (o : ℕ) → o < firstPair → hasTwo o ≡ false
-unfolding hasTwo
-has-few o h =
-    let l : o < firstCounted = omega arith in
-    rw (lt-leb firstPair o h, lt-leb firstCounted o l)
-
 not-both : {b : Bool} → b ≡ false → b ≡ true → ⊥
 not-both e q = let z : _≡_ {A = ℕ} 0 1 = cc in omega arith
 
 pub fresh-leaf : {a : Arena} {o : ℕ} → a .n < length (a .nodes) → Tidy (a .nodes) (a .n) → o < firstCall → Fresh a o 0 0
 fresh-leaf {a} {o} l d h =
     let v : operationOf (nodeOf o 0 0) ≡ o = omega arith in
-    let few : hasTwo o ≡ false = has-few o (omega arith) in
+    let few : hasTwo o ≡ false = two-less o (omega arith) in
     record {
       room = l;
       tidy = d;

@@ -2,6 +2,7 @@
 // A node is its operation and, in units above it, its left and its right index.
 ghost use mathlib.Core.Path.{_≡_};
 ghost use Prim.Native.Nat.{_<_};
+ghost use Rattle.syntax.specs.code.Arena.{hasTwo};
 ghost use Rattle.syntax.specs.code.Nodes.{opsEnd, indexRoom, nodeOf, operationOf, leftOf, rightOf};
 
 // The operations in groups. Each number is one more than the one before it, so that a row more moves those behind it.
@@ -134,4 +135,17 @@ pub fn right(node: u32) -> u32
     ensures { λ r. ⌜ r ≡ rightOf node ⌝ }
 {
     node / RIGHT_UNIT
+}
+
+// Whether a node of the operation has two nodes below it.
+pub fn has_two(op: u32) -> bool
+    ensures { λ r. ⌜ r ≡ hasTwo op ⌝ }
+{
+    if op < FIRST_PAIR {
+        return false;
+    }
+    if op < IS_EMPTY {
+        return true;
+    }
+    op >= FIRST_COUNTED
 }

@@ -2,7 +2,8 @@
 -- Assumes nothing.
 use native.Mathlib.Omega.{arith}
 use borrow.Author.Needs.{needs}
-use Rattle.printer.proofs.PrintsLaws.{appends-then, appends-add, ready-size, ready-left, ready-right, has-two-last}
+use Rattle.syntax.proofs.ArenaLaws.{two-high}
+use Rattle.printer.proofs.PrintsLaws.{appends-then, appends-add, ready-size, ready-left, ready-right}
 use Rattle.printer.proofs.RulePrintsLaws.{appends-last, appends-also}
 use Prim.Native.Nat.{ℕ, _<_}
 use borrow.Fn.Kinds.{In}
@@ -70,7 +71,7 @@ write-clauses-write-clauses-requires t c κs =
     let at-if1 = c .before .before .before .before .before .before .before .before .before .before .before .before in
     let at-op-at = at-if1 .before in
     let at-start = at-op-at .before .before .before .before in
-    let z = ready-right (at-start .pre .1 .0) (c .before .right-at .ensures) (has-two-last _ (omega (arith, at-op-at .op-at .ensures, at-if1 .if1 .left))) in
+    let z = ready-right (at-start .pre .1 .0) (c .before .right-at .ensures) (two-high _ (omega (arith, at-op-at .op-at .ensures, at-if1 .if1 .left))) in
     (omega (arith, at-start .pre, z .1), (z .0, omega (arith, c .before .before .before .before .put .ensures .room)))
 
 write-clauses-returns-2 : (t : ℕ) → write-clauses-lts.Need-returns-2 (write-clauses-called t) (write-clauses-at t) write-clauses.Post

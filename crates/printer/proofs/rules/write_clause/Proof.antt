@@ -1,7 +1,8 @@
 -- `write_clause`: a test, or two with the arrow between them.
 -- Assumes nothing.
 use native.Mathlib.Omega.{arith}
-use Rattle.printer.proofs.PrintsLaws.{appends-then, appends-add, ready-left, ready-right, has-two-last}
+use Rattle.syntax.proofs.ArenaLaws.{two-high}
+use Rattle.printer.proofs.PrintsLaws.{appends-then, appends-add, ready-left, ready-right}
 use Rattle.printer.proofs.RulePrintsLaws.{appends-plain, appends-when}
 use borrow.Author.Needs.{needs}
 use Rattle.printer.proofs.rules.write_clause.Statement.{statement}
@@ -22,7 +23,7 @@ write-test-requires-3 c κs =
     let at-if1 = c .before .before .before .before .before .before .before .before .before .before .before .before in
     let at-op-at = at-if1 .before in
     let at-start = at-op-at .before .before .before .before in
-    (ready-right (at-start .pre .0) (c .before .right-at .ensures) (has-two-last _ (omega (arith, at-op-at .op-at .ensures, at-if1 .if1 .left))) .0, omega (arith, c .before .before .before .before .put .ensures .room))
+    (ready-right (at-start .pre .0) (c .before .right-at .ensures) (two-high _ (omega (arith, at-op-at .op-at .ensures, at-if1 .if1 .left))) .0, omega (arith, c .before .before .before .before .put .ensures .room))
 
 returns-2 : tie.Need-returns-2
 returns-2 c =

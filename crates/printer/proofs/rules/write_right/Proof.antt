@@ -1,7 +1,8 @@
 -- `write_right`: by the operation of its node.
 -- Assumes nothing.
 use native.Mathlib.Omega.{arith}
-use Rattle.printer.proofs.PrintsLaws.{ready-right, has-two, has-two-last}
+use Rattle.syntax.proofs.ArenaLaws.{two-low, two-high}
+use Rattle.printer.proofs.PrintsLaws.{ready-right}
 use Rattle.printer.proofs.RulePrintsLaws.{appends-right, appends-right-empty, appends-right-number, appends-right-count}
 use borrow.Author.Needs.{needs}
 use Rattle.printer.proofs.rules.write_right.Statement.{statement}
@@ -10,7 +11,7 @@ use Rattle.printer.proofs.rules.write_right.Tie as tie
 write-term-requires : tie.Need-write-term-requires
 write-term-requires c κs =
     let at-start = c .before .before .before .before .before .before .before in
-    (ready-right (at-start .pre .0) (c .before .before .right-at .ensures) (has-two _ (omega (arith, at-start .pre)) (omega (arith, c .before .before .before .op-at .ensures, c .before .if1 .taken))) .0, at-start .pre .1 .1)
+    (ready-right (at-start .pre .0) (c .before .before .right-at .ensures) (two-low _ (omega (arith, at-start .pre)) (omega (arith, c .before .before .before .op-at .ensures, c .before .if1 .taken))) .0, at-start .pre .1 .1)
 
 returns : tie.Need-returns
 returns c =
@@ -35,7 +36,7 @@ returns-3 c =
 write-count-requires : tie.Need-write-count-requires
 write-count-requires c κs =
     let at-start = c .before .before .before .before .before .before .before .before .before in
-    (ready-right (at-start .pre .0) (c .before .before .before .before .right-at .ensures) (has-two-last _ (omega (arith, c .before .before .before .before .before .op-at .ensures, c .before .if3 .left))) .0, at-start .pre .1 .1)
+    (ready-right (at-start .pre .0) (c .before .before .before .before .right-at .ensures) (two-high _ (omega (arith, c .before .before .before .before .before .op-at .ensures, c .before .if3 .left))) .0, at-start .pre .1 .1)
 
 returns-4 : tie.Need-returns-4
 returns-4 c =

@@ -4,7 +4,8 @@ use mathlib.Core.List.{append-assoc}
 use native.Mathlib.Omega.{arith}
 use borrow.Author.Needs.{needs}
 use Rattle.printer.proofs.PrintsLaws.{appends-as, appends-then, add-appends, appends-add, appends-full, appends-never, ready-size, ready-left, ready-right}
-use Rattle.printer.proofs.PrintsLaws.{term-leaf, term-call, term-new, term-choice, term-others, term-two, has-two, no-term, others-text}
+use Rattle.syntax.proofs.ArenaLaws.{two-low}
+use Rattle.printer.proofs.PrintsLaws.{term-leaf, term-call, term-new, term-choice, term-others, term-two, no-term, others-text}
 use Prim.Native.Nat.{ℕ, _<_, _+_, _*_}
 use borrow.Fn.Kinds.{In}
 use borrow.Fn.PlainCycle.{Measures, is, falls, and}
@@ -282,7 +283,7 @@ write-two-write-closed-requires : (t : ℕ) → write-two-lts.Need-write-closed-
 write-two-write-closed-requires t c κs =
     let at-op-at = c .before .before .before .before .before .before .before .before .before .before .before in
     let at-start = at-op-at .before .before .before .before in
-    let z = ready-right (at-start .pre .1 .0) (c .before .right-at .ensures) (has-two _ (at-start .pre .1 .1 .0 .0) (omega (arith, at-start .pre))) in
+    let z = ready-right (at-start .pre .1 .0) (c .before .right-at .ensures) (two-low _ (at-start .pre .1 .1 .0 .0) (omega (arith, at-start .pre))) in
     (omega (arith, at-start .pre, z .1), (z .0, (omega (arith, at-start .pre, at-op-at .op-at .ensures), omega (arith, c .before .before .before .before .write-term .ensures .room))))
 
 write-two-returns : (t : ℕ) → write-two-lts.Need-returns (write-two-called t) (write-two-at t) write-two.Post

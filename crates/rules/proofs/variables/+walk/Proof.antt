@@ -4,7 +4,7 @@ use mathlib.Core.Path.{sym, _∙_}
 use native.Mathlib.Omega.{arith}
 use borrow.Author.Needs.{needs}
 use Rattle.rules.proofs.NodeLaws.{left-below, right-below}
-use Rattle.rules.proofs.ShapeLaws.{two-less}
+use Rattle.syntax.proofs.ArenaLaws.{two-less}
 use Rattle.rules.proofs.WalkLaws.{walked-bare, walked-single, walked-choosing, walked-double}
 use Prim.Native.Nat.{ℕ, _<_}
 use borrow.Fn.Kinds.{In}
@@ -13,7 +13,7 @@ use Rattle.rules.proofs.variables.walk.Reads as walk
 use Rattle.rules.proofs.variables.walk.Kinds as walk-kinds
 use Rattle.rules.proofs.variables.+walk.Lts-walk as walk-lts
 use Rattle.rules.proofs.variables.add.Reads as add-reads
-use Rattle.rules.proofs.variables.has_two.Reads as has-two-reads
+use Rattle.syntax.proofs.nodes.has_two.Reads as has-two-reads
 use Rattle.syntax.proofs.nodes.left.Reads as left-reads
 use Rattle.syntax.proofs.nodes.operation.Reads as operation-reads
 use Rattle.syntax.proofs.nodes.right.Reads as right-reads
