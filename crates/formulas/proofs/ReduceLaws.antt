@@ -18,15 +18,14 @@ use Rattle.syntax.specs.code.Printing.{printed}
 use Rattle.syntax.proofs.Closed.{formula-in}
 use Rattle.syntax.specs.code.Reading.{clauseRoom, Rooted}
 use Rattle.syntax.proofs.BytesLaws.{same-own, same-gives}
-use Rattle.rules.specs.declared.Checked.{Checked}
-use Rattle.rules.specs.declared.Checked.the-variants.{Refused as RuleRefused, Accepted as Taken}
+use Rattle.rules.specs.declared.Found.{Found}
+use Rattle.rules.specs.declared.Found.the-variants.{Rejected, Rule as Tree}
 use Rattle.rules.specs.Accept.{deep, refusal}
-use Rattle.rules.specs.code.Parsed.{checkedOf}
-use Rattle.rules.specs.code.Parsed.{Parses}
+use Rattle.rules.specs.code.Parsed.{RuleAt, Finds}
 use Rattle.rules.specs.code.Lengths.{capped, LengthsOf, FormulaLength}
 use Rattle.rules.specs.code.Thing.{rule}
 use Rattle.syntax.proofs.FormulaLaws.{knows-none}
-use Rattle.rules.proofs.ParseLaws.{formula-exact}
+use Rattle.rules.proofs.ParseLaws.{as-rejected, as-found, formula-exact}
 use Rattle.printer.specs.code.Printed.{Puts, Prints, Printable, formulaIn}
 use Rattle.printer.proofs.PrintedLaws.{puts-as, puts-front}
 use Rattle.answers.specs.declared.Written.{Written}
@@ -43,67 +42,50 @@ use Rattle.syntax.proofs.NameLaws.{all-length}
 
 -- Rule to formula.
 
-module _ {s ns ks vs : List ℕ} {o : Checked} {n root count : ℕ} (p : Parses s ns ks vs o n root count) where
-  refused-of : {r : Refusal} → o ≡ RuleRefused r → refusal s ≡ some r
-  refused-of {r} e = go (refusal s) refl
-    where
-      go : (q : Option Refusal) → refusal s ≡ q → refusal s ≡ some r
-      go none h = let z : _≡_ {A = ℕ} 0 1 = cc (p .outcome, ap checkedOf h) in absurd (omega arith)
-      go (some x) h = let z : x ≡ r = cc (p .outcome, ap checkedOf h) in h ∙ ap some z
+-- 11 to 15.
+pub reduce-rejected : {s ns ks vs : List ℕ} {f : Found} {r : Refusal} (m : ℕ) (old : Bytes) → Finds s ns ks vs f → f ≡ Rejected r → Answers (lent m (reduced s)) old old (Refused r)
+unfolding reduced
+reduce-rejected {s} m old p e = answers-refusal (reduced s) m old (rw (as-rejected p e, reduced))
 
-  accepted-of : o ≡ Taken → refusal s ≡ none
-  accepted-of e = go (refusal s) refl
-    where
-      go : (q : Option Refusal) → refusal s ≡ q → refusal s ≡ none
-      go none h = h
-      go (some x) h = let z : _≡_ {A = ℕ} 0 1 = cc (p .outcome, ap checkedOf h) in absurd (omega arith)
+module _ {s ns ks vs : List ℕ} {f : Found} {n root count : ℕ} (p : Finds s ns ks vs f) (e : f ≡ Tree n root count) where
+  accepted : refusal s ≡ none
+  accepted = as-found p e .0
 
-  -- 11 to 15.
-  pub reduce-rejected : {r : Refusal} (m : ℕ) (old : Bytes) → o ≡ RuleRefused r → Answers (lent m (reduced s)) old old (Refused r)
-  unfolding reduced
-  reduce-rejected m old e = answers-refusal (reduced s) m old (rw (refused-of e, reduced))
+  abbrev at : RuleAt s ns n root ks vs count
+  at = as-found p e .1
 
   -- Where it is accepted its tree may be written.
-  pub reduce-few : o ≡ Taken → count ≤ length vs
-  reduce-few e =
-      let t = p .accepted (accepted-of e) in
-      omega (arith, t .counted, all-length ns (take count vs) (ruleVars [] (t .tree)) (t .knows .holds), length-take count vs)
+  pub reduce-few : count ≤ length vs
+  reduce-few = omega (arith, at .counted, all-length ns (take count vs) (ruleVars [] (at .tree)) (at .knows .holds), length-take count vs)
 
-  pub reduce-ready : o ≡ Taken → Printable ns root (take count vs)
-  reduce-ready e =
-      let t = p .accepted (accepted-of e) in
-      record { n = n; tidy = t .tidy; node = t .within; below = t .knows .below; few = simp length-take (omega (arith, t .few)) }
+  pub reduce-ready : Printable ns root (take count vs)
+  reduce-ready = record { n = n; tidy = at .tidy; node = at .within; below = at .knows .below; few = simp length-take (omega (arith, at .few)) }
 
-  module _ (e : o ≡ Taken) where
-    abbrev tree : Rule
-    tree = p .accepted (accepted-of e) .tree
+  -- Its length is known before it is written.
+  pub reduce-measured : Tidy ns n
+  reduce-measured = at .tidy
 
-    formula-is : reduced s ≡ wrote (formula tree)
-    formula-is =
-        let a = accepted-gives s (accepted-of e) in
-        let i : a .rule ≡ tree = cc (a .reads, p .accepted (accepted-of e) .reads) in
-        wrote-reduced s (formula tree) (accepted-of e) (accepted-formula a ∙ ap (λ (ρ : Rule). some (formula ρ)) i)
+  formula-is : reduced s ≡ wrote (formula (at .tree))
+  formula-is =
+      let a = accepted-gives s accepted in
+      let i : a .rule ≡ at .tree = cc (a .reads, at .reads) in
+      wrote-reduced s (formula (at .tree)) accepted (accepted-formula a ∙ ap (λ (ρ : Rule). some (formula ρ)) i)
 
-    -- Its length is known before it is written.
-    pub reduce-measured : Tidy ns n
-    reduce-measured = p .accepted (accepted-of e) .tidy
+  module _ {ls : List ℕ} {l : ℕ} (x : LengthsOf ns n (take count vs) ls) (y : FormulaLength ls (take count vs) root l) where
+    long : l ≡ length (formula (at .tree))
+    long = formula-exact accepted at x y
 
-    module _ {ls : List ℕ} {l : ℕ} (x : LengthsOf ns n (take count vs) ls) (y : FormulaLength ls (take count vs) root l) where
-      long : l ≡ length (formula tree)
-      long = formula-exact (accepted-of e) (p .accepted (accepted-of e)) x y
+    pub reduce-short : {old : Bytes} → length old < l → Answers (lent (length old) (reduced s)) old old (Refused ShortSheet)
+    reduce-short {old} h = rw formula-is (kept-short (formula (at .tree)) old (omega (arith, long)))
 
-      pub reduce-short : {old : Bytes} → length old < l → Answers (lent (length old) (reduced s)) old old (Refused ShortSheet)
-      reduce-short {old} h = rw formula-is (kept-short (formula tree) old (omega (arith, long)))
-
-      pub reduce-made : {old new : Bytes} {m : ℕ} → l ≤ length old → Prints ns (take count vs) (HoldsRule ns root) formulaIn old new m → Answers (lent (length old) (reduced s)) old new (Wrote m)
-      unfolding printed
-      reduce-made {old} {new} {m} h q =
-          let t = p .accepted (accepted-of e) in
-          let w : Bytes = formula tree in
-          let g : length w ≤ length old = omega (arith, long) in
-          let z : Puts w old new m = puts-as (sym (formula-in tree)) (q .shows (ruleVars [] tree) tree (t .knows .holds) (t .holds)) in
-          let c : m ≡ length w = omega (arith, z .count) in
-          rw (formula-is, c) (lent-written w old g (z .bytes ∙ ap (λ (v : Bytes). v ++ drop (length w) old) (take-all (length old) w g)))
+    pub reduce-made : {old new : Bytes} {m : ℕ} → l ≤ length old → Prints ns (take count vs) (HoldsRule ns root) formulaIn old new m → Answers (lent (length old) (reduced s)) old new (Wrote m)
+    unfolding printed
+    reduce-made {old} {new} {m} h q =
+        let w : Bytes = formula (at .tree) in
+        let g : length w ≤ length old = omega (arith, long) in
+        let z : Puts w old new m = puts-as (sym (formula-in (at .tree))) (q .shows (ruleVars [] (at .tree)) (at .tree) (at .knows .holds) (at .holds)) in
+        let c : m ≡ length w = omega (arith, z .count) in
+        rw (formula-is, c) (lent-written w old g (z .bytes ∙ ap (λ (v : Bytes). v ++ drop (length w) old) (take-all (length old) w g)))
 
 -- Formula to rule.
 

@@ -15,8 +15,10 @@ use answers::Refusal;
 use answers::Written;
 use printer::rules::write_formula;
 use printer::rules::write_rule;
-use rules::Checked;
+use rules::CHOICES_LIMIT;
+use rules::Found;
 use rules::RULE_LIMIT;
+use rules::kinds::NO_KIND;
 use rules::lengths::formula_length;
 use rules::lengths::lengths;
 use syntax::Whole;
@@ -48,21 +50,22 @@ fn alike(a: &[u8], b: &[u8]) -> bool
 pub fn reduce(rule: &[u8], out: &mut [u8]) -> Written
     ensures { λ r. ⌜ Answers (lent (length (now (out .entry))) (reduced (now (rule .entry)))) (now (out .entry)) (now (out .exit)) r ⌝ }
 {
-    let parsed = rules::parse(rule);
-    let outcome = parsed.outcome;
-    if let Checked::Refused(r) = outcome {
-        return Written::Refused(r);
+    let mut nodes = [0u32; RULE_LIMIT];
+    let mut kinds = [NO_KIND; RULE_LIMIT];
+    let mut vars = [0u32; CHOICES_LIMIT];
+    match rules::find(rule, &mut nodes, &mut kinds, &mut vars) {
+        Found::Rejected(r) => Written::Refused(r),
+        Found::Rule { n, root, count } => {
+            let known = &vars[..count];
+            let mut lens = [0u32; RULE_LIMIT];
+            lengths(&nodes, n, known, &mut lens);
+            let l = formula_length(&lens, known, root) as usize;
+            if out.len() < l {
+                return Written::Refused(Refusal::ShortSheet);
+            }
+            Written::Wrote(write_formula(&nodes, root, known, out))
+        }
     }
-    let nodes = parsed.nodes;
-    let vars = parsed.vars;
-    let count = parsed.count;
-    let mut lens = [0u32; RULE_LIMIT];
-    lengths(&nodes, parsed.n, &vars[..count], &mut lens);
-    let l = formula_length(&lens, &vars[..count], parsed.root) as usize;
-    if out.len() < l {
-        return Written::Refused(Refusal::ShortSheet);
-    }
-    Written::Wrote(write_formula(&nodes, parsed.root, &vars[..count], out))
 }
 
 // How long the rule at a node is where it is written. It is measured and not written, however deep the tree is.

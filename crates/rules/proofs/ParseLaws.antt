@@ -83,22 +83,33 @@ find-tree {s} fits t (fit f) =
       few = g .few;
     })
 
+-- What was found of a text.
+
+pub as-rejected : {s ns ks vs : List ℕ} {f : Found} {r : Refusal} → Finds s ns ks vs f → f ≡ Rejected r → refusal s ≡ some r
+as-rejected {r = r} (rejected {r = r′} e) q = let g : r′ ≡ r = cc in e ∙ ap some g
+as-rejected (found e a) q = let z : _≡_ {A = ℕ} 0 1 = cc in absurd (omega arith)
+
+pub as-found : {s ns ks vs : List ℕ} {f : Found} {n root count : ℕ} → Finds s ns ks vs f → f ≡ Tree n root count → (refusal s ≡ none) × RuleAt s ns n root ks vs count
+as-found (rejected e) q = let z : _≡_ {A = ℕ} 0 1 = cc in absurd (omega arith)
+as-found {n = n} {root = root} {count = count} (found {n = n′} {root = root′} {count = count′} e a) q =
+    let g : n′ ≡ n = cc in
+    let h : root′ ≡ root = cc in
+    let i : count′ ≡ count = cc in
+    (e, rw g at (rw h at (rw i at a)))
+
 -- A parsed text.
 
 pub parse-rejected : {s ns ks vs ns₀ ks₀ vs₀ : List ℕ} {f : Found} {r : Refusal} {o : Checked} {n root count : ℕ} → Finds s ns₀ ks₀ vs₀ f → f ≡ Rejected r → o ≡ Refused r
     → Blank ns n root ks vs count → Parses s ns ks vs o n root count
-parse-rejected {r = r} (rejected {r = r′} e) q h b =
-    let g : r′ ≡ r = cc in
-    record { outcome = h ∙ rw (e, g); accepted = λ z. let y : _≡_ {A = ℕ} 0 1 = cc in absurd (omega arith); refused = λ _ _. b }
-parse-rejected (found e a) q h b = let z : _≡_ {A = ℕ} 0 1 = cc in absurd (omega arith)
+parse-rejected f q h b =
+    let e = as-rejected f q in
+    record { outcome = h ∙ rw e; accepted = λ z. let y : _≡_ {A = ℕ} 0 1 = cc in absurd (omega arith); refused = λ _ _. b }
 
 pub parse-found : {s ns ks vs : List ℕ} {f : Found} {n root count : ℕ} → Finds s ns ks vs f → f ≡ Tree n root count → Parses s ns ks vs Accepted n root count
-parse-found (rejected e) q = let z : _≡_ {A = ℕ} 0 1 = cc in absurd (omega arith)
-parse-found {n = n} {root = root} {count = count} (found {n = n′} {root = root′} {count = count′} e a) q =
-    let g : n′ ≡ n = cc in
-    let h : root′ ≡ root = cc in
-    let i : count′ ≡ count = cc in
-    record { outcome = rw e; accepted = λ _. rw g at (rw h at (rw i at a)); refused = λ r y. let z : _≡_ {A = ℕ} 0 1 = cc in absurd (omega arith) }
+parse-found f q =
+    let t = as-found f q in
+    let e = t .0 in
+    record { outcome = rw e; accepted = λ _. t .1; refused = λ r y. let z : _≡_ {A = ℕ} 0 1 = cc in absurd (omega arith) }
 
 -- The formula of an accepted text is so short that its length is told exactly.
 pub formula-exact : {s ns : List ℕ} {n root : ℕ} {ks vs ls : List ℕ} {c r : ℕ} → refusal s ≡ none → (a : RuleAt s ns n root ks vs c) → LengthsOf ns n (take c vs) ls → FormulaLength ls (take c vs) root r → r ≡ length (formula (a .tree))

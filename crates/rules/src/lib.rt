@@ -81,8 +81,8 @@ fn check_tree(nodes: &[u32], n: usize, root: usize, kinds: &mut [u8], vars: &mut
     Found::Rule { n, root, count }
 }
 
-// The checks 11 to 15 in order.
-fn find(s: &[u8], nodes: &mut [u32], kinds: &mut [u8], vars: &mut [u32]) -> Found
+// The checks 11 to 15 in order: where they accept, the tree is in the lent nodes, with the kinds and the nodes of the variables.
+pub fn find(s: &[u8], nodes: &mut [u32], kinds: &mut [u8], vars: &mut [u32]) -> Found
     requires { ⌜ length (now nodes) ≡ ruleLimit ⌝ }
     requires { ⌜ length (now kinds) ≡ ruleLimit ⌝ }
     requires { ⌜ length (now vars) ≡ choicesLimit ⌝ }
