@@ -31,8 +31,8 @@ copied-next {p} {old} {new} {i} c h =
       size = length-set new i (getD p i 0) ∙ c .size;
     }
 
-pub copied-all : {p old new : Bytes} {i n : ℕ} → n ≡ min (length p) (length old) → Copied p old new i → n ≤ i → Puts p old new n
-copied-all {p} {old} {new} {i} {n} e c h = record { bytes = c .bytes ∙ go (decLt (length old) (length p)); count = e }
+pub copied-all : {p old new : Bytes} {i : ℕ} → Copied p old new i → min (length p) (length old) ≤ i → Puts p old new i
+copied-all {p} {old} {new} {i} c h = record { bytes = c .bytes ∙ go (decLt (length old) (length p)); count = omega (arith, c .within) }
   where
     go : Dec (length old < length p) → take i p ++ drop i old ≡ take (length old) p ++ drop (length p) old
     go (yes q) =
@@ -88,17 +88,24 @@ puts-as e p = rw e at p
 unfoldable pub row : ℕ → Bytes → Bytes
 row width w = w ++ replicate (width - length w) 32
 
-pub row-room : (width : ℕ) (ws : List Bytes) (k : ℕ) → getD (map length ws) k 0 ≤ length (getD (map (row width) ws) k [])
+row-room : (width : ℕ) (ws : List Bytes) (k : ℕ) → getD (map length ws) k 0 ≤ length (getD (map (row width) ws) k [])
 unfolding row
 row-room width [] k = omega arith
 row-room width (w ∷ ws) zero = rw length-append (omega arith)
 row-room width (w ∷ ws) (suc k) = row-room width ws k
 
-pub row-text : (width : ℕ) (ws : List Bytes) (k : ℕ) → take (getD (map length ws) k 0) (getD (map (row width) ws) k []) ≡ getD ws k []
+row-text : (width : ℕ) (ws : List Bytes) (k : ℕ) → take (getD (map length ws) k 0) (getD (map (row width) ws) k []) ≡ getD ws k []
 unfolding row
 row-text width [] k = refl
 row-text width (w ∷ ws) zero = take-append-seam w _
 row-text width (w ∷ ws) (suc k) = row-text width ws k
+
+module _ (width : ℕ) (ws : List Bytes) (k : ℕ) {n : ℕ} (e : n ≡ getD (map length ws) k 0) where
+  pub cut-room : n ≤ length (getD (map (row width) ws) k [])
+  cut-room = rw e (row-room width ws k)
+
+  pub cut-text : take n (getD (map (row width) ws) k []) ≡ getD ws k []
+  cut-text = rw e (row-text width ws k)
 
 -- The texts from one on, so many of them.
 pub part-text : (ws : List Bytes) (a m k : ℕ) → a ≤ k → k < a + m → getD (take m (drop a ws)) (k - a) [] ≡ getD ws k []

@@ -1,5 +1,6 @@
 // The names and signs of the language, as fixed byte strings put into a sheet.
 // Each stands in its operation's row of one of four tables.
+ghost use mathlib.Core.Path.{_≡_};
 ghost use Prim.Native.Nat.{_+_, _%_, _<_, _≤_};
 ghost use lib.ListN.{length};
 ghost use Rattle.syntax.specs.Rule.{digits};
@@ -24,7 +25,7 @@ const BASES: [[u8; 3]; 9] = [
     *b"CU ",
 ];
 
-const BASE_LENGTHS: [usize; 9] = [1, 1, 2, 3, 1, 1, 2, 2, 2];
+const BASE_LENGTHS: [u8; 9] = [1, 1, 2, 3, 1, 1, 2, 2, 2];
 
 const CALLS: [[u8; 13]; 9] = [
     *b"user(        ",
@@ -38,7 +39,7 @@ const CALLS: [[u8; 13]; 9] = [
     *b"AO(          ",
 ];
 
-const CALL_LENGTHS: [usize; 9] = [5, 6, 7, 9, 12, 13, 7, 3, 3];
+const CALL_LENGTHS: [u8; 9] = [5, 6, 7, 9, 12, 13, 7, 3, 3];
 
 const SIGNS: [[u8; 2]; 20] = [
     *b", ",
@@ -63,11 +64,18 @@ const SIGNS: [[u8; 2]; 20] = [
     *b"!=",
 ];
 
-const SIGN_LENGTHS: [usize; 20] = [1, 1, 1, 1, 1, 2, 1, 2, 1, 2, 1, 2, 1, 2, 1, 2, 1, 2, 1, 2];
+const SIGN_LENGTHS: [u8; 20] = [1, 1, 1, 1, 1, 2, 1, 2, 1, 2, 1, 2, 1, 2, 1, 2, 1, 2, 1, 2];
 
 const OPENINGS: [[u8; 11]; 3] = [*b"operations(", *b"(          ", *b"(          "];
 
-const OPENING_LENGTHS: [usize; 3] = [11, 1, 1];
+const OPENING_LENGTHS: [u8; 3] = [11, 1, 1];
+
+// A length, which takes one byte of its table.
+fn wide(n: u8) -> usize
+    ensures { λ r. ⌜ r ≡ n ⌝ }
+{
+    n as usize
+}
 
 fn put_base(out: &mut [u8], at: usize, op: u32) -> usize
     requires { ⌜ op < firstCall ⌝ }
@@ -76,7 +84,7 @@ fn put_base(out: &mut [u8], at: usize, op: u32) -> usize
 {
     let k = op as usize;
     let row = BASES[k];
-    let n = BASE_LENGTHS[k];
+    let n = wide(BASE_LENGTHS[k]);
     put(out, at, &row[..n])
 }
 
@@ -87,7 +95,7 @@ fn put_call(out: &mut [u8], at: usize, op: u32) -> usize
 {
     let k = (op - FIRST_CALL) as usize;
     let row = CALLS[k];
-    let n = CALL_LENGTHS[k];
+    let n = wide(CALL_LENGTHS[k]);
     put(out, at, &row[..n])
 }
 
@@ -98,7 +106,7 @@ fn put_between(out: &mut [u8], at: usize, op: u32) -> usize
 {
     let k = (op - FIRST_PAIR) as usize;
     let row = SIGNS[k];
-    let n = SIGN_LENGTHS[k];
+    let n = wide(SIGN_LENGTHS[k]);
     put(out, at, &row[..n])
 }
 
@@ -139,7 +147,7 @@ pub fn put_open(out: &mut [u8], at: usize, op: u32) -> usize
 {
     let k = (op - FIRST_PAIR) as usize;
     let row = OPENINGS[k];
-    let n = OPENING_LENGTHS[k];
+    let n = wide(OPENING_LENGTHS[k]);
     put(out, at, &row[..n])
 }
 

@@ -9,24 +9,25 @@ use Rattle.syntax.specs.Term.{spell, opening, parting, spellMiddle}
 use Rattle.syntax.specs.Rule.{spellBetween, spellCmp}
 use Rattle.syntax.specs.code.Nodes.{firstCall}
 use Rattle.printer.specs.code.Signs.{signs, cmpSigns, openings}
-use Rattle.printer.proofs.PrintedLaws.{row, row-room, row-text, part-text, adds-as}
+use Rattle.printer.proofs.PrintedLaws.{row, cut-room, cut-text, part-text, adds-as}
 use borrow.Author.Needs.{needs}
 use Rattle.printer.proofs.names.put_call.Statement.{statement}
 use Rattle.printer.proofs.names.put_call.Tie as tie
 
 array-share-prefix-row : tie.Need-array-share-prefix-row
 unfolding row signs cmpSigns openings opening spell parting spellMiddle spellBetween spellCmp
-array-share-prefix-row c = row-room 13 (take 9 (drop firstCall signs)) (c .before .before .before .args .op - firstCall)
+array-share-prefix-row c = cut-room 13 (take 9 (drop firstCall signs)) (c .before .before .before .before .args .op - firstCall) (c .before .wide .ensures)
 
 slice-aggregate-put : tie.Need-slice-aggregate-put
 unfolding row signs cmpSigns openings opening spell parting spellMiddle spellBetween spellCmp
-slice-aggregate-put c = sym (length-take-le _ _ (row-room 13 (take 9 (drop firstCall signs)) (c .before .before .before .before .args .op - firstCall)))
+slice-aggregate-put c = sym (length-take-le _ _ (cut-room 13 (take 9 (drop firstCall signs)) (c .before .before .before .before .before .args .op - firstCall) (c .before .before .wide .ensures)))
 
 returns : tie.Need-returns
 unfolding row signs cmpSigns openings opening spell parting spellMiddle spellBetween spellCmp
 returns c =
-    let at-start = c .before .before .before .before .before .before .before in
-    adds-as (row-text 13 (take 9 (drop firstCall signs)) (at-start .args .op - firstCall) ∙ part-text signs firstCall 9 (at-start .args .op) (omega (arith, at-start .pre)) (omega (arith, at-start .pre))) (c .before .before .put .ensures)
+    let at-wide = c .before .before .before .before .before in
+    let at-start = at-wide .before .before .before in
+    adds-as (cut-text 13 (take 9 (drop firstCall signs)) (at-start .args .op - firstCall) (at-wide .wide .ensures) ∙ part-text signs firstCall 9 (at-start .args .op) (omega (arith, at-start .pre)) (omega (arith, at-start .pre))) (c .before .before .put .ensures)
 
 pub put-call-spec : {M : Type 1} → statement M
 put-call-spec =
@@ -37,7 +38,7 @@ put-call-spec =
     (λ c. search needs)
     (λ c. search needs)
     (λ c. search needs)
-    (λ c. search needs)
+    (λ c κs. search needs)
     array-share-prefix-row
     slice-aggregate-put
     (λ c κs. search needs)
