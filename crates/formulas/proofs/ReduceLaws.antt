@@ -145,8 +145,8 @@ pub rebuild-gives : {f c old new : Bytes} {w : Written} → RuleOf f c → Answe
 rebuild-gives {c = c} p q = record { answer = wrote c; rebuilds = gives p; answers = q }
 
 -- The measured length of a tree's text, with no choices known.
-pub rule-measured : {ns ls : List ℕ} {n root : ℕ} → LengthsOf ns n [] ls → root < n → (ρ : Rule) → HoldsRule ns root ρ → getD ls root 0 ≡ capped (length (ruleText [] ρ))
-rule-measured x h ρ y = x .measured [] knows-none .at _ (rule ρ) h y
+pub rule-measured : {ns ls : List ℕ} {n root : ℕ} → LengthsOf ns n [] ls → root < n → (ρ : Rule) → HoldsRule ns root ρ → capped (getD ls root 0) ≡ capped (length (ruleText [] ρ))
+rule-measured x h ρ y = omega (arith, x .measured [] knows-none .at _ (rule ρ) h y)
 
 pub rebuild-ready : {s ns : List ℕ} {k n : ℕ} {o : Option Rule} → Rooted s ns k n o → Printable ns k []
 rebuild-ready {n = n} t = record { n = n; tidy = t .tidy; node = t .within; below = λ i h. absurd (omega arith); few = omega arith }

@@ -20,6 +20,7 @@ use rules::Found;
 use rules::RULE_LIMIT;
 use rules::kinds::NO_KIND;
 use rules::lengths::formula_length;
+use rules::lengths::length_at;
 use rules::lengths::lengths;
 use syntax::Whole;
 
@@ -57,7 +58,7 @@ pub fn reduce(rule: &[u8], out: &mut [u8]) -> Written
         Found::Rejected(r) => Written::Refused(r),
         Found::Rule { n, root, count } => {
             let known = &vars[..count];
-            let mut lens = [0u32; RULE_LIMIT];
+            let mut lens = [0u16; RULE_LIMIT];
             lengths(&nodes, n, known, &mut lens);
             let l = formula_length(&lens, known, root) as usize;
             if out.len() < l {
@@ -75,9 +76,9 @@ fn rule_length(nodes: &[u32], n: usize, root: usize) -> u32
     ensures { λ r. ⌜ ((ρ : Rule) → HoldsRule (now (nodes .entry)) root ρ → r ≡ capped (length (ruleText [] ρ))) ⌝ }
 {
     let none = [0u32; 1];
-    let mut lens = [0u32; FORMULA_LIMIT];
+    let mut lens = [0u16; FORMULA_LIMIT];
     lengths(nodes, n, &none[..0], &mut lens);
-    lens[root]
+    length_at(&lens, root)
 }
 
 // Formula to rule: 16, then 17. The candidate is the tree's own text, kept where its formula is the input byte for byte.

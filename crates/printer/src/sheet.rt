@@ -4,7 +4,7 @@ ghost use Prim.Native.Nat.{_≤_};
 ghost use lib.ListN.{length};
 ghost use Rattle.printer.specs.code.Printed.{Puts, Adds};
 
-// Copies `p` to the front of the sheet. Most texts are a byte or two: a loop that looks for the end at each takes less than a call that copies many.
+// Copies `p` to the front of the sheet, as far as it fits.
 fn copy(out: &mut [u8], p: &[u8]) -> usize
     ensures { λ r. ⌜ Puts (now (p .entry)) (now (out .entry)) (now (out .exit)) r ⌝ }
 {

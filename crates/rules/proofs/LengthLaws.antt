@@ -15,7 +15,7 @@ use Rattle.syntax.specs.code.Reading.{mk, Knows}
 use Rattle.syntax.specs.code.Nodes.{firstCall, oeOp, aoOp, firstPair, firstNumbered, opsEnd, opAt, leftAt, rightAt, operationOf, leftOf, rightOf}
 use Rattle.syntax.proofs.ArenaLaws.{two-less}
 use Rattle.rules.specs.code.Thing.{Thing, term, HoldsThing}
-use Rattle.rules.specs.code.Lengths.{extraTable, extra, plainLength, knownLength, nodeLength, stepLength, capped, Measured}
+use Rattle.rules.specs.code.Lengths.{extraTable, extra, plainLength, knownLength, nodeLength, stepLength, capped, Knowing, Measured}
 use Rattle.rules.specs.code.Variables.{placeIn}
 use Rattle.rules.proofs.TableLaws.{entry}
 use Rattle.rules.proofs.NodeLaws.{more-at}
@@ -57,13 +57,9 @@ module _ (o : ℕ) (a b m : ℕ) where
           let q : o ≡ aoOp = omega (arith, ne) in
           rw (e, eq-eqb o aoOp q)
 
-  pub as-known : {z p n : ℕ} → firstCall ≤ o → p < n → z ≡ knownLength o a b m → z ≡ nodeLength o (ltb p n) a b m
+  node-either : (t : Bool) → firstCall ≤ o → nodeLength o t a b m ≡ cond t (knownLength o a b m) (plainLength o a b m)
   unfolding nodeLength
-  as-known {z} {p} {n} h l e = e ∙ rw (lt-ltb p n l, le-ltb o firstCall h)
-
-  pub as-plain : {z p n : ℕ} → firstCall ≤ o → n ≤ p → z ≡ plainLength o a b m → z ≡ nodeLength o (ltb p n) a b m
-  unfolding nodeLength
-  as-plain {z} {p} {n} h l e = e ∙ rw (le-ltb p n l, le-ltb o firstCall h)
+  node-either t h = rw (le-ltb o firstCall h)
 
   plain-two : hasTwo o ≡ true → plainLength o a b m ≡ extra o + a + b
   unfolding plainLength
@@ -77,9 +73,17 @@ module _ (o : ℕ) (a b m : ℕ) where
       go true = omega arith
       go false = refl
 
-pub step-is : (ls vs : List ℕ) (v : ℕ) {o i j p a b z : ℕ} → o ≡ operationOf v → i ≡ leftOf v → j ≡ rightOf v → p ≡ placeIn i vs
-    → a ≡ capped (getD ls i 0) → b ≡ capped (getD ls j 0) → z ≡ nodeLength o (ltb p (length vs)) a b j → capped z ≡ stepLength ls vs v
-step-is ls vs v op left right place a b e = rw (e, a, b, place, op, left, right)
+-- Whether a choice is known, of an OE or AO and of another operation.
+
+pub knowing-choice : {o i p : ℕ} {vs : List ℕ} → firstCall ≤ o → p ≡ placeIn i vs → Knowing o i vs (ltb p (length vs))
+knowing-choice {o} {i} {p} {vs} h e = record { is = λ a b m. rw e (node-either o a b m (ltb (placeIn i vs) (length vs)) h) }
+
+pub knowing-none : {o i : ℕ} {vs : List ℕ} → firstCall ≤ o → (oeOp ≤ o → firstPair ≤ o) → Knowing o i vs false
+knowing-none {o} {i} {vs} h gap = record { is = λ a b m. node-plain o a b m (ltb (placeIn i vs) (length vs)) h gap }
+
+pub step-is : (ls vs : List ℕ) (v : ℕ) {o i j a b z : ℕ} {r t : Bool} → o ≡ operationOf v → i ≡ leftOf v → j ≡ rightOf v → Knowing o i vs r → r ≡ t
+    → a ≡ capped (getD ls i 0) → b ≡ capped (getD ls j 0) → z ≡ cond t (knownLength o a b j) (plainLength o a b j) → capped z ≡ stepLength ls vs v
+step-is ls vs v {o} {i} {j} {a} {b} op left right k f x y e = rw (e, ← f, ← k .is a b j, x, y, op, left, right)
 
 pub step-bare : (ls vs : List ℕ) (v : ℕ) {o z : ℕ} → o ≡ operationOf v → o < firstCall → z ≡ extra o → capped z ≡ stepLength ls vs v
 step-bare ls vs v op h e =

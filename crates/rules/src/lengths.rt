@@ -3,6 +3,7 @@
 use syntax::nodes::AO;
 use syntax::nodes::FIRST_CALL;
 use syntax::nodes::FIRST_NUMBERED;
+use syntax::nodes::FIRST_PAIR;
 use syntax::nodes::OE;
 use syntax::nodes::OPS_END;
 use syntax::nodes::has_two;
@@ -14,7 +15,8 @@ ghost use mathlib.Core.Path.{_≡_};
 ghost use Prim.Native.Nat.{_<_, _≤_};
 ghost use lib.ListN.{length, getD};
 ghost use Rattle.syntax.specs.code.Arena.{Tidy};
-ghost use Rattle.rules.specs.code.Lengths.{extra, plainLength, knownLength, stepLength, lengthCap, capped, LengthsOf, FormulaLength};
+ghost use Rattle.syntax.specs.code.Nodes.{firstCall};
+ghost use Rattle.rules.specs.code.Lengths.{extra, plainLength, knownLength, stepLength, lengthCap, capped, Knowing, LengthsOf, FormulaLength};
 
 // How many bytes an operation adds to what it stands on: names with their brackets, signs, bars.
 const EXTRA: [u8; 40] = [
@@ -60,7 +62,7 @@ const EXTRA: [u8; 40] = [
     1,
 ];
 
-// No length above this one is told apart from it.
+// No length above this one is told apart from it, so that a length takes two bytes.
 const LENGTH_CAP: u32 = 65535;
 
 fn extra_of(op: u32) -> u32
@@ -109,14 +111,32 @@ fn at_most(l: u32) -> u32
 }
 
 // The length at a place, 0 past the end.
-fn length_at(lens: &[u32], i: usize) -> u32
+pub fn length_at(lens: &[u16], i: usize) -> u32
     ensures { λ r. ⌜ r ≡ capped (getD (now (lens .entry)) i 0) ⌝ }
 {
-    if i < lens.len() { at_most(lens[i]) } else { 0 }
+    if i < lens.len() {
+        at_most(lens[i] as u32)
+    } else {
+        0
+    }
+}
+
+// Whether it is an OE or AO whose choice is known: nothing is sought for another operation.
+fn knows(op: u32, i: u32, vars: &[u32]) -> bool
+    requires { ⌜ firstCall ≤ op ⌝ }
+    ensures { λ r. ⌜ Knowing op i (now (vars .entry)) r ⌝ }
+{
+    if op < OE {
+        return false;
+    }
+    if op < FIRST_PAIR {
+        return seek(vars, vars.len(), i) < vars.len();
+    }
+    false
 }
 
 // The length of what a node holds, by those of the nodes below it, where the choices at vars are known.
-fn length_of(lens: &[u32], vars: &[u32], node: u32) -> u32
+fn length_of(lens: &[u16], vars: &[u32], node: u32) -> u32
     ensures { λ r. ⌜ r ≡ stepLength (now (lens .entry)) (now (vars .entry)) node ⌝ }
 {
     let op = operation(node);
@@ -127,27 +147,27 @@ fn length_of(lens: &[u32], vars: &[u32], node: u32) -> u32
     let j = right(node);
     let a = length_at(lens, i as usize);
     let b = length_at(lens, j as usize);
-    if seek(vars, vars.len(), i) < vars.len() {
+    if knows(op, i, vars) {
         return at_most(known_length(op, a, b, j));
     }
     at_most(plain_length(op, a, b, j))
 }
 
 // The lengths of what the first n nodes hold, where the choices at vars are known.
-pub fn lengths(nodes: &[u32], n: usize, vars: &[u32], lens: &mut [u32])
+pub fn lengths(nodes: &[u32], n: usize, vars: &[u32], lens: &mut [u16])
     requires { ⌜ Tidy (now nodes) n ⌝ }
     requires { ⌜ n ≤ length (now lens) ⌝ }
     ensures { λ _. ⌜ LengthsOf (now (nodes .entry)) n (now (vars .entry)) (now (lens .exit)) ⌝ }
 {
     let mut k = 0;
     while k < n {
-        lens[k] = length_of(lens, vars, nodes[k]);
+        lens[k] = length_of(lens, vars, nodes[k]) as u16;
         k += 1;
     }
 }
 
 // The length of the formula of the rule at root, whose choices are at vars, by the lengths of the nodes where these are known.
-pub fn formula_length(lens: &[u32], vars: &[u32], root: usize) -> u32
+pub fn formula_length(lens: &[u16], vars: &[u32], root: usize) -> u32
     ensures { λ r. ⌜ FormulaLength (now (lens .entry)) (now (vars .entry)) root r ⌝ }
 {
     let mut total = at_most(1 + length_at(lens, root));

@@ -37,6 +37,10 @@ knownLength o a b m = cond (eqb o oeOp) 2 (cond (eqb o aoOp) (7 + a) (plainLengt
 unfoldable pub nodeLength : ℕ → Bool → ℕ → ℕ → ℕ → ℕ
 nodeLength o known a b m = cond (ltb o firstCall) (extra o) (cond known (knownLength o a b m) (plainLength o a b m))
 
+-- By r the length is the known or the plain one. Whether i is among the choices at vs makes a difference to OE and AO alone.
+pub record Knowing (o i : ℕ) (vs : List ℕ) (r : Bool) : Type 0 where
+  pub is : (a b m : ℕ) → nodeLength o (ltb (placeIn i vs) (length vs)) a b m ≡ cond r (knownLength o a b m) (plainLength o a b m)
+
 -- No length above this number is told apart from it.
 abbrev pub lengthCap : ℕ
 lengthCap = 65535

@@ -1,8 +1,7 @@
 -- `rules::lengths::length_of`: each way out is one line of `nodeLength`.
 -- Assumes nothing.
 use mathlib.Core.Path.{_∙_}
-use Rattle.rules.proofs.LengthLaws.{step-bare, step-is, as-known, as-plain}
-use Rattle.rules.proofs.VariableLaws.{placed}
+use Rattle.rules.proofs.LengthLaws.{step-bare, step-is}
 use borrow.Author.Needs.{needs}
 use Rattle.rules.proofs.lengths.length_of.Statement.{statement}
 use Rattle.rules.proofs.lengths.length_of.Tie as tie
@@ -19,7 +18,7 @@ returns-2 c =
     let at-if1 = at-left .before in
     let at-operation = at-if1 .before in
     let at-start = at-operation .before .before .before in
-    c .at-most2 .ensures ∙ step-is (at-start .args .lens .now) (at-start .args .vars .now) (at-start .args .node) (at-operation .operation .ensures) (at-left .left .ensures) (at-right .right .ensures) (placed (c .before .before .before .seek .ensures)) (c .before .before .before .before .before .length-at .ensures) (c .before .before .before .before .length-at2 .ensures) (as-known (at-operation .operation .result) (c .before .before .before .before .before .length-at .result) (c .before .before .before .before .length-at2 .result) (at-right .right .result) (at-if1 .if1 .left) (c .before .before .if2 .taken) (c .before .known-length .ensures))
+    c .at-most2 .ensures ∙ step-is (at-start .args .lens .now) (at-start .args .vars .now) (at-start .args .node) (at-operation .operation .ensures) (at-left .left .ensures) (at-right .right .ensures) (c .before .before .before .knows .ensures) (c .before .before .if2 .taken) (c .before .before .before .before .before .length-at .ensures) (c .before .before .before .before .length-at2 .ensures) (c .before .known-length .ensures)
 
 returns-3 : tie.Need-returns-3
 returns-3 c =
@@ -28,7 +27,7 @@ returns-3 c =
     let at-if1 = at-left .before in
     let at-operation = at-if1 .before in
     let at-start = at-operation .before .before .before in
-    c .at-most3 .ensures ∙ step-is (at-start .args .lens .now) (at-start .args .vars .now) (at-start .args .node) (at-operation .operation .ensures) (at-left .left .ensures) (at-right .right .ensures) (placed (c .before .before .before .seek .ensures)) (c .before .before .before .before .before .length-at .ensures) (c .before .before .before .before .length-at2 .ensures) (as-plain (at-operation .operation .result) (c .before .before .before .before .before .length-at .result) (c .before .before .before .before .length-at2 .result) (at-right .right .result) (at-if1 .if1 .left) (c .before .before .if2 .left) (c .before .plain-length .ensures))
+    c .at-most3 .ensures ∙ step-is (at-start .args .lens .now) (at-start .args .vars .now) (at-start .args .node) (at-operation .operation .ensures) (at-left .left .ensures) (at-right .right .ensures) (c .before .before .before .knows .ensures) (c .before .before .if2 .left) (c .before .before .before .before .before .length-at .ensures) (c .before .before .before .before .length-at2 .ensures) (c .before .plain-length .ensures)
 
 pub length-of-spec : {M : Type 1} → statement M
 length-of-spec =

@@ -45,6 +45,7 @@ lengths-spec =
     (λ c. search needs)
     (λ c. search needs)
     (λ c κs. search needs)
+    (λ c. omega (arith, c .length-of .ensures))
     (λ c. search needs)
     (λ c. search needs)
     (λ c. search needs)
