@@ -16,6 +16,7 @@ use Rattle.syntax.proofs.BytesLaws.{same-own, same-gives}
 use Rattle.syntax.specs.code.Reading.{clauseRoom}
 use Rattle.syntax.proofs.RuleLaws.{formula-back, clauses-few, read-formula}
 use Rattle.rules.proofs.AcceptLaws.{Accepted, accepted-gives}
+pub use Rattle.rules.proofs.AcceptLaws.{none-true}
 use Rattle.rules.specs.Accept.{refusal, isNone, accepted}
 use Rattle.formulas.specs.Formulas.{formulaOf, wroteOr, reduced, RuleOf, Rebuilds, gives, givesNone}
 use Rattle.formulas.specs.code.Rebuilding.{kept, rebuilt, rebuiltAnswer}
@@ -38,10 +39,6 @@ wrote-reduced s f e q = rw (e, q, reduced)
 pub accepted-formula : {s : Bytes} (a : Accepted s) → formulaOf s ≡ some (formula (a .rule))
 unfolding formulaOf
 accepted-formula a = rw (a .reads, formulaOf)
-
-pub none-true : (o : Option Refusal) → isNone o ≡ true → o ≡ none
-none-true none e = refl
-none-true (some r) e = cc
 
 pub rule-of : {f s : Bytes} → reduced s ≡ wrote f → RuleOf f s
 rule-of {f} {s} e =

@@ -12,12 +12,12 @@ use Rattle.syntax.specs.Rule.{Clause, plain, when, Rule, last, also, spellCmp, 
 use Rattle.syntax.specs.code.Printing.{quantifiersAfter}
 use Rattle.syntax.specs.code.Arena.{alikeOp, emptyOp, cmpNumber, Numbered, Holds, HoldsTest, HoldsClause}
 use Rattle.syntax.specs.code.Arena.{HoldsRule, HoldsAll}
-use Rattle.syntax.specs.code.Nodes.{memberOp, firstAlike, firstEmpty, firstNumbered, firstCounted, whenOp, alsoOp, opAt, leftAt, rightAt, opRoom}
+use Rattle.syntax.specs.code.Nodes.{memberOp, firstEmpty, firstNumbered, firstCounted, whenOp, alsoOp, opAt, leftAt, rightAt, opRoom}
 use Rattle.printer.specs.code.Signs.{signs, signOf, cmpSigns}
 use Rattle.printer.specs.code.Printed.{leftText, rightText, quantifier, quantifiersFrom}
 use Rattle.syntax.proofs.ArenaLaws.{Parts, parts, one-parts, both-parts, numbered-parts}
 use Rattle.printer.proofs.TextLaws.{Shown, AtBoth}
-use Rattle.syntax.proofs.TestLaws.{cmp-small}
+use Rattle.syntax.proofs.TestLaws.{cmp-small, alike-range, empty-range}
 
 -- The operation of the node that holds a test.
 
@@ -27,16 +27,6 @@ testOp (alike g a b) = alikeOp g
 testOp (empty g a) = emptyOp g
 testOp (sized c a (number m)) = firstNumbered + cmpNumber c
 testOp (sized c a (count b)) = firstCounted + cmpNumber c
-
-alike-range : (g : Sign) → (firstAlike ≤ alikeOp g) × (alikeOp g < firstEmpty)
-unfolding alikeOp
-alike-range is = (omega arith, omega arith)
-alike-range isnt = (omega arith, omega arith)
-
-empty-range : (g : Sign) → (firstEmpty ≤ emptyOp g) × (emptyOp g < firstNumbered)
-unfolding emptyOp
-empty-range is = (omega arith, omega arith)
-empty-range isnt = (omega arith, omega arith)
 
 test-op : (ns : List ℕ) (k : ℕ) (p : Test) → HoldsTest ns k p → opAt ns k ≡ testOp p
 unfolding HoldsTest testOp

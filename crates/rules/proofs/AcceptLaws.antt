@@ -17,9 +17,13 @@ use Rattle.syntax.specs.Bytes.{Bytes}
 use Rattle.syntax.specs.Rule.{Rule, RuleFits, ruleText, ruleVars, formula, ruleOf}
 use Rattle.syntax.proofs.RuleLaws.{rule-text}
 use Rattle.syntax.proofs.Length.{formula-short}
-use Rattle.rules.specs.Accept.{ruleLimit, choicesLimit, deep, treeRefusal, refusal}
+use Rattle.rules.specs.Accept.{ruleLimit, choicesLimit, deep, treeRefusal, refusal, isNone}
 use Rattle.rules.specs.Kind.{ruleKinds}
 use Rattle.rules.specs.code.Parsed.{FitText}
+
+pub none-true : (o : Option Refusal) → isNone o ≡ true → o ≡ none
+none-true none e = refl
+none-true (some r) e = cc
 
 pub refuse-empty : (s : Bytes) → length s ≡ 0 → refusal s ≡ some RuleLength
 unfolding refusal

@@ -19,7 +19,7 @@ use Rattle.syntax.specs.code.Arena.{baseOp, fnOp, twoOp, alikeOp, emptyOp, cmpN
 use Rattle.syntax.specs.code.Arena.{Holds, HoldsTest, HoldsClause, HoldsRule}
 use Rattle.syntax.specs.code.Nodes.{firstCall, oeOp, aoOp, firstPair, memberOp, firstAlike, firstEmpty, firstNumbered, firstCounted, whenOp, alsoOp, opAt, leftAt, rightAt, opRoom, operationOf, leftOf, rightOf}
 use Rattle.syntax.proofs.ArenaLaws.{base-small, two-range, Parts, none-parts, one-parts, both-parts, numbered-parts}
-use Rattle.syntax.proofs.TestLaws.{cmp-small}
+use Rattle.syntax.proofs.TestLaws.{cmp-small, alike-range, empty-range}
 use Rattle.rules.specs.Kind.{Kind, Kind≟, holds, oneOf, baseKind, takes, makes, ofElement}
 use Rattle.rules.specs.Kind.{callKind, inside, oneKind, othersKind, asSet, joined, row, call2Kind, twoKind, with, kind, check, countable, isMember, countKinds}
 use Rattle.rules.specs.Kind.{testKinds, clauseKinds, ruleKinds}
@@ -225,16 +225,6 @@ one-numbers {o} {f} m x y h =
 two-numbers : (o : Pair) (x y : ℕ) → x < kindsFit → y < kindsFit → Numbers (nodeNumber (twoOp o) x y) (with (kindOf x) (λ k. with (kindOf y) (λ l. twoKind o k l)))
 two-numbers o x y h l = rw (node-two (twoOp o) x y (two-range o .low) (two-range o .high)) (two-law o x y h l)
 
-pub alike-op : (g : Sign) → (memberOp ≤ alikeOp g) × (alikeOp g < firstEmpty)
-unfolding alikeOp
-alike-op is = (lit≤ tt, lit< tt)
-alike-op isnt = (lit≤ tt, lit< tt)
-
-pub empty-op : (g : Sign) → (firstEmpty ≤ emptyOp g) × (emptyOp g < firstNumbered)
-unfolding emptyOp
-empty-op is = (lit≤ tt, lit< tt)
-empty-op isnt = (lit≤ tt, lit< tt)
-
 module _ (ns ks : List ℕ) (k : ℕ) (below : Kinded ns k ks) where
   -- What is known of the terms at the node's left and right.
   at-left : {o i j : ℕ} (a : Term) → Parts (getD ns k 0) o i j → i < k → Holds ns i a → Numbers (getD ks (leftAt ns k) noKind) (kind a)
@@ -284,14 +274,14 @@ module _ (ns ks : List ℕ) (k : ℕ) (below : Kinded ns k ks) where
       let w = at-right b (p .right) (x .2 .below₂) (x .4) in
       fits-step (lit≤ tt) p ∙ rw (← v .is, ← w .is) (member-law (getD ks (leftAt ns k) noKind) (getD ks (rightAt ns k) noKind) (v .small) (w .small))
   test-step (alike g a b) x =
-      let h : alikeOp g < opRoom = omega (arith, alike-op g .1) in
+      let h : alikeOp g < opRoom = omega (arith, alike-range g .1) in
       let p = both-parts (x .2) h in
       let v = at-left a p (x .2 .below) (x .3) in
       let w = at-right b (p .right) (x .2 .below₂) (x .4) in
-      fits-step (alike-op g .0) p ∙ rw (← v .is, ← w .is) (alike-law g (getD ks (leftAt ns k) noKind) (getD ks (rightAt ns k) noKind) (v .small) (w .small))
+      fits-step (omega (arith, alike-range g .0)) p ∙ rw (← v .is, ← w .is) (alike-law g (getD ks (leftAt ns k) noKind) (getD ks (rightAt ns k) noKind) (v .small) (w .small))
   test-step (empty g a) x =
-      let h : emptyOp g < opRoom = omega (arith, empty-op g .1) in
-      counted-step a (empty-op g .0) (omega (arith, empty-op g .1)) (one-parts (x .1) h) (x .1 .below) (x .2)
+      let h : emptyOp g < opRoom = omega (arith, empty-range g .1) in
+      counted-step a (empty-range g .0) (omega (arith, empty-range g .1)) (one-parts (x .1) h) (x .1 .below) (x .2)
   test-step (sized c a (number m)) x =
       let l = cmp-small c in
       let h : firstNumbered + cmpNumber c < opRoom = omega arith in

@@ -22,8 +22,7 @@ use Rattle.rules.specs.code.Thing.{Thing, term, test, clause, rule, Hold
 use Rattle.rules.specs.code.Lengths.{extraTable, extra}
 use Rattle.syntax.proofs.ArenaLaws.{base-small, fn-range, two-range, two-less, two-none, Parts, none-parts, one-parts, both-parts, numbered-parts}
 pub use Rattle.syntax.proofs.ArenaLaws.{two-low, two-high}
-use Rattle.syntax.proofs.TestLaws.{cmp-small}
-use Rattle.rules.proofs.KindLaws.{alike-op, empty-op}
+use Rattle.syntax.proofs.TestLaws.{cmp-small, alike-range, empty-range}
 use Rattle.rules.proofs.NodeLaws.{lt-or-le}
 
 -- The lengths of what is spelled, by the table.
@@ -135,12 +134,12 @@ unfolding HoldsTest testVars countVars testText countText spellBetween
 test-shape ns k (member a b) x =
     as-double (term a) (term b) (omega arith) (omega arith) (two-low memberOp (omega arith) (omega arith)) (x .2) (x .3) (x .4) (λ σ. refl) (λ σ. simp length-append (omega (arith, extras)))
 test-shape ns k (alike g a b) x =
-    let r = alike-op g in
+    let r = alike-range g in
     as-double (term a) (term b) (omega (arith, r .0)) (omega (arith, r .1)) (two-low (alikeOp g) (omega (arith, r .0)) (r .1)) (x .2) (x .3) (x .4) (λ σ. refl)
     (λ σ. simp length-append (omega (arith, sign-extra g .0)))
 test-shape ns k (empty g a) x =
-    let lo = empty-op g .0 in
-    let hi = empty-op g .1 in
+    let lo = empty-range g .0 in
+    let hi = empty-range g .1 in
     let small : emptyOp g < opRoom = omega arith in
     as-single (term a) (record { low = omega arith; gap = λ _. lo; high = omega arith }) (one-parts (x .1) small) (x .1 .below) (x .2) (λ σ. refl)
     (λ σ. rw (lt-ltb (emptyOp g) firstNumbered hi) (simp length-append (omega (arith, sign-extra g .1))))

@@ -5,7 +5,6 @@ use mathlib.Core.Bool.{Bool, true, false}
 use mathlib.Core.List.{List}
 use Prim.Native.Nat.{ℕ, suc, _+_, _-_, _<_, _≤_}
 use native.Mathlib.Omega.{arith}
-use borrow.Author.Tests.{lt-leb, le-leb, le-ltb}
 use lib.ListN.{length, drop}
 use Rattle.syntax.specs.Bytes.{Bytes, ascii, fail, got, next, skip, either, scan}
 use Rattle.syntax.specs.Term.{Term, Choices, readTerm}
@@ -15,8 +14,8 @@ use Rattle.syntax.specs.Rule.{readSecond, readTest, readClause, readRule
 use Rattle.syntax.specs.code.Arena.{alikeOp, emptyOp, cmpNumber, Both, Holds, HoldsTest, HoldsClause, hasTwo}
 use Rattle.syntax.specs.code.Reading.{Stands, Signed, itself, betweenOp, Arena, Fresh, Put, Readable, Found, Agree, counted, sizedTest, relatedTest}
 use Rattle.syntax.specs.declared.arena.Place.{Place}
-use Rattle.syntax.specs.code.Nodes.{firstPair, memberOp, firstAlike, firstEmpty, firstNumbered, firstCounted, whenOp, nodeOf, indexRoom}
-use Rattle.syntax.proofs.ArenaLaws.{stays-refl, stays-trans, holds-later, test-later}
+use Rattle.syntax.specs.code.Nodes.{memberOp, firstAlike, firstEmpty, firstNumbered, firstCounted, whenOp, nodeOf, indexRoom}
+use Rattle.syntax.proofs.ArenaLaws.{two-none, two-high, stays-refl, stays-trans, holds-later, test-later}
 use Rattle.syntax.proofs.NameLaws.{Hit, hit, miss}
 use Rattle.syntax.proofs.ReadingLaws.{put-found, agree-from, fresh-two, fresh-number, fresh-pair, one-node, both-node, number-node}
 use Rattle.syntax.proofs.RuleLaws.{number-small}
@@ -32,21 +31,15 @@ cmp-small ge = omega arith
 cmp-small eq = omega arith
 cmp-small ne = omega arith
 
-has-number : (c : ℕ) → c < 6 → hasTwo (firstNumbered + c) ≡ false
-unfolding hasTwo
-has-number c h =
-    let l : firstPair ≤ firstNumbered + c = omega arith in
-    let m : firstEmpty ≤ firstNumbered + c = omega arith in
-    let u : firstNumbered + c < firstCounted = omega arith in
-    rw (le-leb firstPair (firstNumbered + c) l, le-ltb (firstNumbered + c) firstEmpty m, lt-leb firstCounted (firstNumbered + c) u)
+pub alike-range : (g : Sign) → (firstAlike ≤ alikeOp g) × (alikeOp g < firstEmpty)
+unfolding alikeOp
+alike-range is = (omega arith, omega arith)
+alike-range isnt = (omega arith, omega arith)
 
-has-count : (c : ℕ) → hasTwo (firstCounted + c) ≡ true
-unfolding hasTwo
-has-count c =
-    let l : firstPair ≤ firstCounted + c = omega arith in
-    let m : firstEmpty ≤ firstCounted + c = omega arith in
-    let u : firstCounted ≤ firstCounted + c = omega arith in
-    rw (le-leb firstPair (firstCounted + c) l, le-ltb (firstCounted + c) firstEmpty m, le-leb firstCounted (firstCounted + c) u)
+pub empty-range : (g : Sign) → (firstEmpty ≤ emptyOp g) × (emptyOp g < firstNumbered)
+unfolding emptyOp
+empty-range is = (omega arith, omega arith)
+empty-range isnt = (omega arith, omega arith)
 
 pub record BetweenRange (o : ℕ) : Type 0 where
   pub low : memberOp ≤ o
@@ -97,7 +90,7 @@ module _ (σ : Choices) (o : Cmp) (t : Term) {s : Bytes} {at : ℕ} where
           (λ k n v. (
             i,
             j,
-            rw q (both-node v (omega arith) (omega arith) (has-count c) (small g l) lj),
+            rw q (both-node v (omega arith) (omega arith) (two-high (firstCounted + c) (omega arith)) (small g l) lj),
             holds-later a _ i t (stays-trans (x .stays) (v .stays)) l y,
             holds-later b _ j (x .thing) (v .stays) (x .within) (x .holds),
           ))
@@ -105,7 +98,7 @@ module _ (σ : Choices) (o : Cmp) (t : Term) {s : Bytes} {at : ℕ} where
 pub number-fresh : {s : Bytes} {at i c m e : ℕ} {vars : List ℕ} {a : Arena} → Readable s at vars a → i < a .n → c < 6 → Signed itself s at m e (readNumber (drop at s)) → Fresh a (firstNumbered + c) i m
 number-fresh {s} {at} {m = m} {e = e} g l lc x =
     let w : readNumber (drop at s) ≡ got m (drop e s) = x .is ∙ ap (λ (n : ℕ). got n (drop e s)) (x .numberIs) in
-    fresh-number (omega (arith, g .room, g .count, x .more, x .fits)) (g .tidy) (omega arith) (has-number _ lc) l (number-small 64 m (drop at s) (drop e s) w)
+    fresh-number (omega (arith, g .room, g .count, x .more, x .fits)) (g .tidy) (omega arith) (two-none _ (omega arith) (omega arith)) l (number-small 64 m (drop at s) (drop e s) w)
 
 -- A test of a count.
 
