@@ -11,7 +11,7 @@ array-share-prefix-vars : tie.Need-array-share-prefix-vars
 array-share-prefix-vars c =
     let at-n = c .before in
     let at-find = at-n .before .before .before .before .before in
-    reduce-few (at-find .find .ensures) (at-n .n .given .1)
+    omega (arith, reduce-few (at-find .find .ensures) (at-n .n .given .1))
 
 slice-aggregate-known : tie.Need-slice-aggregate-known
 slice-aggregate-known c =
