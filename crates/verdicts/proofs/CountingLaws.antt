@@ -15,7 +15,7 @@ use Rattle.walks.specs.code.Context.{Alike}
 use Rattle.walks.specs.code.Kept.{choiceOf, Counted, unwritten, written}
 use Rattle.walks.proofs.BytesLaws.{bytes-length, alike-key}
 use Rattle.walks.proofs.KeptLaws.{kept-hit, kept-write}
-use Rattle.walks.proofs.TurningLaws.{turning-start, turning-step, turning-end, turning-room, turning-last, counted-whole}
+use Rattle.walks.proofs.TurningLaws.{turning-start, turning-step, turning-end, turning-room, turning-last, counted-small, counted-whole}
 use Rattle.values.specs.Values.{value}
 use Rattle.values.specs.Sets.{setOf, inSet, names, namesIn}
 use Rattle.values.specs.code.Levels.{Level}
@@ -119,6 +119,10 @@ module _ {ts plan : List ℕ} {y : Layout} {T : Tables} {ρ : Rule} (P : Planned
         rw q (turning-last (inSet T (ruleVars [] ρ)) (clausesOf T ρ) (drop levelsFrom plan) (y .order) mode d (choiceOf choice) (getD cache (getD plan (setsFrom + d) 0) 0) l
         (set-in choice d l S) z e)
 
+  -- no count is too large to be kept
+  pub counted-fits : (choice : ℕ) {mode d full breaking : ℕ} → CountedAt plan y T ρ mode d choice full breaking → full ≤ 64 ^ 8
+  counted-fits choice C = counted-small (inSet T (ruleVars [] ρ)) (clausesOf T ρ) (drop levelsFrom plan) (y .order) (P .turns .short) C .0
+
   module _ (mode d : ℕ) (m : mode < 2) (l : d < length (y .order)) {place : ℕ} (s : SlotOf (8 * mode + d) place) (choice : ℕ) {key : ℕ}
       (e : key ≡ meetOf choice (getD plan (masksFrom + (8 * mode + d)) 0)) where
     -- the choice is alike, at the context, with what its key is the choice of
@@ -130,7 +134,7 @@ module _ {ts plan : List ℕ} {y : Layout} {T : Tables} {ρ : Rule} (P : Planned
 
     -- what is kept under that key
     pub below-hit : {kept : List ℕ} → Keeps plan y T ρ kept → (getD kept (3 * place) 0 ≡ unwritten → ⊥) → getD kept (3 * place + 2) 0 ≡ key
-        → CountedAt plan y T ρ mode d choice (getD kept (3 * place) 0) (getD kept (3 * place + 1) 0)
+        → CountedAt plan y T ρ mode d choice (getD kept (3 * place) 0 - 1) (getD kept (3 * place + 1) 0)
     below-hit {kept} K w q =
         let small = P .turns .short in
         let here = kept-hit (inSet T (ruleVars [] ρ)) (clausesOf T ρ) (drop levelsFrom plan) (y .order) (drop contextsFrom plan) K mode d (s .item) m (omega arith) (s .small) in

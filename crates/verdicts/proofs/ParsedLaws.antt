@@ -11,14 +11,15 @@ use Rattle.answers.specs.declared.Refusal.{Refusal}
 use Rattle.tables.specs.Tables.{Tables}
 use Rattle.tables.proofs.FlatLaws.{length-flat}
 use Rattle.syntax.specs.Bytes.{Bytes}
+use Rattle.syntax.specs.Rule.{Rule}
 use Rattle.rules.specs.declared.Checked.{Checked}
 use Rattle.rules.specs.declared.Checked.the-variants.{Refused, Accepted}
 use Rattle.rules.specs.Accept.{refusal}
 use Rattle.rules.specs.code.Parsed.{checkedOf, RuleAt, Parses}
 use Rattle.values.proofs.BoundLaws.{accepted-within}
 use Rattle.verdicts.specs.declared.Verdict.{Verdict}
-use Rattle.verdicts.specs.Verdict.{refusedBy, treeVerdict, acceptedVerdict}
-use Rattle.verdicts.specs.code.Judging.{Case, Lent, TablesAt, Loaded, RulesOn}
+use Rattle.verdicts.specs.Verdict.{refusedBy, orderVerdict, treeVerdict, acceptedVerdict}
+use Rattle.verdicts.specs.code.Judging.{Case, Lent, TablesAt, Loaded}
 
 checked-none : (q : Option Refusal) → checkedOf q ≡ Accepted → q ≡ none
 checked-none none e = refl
@@ -73,7 +74,8 @@ module _ {s : Bytes} {ns ks vs : List ℕ} {o : Checked} {n root count : ℕ} (p
       isCase = rule-case (L .holds);
     }
 
-    pub parsed-judged : {ts : List ℕ} {T : Tables} (order : Bytes) {r : Verdict} → RulesOn ts ns n ks (take count vs) root order r → TablesAt ts T
+    pub parsed-judged : {ts : List ℕ} {T : Tables} (order : Bytes) {r : Verdict}
+        → ((T : Tables) (ρ : Rule) → Case ts ns n ks (take count vs) root T ρ → r ≡ orderVerdict T ρ order) → TablesAt ts T
         → r ≡ acceptedVerdict T (refusal s) s order
     unfolding acceptedVerdict treeVerdict
     parsed-judged {T = T} order f H = rw (ok, rule .reads) (f T (rule .tree) (rule-case H))

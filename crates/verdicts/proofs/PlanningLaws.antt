@@ -20,7 +20,7 @@ use Rattle.rules.specs.code.Variables.{placeIn}
 use Rattle.values.specs.code.Clauses.{clauseCount, clauseAt, TestsAt}
 use Rattle.values.specs.code.Plan.{planRoom, levelsFrom, stepOf, nodeIn, kindIn, variableIn, nextIn, firstIn, secondIn, Step}
 use Rattle.values.proofs.TruthLaws.{test-range}
-use Rattle.verdicts.specs.code.Planning.{contextsFrom, Filled, ClauseWord, SetsNamed, ClausesNamed, ContextWord}
+use Rattle.verdicts.specs.code.Planning.{contextsFrom, scopesFrom, Filled, Noted, ClauseWord, SetsNamed, ClausesNamed, ContextWord}
 
 -- ---- one number more
 
@@ -165,3 +165,14 @@ pub levels-same : (old new : List ℕ) (many k : ℕ) (P : ℕ → ℕ → Type 
     → (i : ℕ) → i < many → getD (drop levelsFrom new) i 0 ≡ getD (drop levelsFrom old) i 0
 levels-same old new many k P l F i m =
     getD-drop levelsFrom new i 0 ∙ F .outside (levelsFrom + i) (λ h. absurd (omega arith)) ∙ sym (getD-drop levelsFrom old i 0)
+
+-- ---- what is noted for the search
+
+pub noted-none : (old : List ℕ) → Noted old old
+noted-none old = record { long = refl; below = λ j l. refl }
+
+pub noted-more : {old new : List ℕ} → Noted old new → (at v : ℕ) → scopesFrom ≤ at → Noted old (set new at v)
+noted-more {old} {new} N at v l = record { long = length-set new at v ∙ N .long; below = λ j m. getD-set-other new at j v 0 (λ e. omega arith) ∙ N .below j m }
+
+pub noted-then : {a b c : List ℕ} → Noted a b → Noted b c → Noted a c
+noted-then N M = record { long = M .long ∙ N .long; below = λ j l. M .below j l ∙ N .below j l }

@@ -3,9 +3,9 @@
 use mathlib.Core.Path.{_≡_, refl, sym, ap, _∙_}
 use mathlib.Core.Bool.{Bool, true, false}
 use mathlib.Core.List.{List, [], _∷_}
-use Prim.Native.Nat.{ℕ, suc, _-_, _≤_, _^_}
+use Prim.Native.Nat.{ℕ, _≤_, _^_}
 use native.Mathlib.Omega.{arith}
-use lib.ListN.{length, drop}
+use lib.ListN.{length}
 use Rattle.answers.specs.declared.Refusal.the-variants.{NotAnOrder}
 use Rattle.tables.specs.Tables.{Tables}
 use Rattle.syntax.specs.Term.{Choices}
@@ -15,16 +15,16 @@ use Rattle.walks.specs.Choices.{nothingChosen}
 use Rattle.walks.specs.Order.{variablesOf, isOrder, namedBy}
 use Rattle.walks.specs.Meaning.{Admissible}
 use Rattle.walks.specs.declared.Tally.{Tally}
+use Rattle.walks.specs.code.Tally.{Walked}
 use Rattle.walks.proofs.OrderLaws.{order-admissible, order-after, order-length, order-agree, length-variables-of}
-use Rattle.values.specs.Sets.{names}
+use Rattle.values.specs.Sets.{inSet, names, breaks}
 use Rattle.values.specs.code.Nodes.{Variables, Named}
 use Rattle.verdicts.specs.declared.Verdict.{Verdict}
 use Rattle.verdicts.specs.Verdict.{fullCount, breakingCount, firstBreaking, verdictAlong, refusedBy, orderVerdict}
-use Rattle.verdicts.specs.code.Judging.{InSorts, Case, InTurn, WalkedFrom, ruledBy}
+use Rattle.verdicts.specs.code.Judging.{InSorts, Case, InTurn, ruledBy}
 use Rattle.verdicts.proofs.VerdictLaws.{walk-full, walk-breaking, breaking-le-full, full-fits}
 use Rattle.syntax.proofs.NameLaws.{all-length}
 
--- As many nodes as arguments.
 -- The words of what the sets name serve the test of an order.
 pub named-order : (n : ℕ) (words vs : List ℕ) (σ : Choices) → n ≤ 8 → Named n words σ → isOrder (namedBy words) n vs ≡ isOrder (names σ) n vs
 unfolding Named
@@ -57,18 +57,15 @@ module _ (T : Tables) (ρ : Rule) where
   -- Along an order the walk's tally has the verdict's numbers.
   module _ (few : length (ruleVars [] ρ) ≤ 8) (sorts : InSorts T ρ) (order : List ℕ) (tally : Tally)
       (ok : isOrder (names (ruleVars [] ρ)) (length (ruleVars [] ρ)) order ≡ true)
-      (w : WalkedFrom T ρ order (length order) nothingChosen tally) where
-    all-left : drop (length order - length order) order ≡ order
-    all-left = let none : length order - length order ≡ 0 = omega arith in rw none
-
+      (w : Walked (inSet T (ruleVars [] ρ)) (breaks T (ruleVars [] ρ) ρ) order nothingChosen tally) where
     admissible : Admissible (names (ruleVars [] ρ)) (length (ruleVars [] ρ)) order
     admissible = order-admissible (names (ruleVars [] ρ)) (length (ruleVars [] ρ)) order .0 ok
 
     tally-full : tally .full ≡ fullCount T ρ
-    tally-full = (rw all-left at (w .fulls)) ∙ walk-full T ρ few sorts order admissible
+    tally-full = w .fulls ∙ walk-full T ρ few sorts order admissible
 
     tally-breaking : tally .breaking ≡ breakingCount T ρ
-    tally-breaking = (rw all-left at (w .breakings)) ∙ walk-breaking T ρ few sorts order admissible
+    tally-breaking = w .breakings ∙ walk-breaking T ρ few sorts order admissible
 
     pub tally-fits : (tally .breaking ≤ tally .full) × (tally .full ≤ 64 ^ 8)
     tally-fits = (
@@ -78,7 +75,7 @@ module _ (T : Tables) (ρ : Rule) where
 
     pub tally-verdict : ruledBy tally ≡ verdictAlong T ρ order
     unfolding verdictAlong firstBreaking
-    tally-verdict = rw (tally-full, tally-breaking, rw all-left at (w .firsts))
+    tally-verdict = rw (tally-full, tally-breaking, w .firsts)
 
   pub right-order : (order : List ℕ) (v : Verdict) {f : Bool} → f ≡ isOrder (names (ruleVars [] ρ)) (length (ruleVars [] ρ)) (variablesOf order) → f ≡ true
       → v ≡ verdictAlong T ρ (variablesOf order) → v ≡ orderVerdict T ρ order
@@ -87,7 +84,7 @@ module _ (T : Tables) (ρ : Rule) where
 
 -- What the code's test of the order says, where the slices hold the case.
 module _ {ts ns : List ℕ} {n : ℕ} {ks vs : List ℕ} {root : ℕ} {T : Tables} {ρ : Rule} (C : Case ts ns n ks vs root T ρ) (few : length vs ≤ 8) where
-  as-many : length vs ≡ length (ruleVars [] ρ)
+  pub as-many : length vs ≡ length (ruleVars [] ρ)
   as-many = sym (all-length ns vs (ruleVars [] ρ) (C .world .variables .holds))
 
   pub few-variables : length (ruleVars [] ρ) ≤ 8
@@ -104,7 +101,7 @@ module _ {ts ns : List ℕ} {n : ℕ} {ks vs : List ℕ} {root : ℕ} {T : Table
     pub no-order : f ≡ false → refusedBy NotAnOrder ≡ orderVerdict T ρ order
     no-order h = wrong-order T ρ order (told ∙ ap (isOrder (names (ruleVars [] ρ)) (length (ruleVars [] ρ))) same) h
 
-    module _ (h : f ≡ true) (tally : Tally) (w : WalkedFrom T ρ listed (length listed) nothingChosen tally) where
+    module _ (h : f ≡ true) (tally : Tally) (w : Walked (inSet T (ruleVars [] ρ)) (breaks T (ruleVars [] ρ) ρ) listed nothingChosen tally) where
       pub counts-fit : (tally .breaking ≤ tally .full) × (tally .full ≤ 64 ^ 8)
       counts-fit = tally-fits T ρ few-variables (C .sorts) listed tally (sym told ∙ h) w
 

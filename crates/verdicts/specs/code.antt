@@ -2,4 +2,6 @@
 pub mod Judging
 pub mod Planning
 pub mod Counting
+pub mod Orders
+pub mod Walking
 pub mod Writing

@@ -5,19 +5,16 @@ use crate::planning::ORDER;
 use crate::planning::PICKS;
 use crate::planning::SETS;
 use crate::planning::VARIABLE_COUNT;
-use crate::sheet::bytes;
 use values::plan::holds;
 use values::plan::settle;
-use walks::Tally;
 use walks::kept;
 use walks::kept::Counts;
 ghost use mathlib.Core.Path.{_≡_};
 ghost use Prim.Native.Nat.{_<_};
-ghost use lib.ListN.{length, getD};
+ghost use lib.ListN.{length};
 ghost use Rattle.tables.specs.code.Layout.{Whole};
 ghost use Rattle.values.specs.code.Plan.{planRoom, planLength, Runs};
-ghost use Rattle.verdicts.specs.code.Planning.{variablesAt};
-ghost use Rattle.verdicts.specs.code.Counting.{SlotOf, Enters, Standing, Counts as Counted, Finds, noChoice, Descends, Ready, WalksBy};
+ghost use Rattle.verdicts.specs.code.Counting.{SlotOf, Enters, EntersTo, Standing, Counts as Counted, Finds};
 
 // The slot of a choice: 64 for each mode and depth, by the item of the latest variable of the context.
 fn slot(plan: &[u64], at: usize, choice: u64) -> usize
@@ -32,7 +29,7 @@ fn slot(plan: &[u64], at: usize, choice: u64) -> usize
 }
 
 // One level more: its nodes are evaluated and, where no clause is false yet, its clauses looked at. The mode is 0 from the first false one on.
-fn enter(
+pub fn enter(
     t: &[u64],
     plan: &[u64],
     mode: usize,
@@ -55,7 +52,7 @@ fn enter(
 
 // The counts below a choice: those that are kept, or those of the next variable's items. Where a clause is false already, the last
 // variable needs no walk.
-fn below(
+pub fn below(
     t: &[u64],
     plan: &[u64],
     mode: usize,
@@ -123,7 +120,7 @@ fn items(
 }
 
 // The smallest item of the next variable below which something breaks. What was counted before is mostly kept still.
-fn least(
+pub fn least(
     t: &[u64],
     plan: &[u64],
     mode: usize,
@@ -151,46 +148,16 @@ fn least(
     0
 }
 
-// The first breaking choice, variable by variable along the order.
-fn descend(t: &[u64], plan: &[u64], mode: usize, cache: &mut [u64], kept: &mut [u64]) -> u64
-    requires { ⌜ Standing (now t) (now plan) mode (getD (now plan) variablesAt 0) noChoice (now cache) (now kept) ⌝ }
-    ensures { λ r. ⌜ Descends (now (t .entry)) (now (plan .entry)) mode (now (cache .entry)) (now (kept .entry)) r ⌝ }
+// The levels up to d, one after the other, under a choice of the first d variables; the mode that follows.
+pub fn entered(t: &[u64], plan: &[u64], d: usize, choice: u64, cache: &mut [u64]) -> usize
+    requires { ⌜ Whole (now t) × Runs (now plan) × (length (now cache) ≡ planRoom) × (d < 9) ⌝ }
+    ensures { λ r. ⌜ EntersTo (now (t .entry)) (now (plan .entry)) d choice (now (cache .entry)) (now (cache .exit)) r ⌝ }
 {
-    let count = plan[VARIABLE_COUNT] as usize;
-    let mut choice = kept::NOTHING;
-    let mut at = mode;
-    let mut left = count;
-    while 0 < left {
-        let x = least(t, plan, at, left, choice, cache, kept);
-        let d = count - left;
-        choice = kept::put(choice, plan[ORDER + d] as usize, x);
-        at = enter(t, plan, at, d + 1, choice, cache);
-        left -= 1;
+    let mut mode = 1;
+    let mut level = 0;
+    while level <= d {
+        mode = enter(t, plan, mode, level, choice, cache);
+        level += 1;
     }
-    choice
-}
-
-// Judging along the plan's order, from nothing chosen.
-pub fn whole(t: &[u64], plan: &[u64]) -> Tally
-    requires { ⌜ Ready (now t) (now plan) ⌝ }
-    ensures { λ r. ⌜ WalksBy (now (t .entry)) (now (plan .entry)) r ⌝ }
-{
-    let mut cache = [0u64; 256];
-    let mut kept = [kept::NOTHING; 3072];
-    let mode = enter(t, plan, 1, 0, kept::NOTHING, &mut cache);
-    let count = plan[VARIABLE_COUNT] as usize;
-    let sum = below(t, plan, mode, count, kept::NOTHING, &mut cache, &mut kept);
-    if sum.breaking == 0 {
-        return Tally {
-            full: sum.full,
-            breaking: 0,
-            first: [255u8; 8],
-        };
-    }
-    let first = bytes(descend(t, plan, mode, &mut cache, &mut kept));
-    Tally {
-        full: sum.full,
-        breaking: sum.breaking,
-        first,
-    }
+    mode
 }

@@ -15,6 +15,7 @@ ghost use Rattle.answers.specs.Written.{Answers};
 ghost use Rattle.verdicts.specs.code.Writing.{PutsVerdict};
 
 mod counting;
+mod orders;
 mod planning;
 mod ruling;
 mod sheet;
@@ -43,19 +44,7 @@ fn of_accepted(words: &[u64], parsed: Parsed, order: &[u8]) -> Verdict
     requires { ⌜ parsed .outcome ≡ AcceptedRule ⌝ }
     ensures { λ r. ⌜ JudgesParsed (now (words .entry)) parsed (now (order .entry)) r ⌝ }
 {
-    let nodes = parsed.nodes;
-    let kinds = parsed.kinds;
-    let vars = parsed.vars;
-    let count = parsed.count;
-    ruling::along(
-        words,
-        &nodes,
-        parsed.n,
-        &kinds,
-        &vars[..count],
-        parsed.root,
-        order,
-    )
+    ruling::along(words, parsed, order)
 }
 
 // The verdict of a parsed rule on accepted tables, held as words, along an order.

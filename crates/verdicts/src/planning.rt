@@ -19,7 +19,10 @@ ghost use Rattle.syntax.specs.code.Arena.{Low, Tidy};
 ghost use Rattle.walks.specs.code.Kept.{Masks};
 ghost use Rattle.values.specs.code.Levels.{Level};
 ghost use Rattle.values.specs.code.Plan.{planLength, planRoom, clausesFrom, levelsFrom, startsFrom, firstIn, secondIn, Step};
-ghost use Rattle.verdicts.specs.code.Planning.{orderFrom, setsFrom, contextsFrom, masksFrom, picksFrom, Filled, Plannable, ClauseWords, Scopes, SetsNamed, ClausesNamed, ContextWord, Laid, Plans};
+ghost use Rattle.verdicts.specs.code.Planning.{orderFrom, setsFrom, contextsFrom, masksFrom, picksFrom, scopesFrom, Filled, Noted, Plannable, ClauseWords, Scopes, SetsNamed, ClausesNamed, ContextWord, Laid, Plans};
+
+// How long a plan is.
+pub const LENGTH: usize = 1024;
 
 // Where the order's variables stand, the nodes of their sets, the contexts (8 depths for each of 2 modes), their masks, the variables that
 // pick a slot, and how many variables there are. values::plan has the other parts.
@@ -34,6 +37,15 @@ pub const MASKS: usize = 816;
 pub const PICKS: usize = 832;
 
 pub const VARIABLE_COUNT: usize = 850;
+
+// What the search for an order goes by: what each clause names, what each set names, and the kinds of the sets.
+pub const SCOPES: usize = 880;
+
+pub const SCOPE_ROOM: usize = 64;
+
+pub const NAMES: usize = 944;
+
+pub const KINDS: usize = 952;
 
 const TEST_ROOM: u64 = 4294967296;
 
@@ -252,7 +264,31 @@ fn picks(plan: &mut [u64], order: &[u8])
     }
 }
 
-// The plan of a rule along an order.
+// Writes words where the search for an order looks for them.
+fn note(plan: &mut [u64], at: usize, found: &[u64])
+    requires { ⌜ (length (now plan) ≡ planLength) × (scopesFrom ≤ at) × (at + length (now found) ≤ planLength) ⌝ }
+    ensures { λ _. ⌜ Noted (now (plan .entry)) (now (plan .exit)) ⌝ }
+{
+    let mut i = 0;
+    while i < found.len() {
+        plan[at + i] = found[i];
+        i += 1;
+    }
+}
+
+// The kinds of the sets.
+fn sorts(plan: &mut [u64], kinds: &[u8], vars: &[u32])
+    requires { ⌜ (length (now plan) ≡ planLength) × (length (now vars) ≤ 8) × ((i : ℕ) → i < length (now vars) → getD (now vars) i 0 < length (now kinds)) ⌝ }
+    ensures { λ _. ⌜ Noted (now (plan .entry)) (now (plan .exit)) ⌝ }
+{
+    let mut v = 0;
+    while v < vars.len() {
+        plan[KINDS + v] = kinds[vars[v] as usize] as u64;
+        v += 1;
+    }
+}
+
+// The plan of a rule along an order, over whatever the lent words held.
 pub fn plan(
     nodes: &[u32],
     n: usize,
@@ -260,28 +296,30 @@ pub fn plan(
     vars: &[u32],
     root: usize,
     order: &[u8],
-) -> [u64; 1024]
-    requires { ⌜ Laid (now nodes) n (now kinds) (now vars) root (now order) ⌝ }
-    ensures { λ r. ⌜ Plans (now (nodes .entry)) n (now (kinds .entry)) (now (vars .entry)) root (now (order .entry)) r ⌝ }
+    plan: &mut [u64],
+)
+    requires { ⌜ Laid (now nodes) n (now kinds) (now vars) root (now order) × (length (now plan) ≡ planLength) ⌝ }
+    ensures { λ _. ⌜ Plans (now (nodes .entry)) n (now (kinds .entry)) (now (vars .entry)) root (now (order .entry)) (now (plan .exit)) ⌝ }
 {
     let node_levels = values::levels::levels(nodes, n, vars, order);
     let chains = values::levels::chain(&node_levels, n);
     let first = chains.first;
     let next = chains.next;
-    let mut plan = [0u64; 1024];
-    steps(&mut plan, nodes, n, kinds, vars, &next);
-    starts(&mut plan, &first);
-    let many = clauses(&mut plan, nodes, n, root);
-    let words = scopes(&plan, nodes, n, vars, many);
-    clause_levels(&mut plan, &words, many, order);
-    places(&mut plan, order);
-    sets(&mut plan, vars, order);
+    steps(plan, nodes, n, kinds, vars, &next);
+    starts(plan, &first);
+    let many = clauses(plan, nodes, n, root);
+    let named = scopes(&plan[..], nodes, n, vars, many);
+    clause_levels(plan, &named, many, order);
+    places(plan, order);
+    sets(plan, vars, order);
     let names = values::names::names(nodes, n, vars);
-    contexts(&mut plan, &names, &words, many, order);
-    masks(&mut plan);
-    picks(&mut plan, order);
+    contexts(plan, &names, &named, many, order);
+    masks(plan);
+    picks(plan, order);
+    note(plan, SCOPES, &named[..SCOPE_ROOM]);
+    note(plan, NAMES, &names);
+    sorts(plan, kinds, vars);
     plan[NODE_COUNT] = n as u64;
     plan[CLAUSE_COUNT] = many as u64;
     plan[VARIABLE_COUNT] = order.len() as u64;
-    plan
 }

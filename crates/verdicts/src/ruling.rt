@@ -3,11 +3,12 @@ use crate::Outcome;
 use crate::Verdict;
 use crate::walking;
 use answers::Refusal;
+use rules::Parsed;
 use walks::Tally;
 ghost use mathlib.Core.Path.{_≡_};
 ghost use Prim.Native.Nat.{_≤_, _^_};
 ghost use Rattle.verdicts.specs.Verdict.{outcomeOf, refusedBy};
-ghost use Rattle.verdicts.specs.code.Judging.{Lent, RulesOn, ruledBy};
+ghost use Rattle.verdicts.specs.code.Judging.{LentBy, RulesOn, ruledBy};
 
 // A refusal has counts 0, share 255 and choice all 255.
 pub fn refused(refusal: Refusal) -> Verdict
@@ -49,27 +50,21 @@ fn ruled(tally: Tally) -> Verdict
 }
 
 // The verdict along an order, 18 where it is none.
-pub fn along(
-    t: &[u64],
-    nodes: &[u32],
-    n: usize,
-    kinds: &[u8],
-    vars: &[u32],
-    root: usize,
-    order: &[u8],
-) -> Verdict
-    requires { ⌜ Lent (now t) (now nodes) n (now kinds) (now vars) root ⌝ }
-    ensures { λ r. ⌜ RulesOn (now (t .entry)) (now (nodes .entry)) n (now (kinds .entry)) (now (vars .entry)) root (now (order .entry)) r ⌝ }
+pub fn along(t: &[u64], parsed: Parsed, order: &[u8]) -> Verdict
+    requires { ⌜ LentBy (now t) parsed ⌝ }
+    ensures { λ r. ⌜ RulesOn (now (t .entry)) parsed (now (order .entry)) r ⌝ }
 {
-    let count = vars.len();
+    let count = parsed.count;
     if order.len() != count {
         return refused(Refusal::NotAnOrder);
     }
     let all = walks::variables(order);
     let listed = &all[..count];
-    let names = values::names::names(nodes, n, vars);
+    let nodes = parsed.nodes;
+    let vars = parsed.vars;
+    let names = values::names::names(&nodes, parsed.n, &vars[..count]);
     if walks::ordered(&names, listed, count) {
-        return ruled(walking::whole(t, nodes, n, kinds, vars, root, listed));
+        return ruled(walking::whole(t, parsed, listed));
     }
     refused(Refusal::NotAnOrder)
 }

@@ -14,11 +14,12 @@ use Rattle.walks.specs.Walk.{walk, choiceBytes}
 use Rattle.walks.specs.Meaning.{Once, After, Reads}
 use Rattle.walks.specs.code.Tally.{Walked}
 use Rattle.walks.specs.code.Clauses.{Clauses, breaksAny, Levelled, ModeIs, weightOf}
-use Rattle.walks.specs.code.Summed.{Sought}
+use Rattle.walks.specs.code.Summed.{Least}
 use Rattle.walks.specs.code.Kept.{Counted}
-use Rattle.walks.specs.code.Turning.{belowAt, Turning, Descending}
+use Rattle.walks.specs.code.Turning.{belowAt, Descending}
+use Rattle.walks.proofs.ClauseLaws.{weight-mode}
 use Rattle.walks.proofs.DescentLaws.{none-breaks, descending-step, descending-end, own-counts}
-use Rattle.walks.proofs.TurningLaws.{turning-end, counted-breaks, least-breaks}
+use Rattle.walks.proofs.TurningLaws.{counted-breaks, least-breaks}
 
 module _ (s : Sets) (names : ℕ → ℕ → Bool) (law : Reads s names) (K : Clauses) (n : ℕ) (order : List ℕ) (once : Once n order) (after : After names order)
     (own : List ℕ) (once′ : Once n own) (after′ : After names own) (levels : List ℕ) (L : Levelled K own levels) where
@@ -31,23 +32,18 @@ module _ (s : Sets) (names : ℕ → ℕ → Bool) (law : Reads s names) (K : Cl
     own-breaking h =
         counted-breaks s K levels own L h p ∙ own-counts s names law (breaksAny K) n order once after (ifBreaks (breaksAny K)) own once′ after′ d same c
 
-  -- ---- one turn of the descent, where both orders begin alike up to its variable
-
-  module _ (base : List ℕ) (mode d : ℕ) (c : List ℕ) (lo : d < length order) (lo′ : d < length own) (same : take (d + 1) own ≡ take (d + 1) order)
-      (right : ModeIs K levels mode (d + 1) c) (w : ℕ) (set-is : (x : ℕ) → s (getD order d 0) c x ≡ has w x) (h : Descending s (breaksAny K) order base d c) where
-    -- what was found is the next item
-    pub turn-next : {rest breaking x : ℕ} → Sought w (belowAt s (weightOf K levels mode (d + 1)) own d c) rest breaking x → 0 < breaking
-        → Descending s (breaksAny K) order base (d + 1) (set c (getD order d 0) x)
-    turn-next {rest} {breaking} {x} p l =
-        descending-step s names law (breaksAny K) n order once after base own once′ after′ d lo same w c set-is x
-        (least-breaks s K levels own L mode d c lo′ right w x (p .least l)) h
-
-    -- something is found
-    pub turn-found : {full breaking : ℕ} → ((x : ℕ) → s (getD own d 0) c x ≡ has w x) → Turning s K levels own mode d c w 0 full breaking → 0 < breaking
-    turn-found {full} {breaking} e p =
-        let begun : take d own ≡ take d order =
-        sym (take-take d (d + 1) own (omega arith)) ∙ ap (take d) same ∙ take-take d (d + 1) order (omega arith) in
-        omega (arith, h .some, own-breaking begun (turning-end s K levels own mode d c w lo′ e p refl) right)
+  -- one turn of the descent, where both orders begin alike up to its variable: the least item below which something counts, where something
+  -- does, is the next item of the first breaking choice
+  pub turn-least : (base : List ℕ) (mode d : ℕ) (c : List ℕ) → d < length order → d < length own → take (d + 1) own ≡ take (d + 1) order → ModeIs K levels mode (d + 1) c
+      → (w : ℕ) → ((x : ℕ) → s (getD order d 0) c x ≡ has w x) → Descending s (breaksAny K) order base d c
+      → (x : ℕ) → (0 < walk 64 s (weightOf K levels mode (d + 1)) (drop d own) c → Least w (belowAt s (weightOf K levels mode (d + 1)) own d c) x)
+      → Descending s (breaksAny K) order base (d + 1) (set c (getD order d 0) x)
+  turn-least base mode d c lo lo′ same right w set-is h x least =
+      let begun : take d own ≡ take d order = sym (take-take d (d + 1) own (omega arith)) ∙ ap (take d) same ∙ take-take d (d + 1) order (omega arith) in
+      let counts = own-counts s names law (breaksAny K) n order once after (ifBreaks (breaksAny K)) own once′ after′ d begun c in
+      let weighs = weight-mode K own levels L 64 s mode (d + 1) d (omega arith) c right in
+      descending-step s names law (breaksAny K) n order once after base own once′ after′ d lo same w c set-is x
+      (least-breaks s K levels own L mode d c lo′ right w x (least (omega (arith, h .some, counts, weighs)))) h
 
   -- ---- the tally
 

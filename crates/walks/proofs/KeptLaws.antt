@@ -3,7 +3,7 @@
 use mathlib.Core.Path.{_≡_, sym, ap, _∙_}
 use mathlib.Core.Bool.{Bool}
 use mathlib.Core.List.{List}
-use Prim.Native.Nat.{ℕ, _+_, _*_, _/_, _%_, _<_}
+use Prim.Native.Nat.{ℕ, _+_, _-_, _*_, _/_, _%_, _<_}
 use native.Mathlib.Decide.{ℕ-discrete}
 use native.Mathlib.Omega.{arith}
 use lib.ListN.{length, getD, set, drop, length-set}
@@ -12,7 +12,7 @@ use Rattle.walks.specs.Choices.{Sets}
 use Rattle.walks.specs.Meaning.{After, Reads}
 use Rattle.walks.specs.code.Clauses.{Clauses}
 use Rattle.walks.specs.code.Context.{Alike, Contexts}
-use Rattle.walks.specs.code.Kept.{choiceOf, Counted, unwritten, slotAt, KeptRight, written}
+use Rattle.walks.specs.code.Kept.{choiceOf, Counted, unwritten, slotAt, KeptRight, written, Unwritten}
 use Rattle.walks.proofs.ContextLaws.{full-alike, weight-alike}
 use Rattle.walks.proofs.ReorderLaws.{after-drop}
 
@@ -20,7 +20,7 @@ use Rattle.walks.proofs.ReorderLaws.{after-drop}
 
 module _ (kept : List ℕ) (k full breaking choice : ℕ) (fits : k < 1024) (long : length kept ≡ 3072) where
   abbrev one : List ℕ
-  one = set kept (3 * k) full
+  one = set kept (3 * k) (full + 1)
 
   abbrev two : List ℕ
   two = set one (3 * k + 1) breaking
@@ -28,38 +28,45 @@ module _ (kept : List ℕ) (k full breaking choice : ℕ) (fits : k < 1024) (lon
   written-length : length (written kept k full breaking choice) ≡ 3072
   written-length = simp length-set long
 
-  full-there : getD (written kept k full breaking choice) (3 * k) 0 ≡ full
+  full-there : getD (written kept k full breaking choice) (3 * k) 0 ≡ full + 1
   full-there =
       getD-set-other two (3 * k + 2) (3 * k) choice 0 (λ e. omega arith) ∙ getD-set-other one (3 * k + 1) (3 * k) breaking 0 (λ e. omega arith)
-      ∙ getD-set-same kept (3 * k) full 0 (omega arith)
+      ∙ getD-set-same kept (3 * k) (full + 1) 0 (omega arith)
 
   breaking-there : getD (written kept k full breaking choice) (3 * k + 1) 0 ≡ breaking
   breaking-there =
       getD-set-other two (3 * k + 2) (3 * k + 1) choice 0 (λ e. omega arith)
-      ∙ getD-set-same (set kept (3 * k) full) (3 * k + 1) breaking 0 (omega (arith, length-set kept (3 * k) full))
+      ∙ getD-set-same one (3 * k + 1) breaking 0 (omega (arith, length-set kept (3 * k) (full + 1)))
 
   choice-there : getD (written kept k full breaking choice) (3 * k + 2) 0 ≡ choice
   choice-there =
-      getD-set-same (set (set kept (3 * k) full) (3 * k + 1) breaking) (3 * k + 2) choice 0
-      (omega (arith, length-set kept (3 * k) full, length-set (set kept (3 * k) full) (3 * k + 1) breaking))
+      getD-set-same two (3 * k + 2) choice 0 (omega (arith, length-set kept (3 * k) (full + 1), length-set one (3 * k + 1) breaking))
 
   -- the other slots stay
   other-stays : (j i : ℕ) → i < 3 → (j ≡ k → ⊥) → getD (written kept k full breaking choice) (3 * j + i) 0 ≡ getD kept (3 * j + i) 0
   other-stays j i l ne =
       getD-set-other two (3 * k + 2) (3 * j + i) choice 0 (λ e. ne (omega arith))
       ∙ getD-set-other one (3 * k + 1) (3 * j + i) breaking 0 (λ e. ne (omega arith))
-      ∙ getD-set-other kept (3 * k) (3 * j + i) full 0 (λ e. ne (omega arith))
+      ∙ getD-set-other kept (3 * k) (3 * j + i) (full + 1) 0 (λ e. ne (omega arith))
+
+-- one number more is that of a slot which was not written
+pub unwritten-next : (kept : List ℕ) (i : ℕ) → i < length kept → Unwritten i kept → Unwritten (i + 1) (set kept i unwritten)
+unwritten-next kept i l h j m = go (ℕ-discrete j i)
+  where
+    go : Dec (j ≡ i) → getD (set kept i unwritten) j 0 ≡ unwritten
+    go (yes e) = rw e (getD-set-same kept i unwritten 0 l)
+    go (no ne) = getD-set-other kept i j unwritten 0 ne ∙ h j (omega arith)
 
 module _ (s : Sets) (K : Clauses) (levels order contexts : List ℕ) where
   -- nothing was written
-  pub kept-none : (kept : List ℕ) → length kept ≡ 3072 → ((k : ℕ) → k < 1024 → getD kept (3 * k) 0 ≡ unwritten) → KeptRight s K levels order contexts kept
-  kept-none kept l h = record { long = l; right = λ k b ne c lc a. absurd (ne (h k b)) }
+  pub kept-none : (kept : List ℕ) → length kept ≡ 3072 → Unwritten 3072 kept → KeptRight s K levels order contexts kept
+  kept-none kept l h = record { long = l; right = λ k b ne c lc a. absurd (ne (h (3 * k) (omega arith))) }
 
   -- a hit is right
   pub kept-hit : {kept : List ℕ} → KeptRight s K levels order contexts kept → (mode d i : ℕ) → mode < 2 → d < 8 → i < 64
       → (getD kept (3 * slotAt mode d i) 0 ≡ unwritten → ⊥) → (c : List ℕ) → length c ≡ 8
       → Alike (getD contexts (8 * mode + d) 0) (choiceOf (getD kept (3 * slotAt mode d i + 2) 0)) c
-      → Counted s K levels order mode d c (getD kept (3 * slotAt mode d i) 0) (getD kept (3 * slotAt mode d i + 1) 0)
+      → Counted s K levels order mode d c (getD kept (3 * slotAt mode d i) 0 - 1) (getD kept (3 * slotAt mode d i + 1) 0)
   kept-hit {kept} r mode d i lm ld li ne c lc a =
       let k : ℕ = slotAt mode d i in
       let em : k / 512 ≡ mode = omega arith in
@@ -102,7 +109,7 @@ module _ (s : Sets) (K : Clauses) (levels order contexts : List ℕ) where
 
         go : (j : ℕ) → j < 1024 → (getD new (3 * j) 0 ≡ unwritten → ⊥) → (c : List ℕ) → length c ≡ 8
             → Alike (getD contexts (j / 64) 0) (choiceOf (getD new (3 * j + 2) 0)) c → Dec (j ≡ k)
-            → Counted s K levels order (j / 512) (j / 64 % 8) c (getD new (3 * j) 0) (getD new (3 * j + 1) 0)
+            → Counted s K levels order (j / 512) (j / 64 % 8) c (getD new (3 * j) 0 - 1) (getD new (3 * j + 1) 0)
         go j b ne c lc h (yes e) =
             let em : k / 512 ≡ mode = omega arith in
             let ed : k / 64 % 8 ≡ d = omega arith in
@@ -110,7 +117,8 @@ module _ (s : Sets) (K : Clauses) (levels order contexts : List ℕ) where
             let ef = full-there kept k full breaking choice fits (r .long) in
             let eb = breaking-there kept k full breaking choice fits (r .long) in
             let eh = choice-there kept k full breaking choice fits (r .long) in
-            rw (e, em, ed, ef, eb) (here c lc (rw ec at (rw eh at (rw e at h))))
+            let less : full + 1 - 1 ≡ full = omega arith in
+            rw (e, em, ed, ef, eb, less) (here c lc (rw ec at (rw eh at (rw e at h))))
         go j b ne c lc h (no q) =
             let zero-place : 3 * j ≡ 3 * j + 0 = omega arith in
             let ef : getD new (3 * j) 0 ≡ getD kept (3 * j) 0 =

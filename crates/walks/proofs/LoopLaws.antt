@@ -103,3 +103,7 @@ variables-step s vs i x h l e q = rw (add-one, take-suc-set vs i x l, take-suc s
 pub variables-none : [] ≡ variablesOf []
 unfolding variablesOf
 variables-none = refl
+
+-- two lists begin alike with one element more
+pub alike-next : (a b : List ℕ) (i : ℕ) → i < length a → i < length b → take i a ≡ take i b → getD a i 0 ≡ getD b i 0 → take (i + 1) a ≡ take (i + 1) b
+alike-next a b i la lb e q = rw (add-one, take-suc a i 0 la, take-suc b i 0 lb, e, q)

@@ -13,7 +13,7 @@ use Rattle.walks.specs.Choices.{Sets, each, ifBreaks, sumOver}
 use Rattle.walks.specs.Walk.{walk}
 use Rattle.walks.specs.code.Clauses.{Clauses, falseIn, breaksAny, levelIs, levelFrom, Levelled, ModeIs, weightOf, modeOf}
 use Rattle.walks.specs.code.Summed.{Summed, Least, Sought}
-use Rattle.walks.specs.code.Kept.{Counted, unwritten}
+use Rattle.walks.specs.code.Kept.{Counted}
 use Rattle.walks.specs.code.Turning.{belowAt, Turning}
 use Rattle.walks.proofs.SumLaws.{gate-le}
 use Rattle.walks.proofs.OrderLaws.{at}
@@ -31,16 +31,13 @@ module _ (s : Sets) (K : Clauses) (levels order : List ℕ) where
   drop-short : (d : ℕ) → length order ≤ 8 → length (drop d order) ≤ 8
   drop-short d l = omega (arith, length-drop d order)
 
-  -- no count is as large as what an unwritten slot has
+  -- every count fits, with one more
   pub counted-small : {mode d full breaking : ℕ} {c : List ℕ} → length order ≤ 8 → Counted s K levels order mode d c full breaking
       → (full ≤ 64 ^ 8) × (breaking ≤ 64 ^ 8)
   counted-small {mode} {d} {full} {breaking} {c} l p = (
     omega (arith, p .fulls, walk-small s each (λ k. lit≤ tt) (drop d order) c (drop-short d l)),
     omega (arith, p .breakings, walk-small s (weightOf K levels mode (d + 1)) (weight-le mode (d + 1)) (drop d order) c (drop-short d l)),
   )
-
-  pub counted-written : {mode d full breaking : ℕ} {c : List ℕ} → length order ≤ 8 → Counted s K levels order mode d c full breaking → full ≡ unwritten → ⊥
-  counted-written l p e = omega (arith, counted-small l p .0)
 
   -- ---- the loop over the items of the variable at depth d
 
@@ -87,20 +84,6 @@ module _ (s : Sets) (K : Clauses) (levels order : List ℕ) where
         pub turning-step : {rest full breaking : ℕ} → Turning s K levels order mode d c w rest full breaking → x < 64 → has rest x ≡ true
             → Turning s K levels order mode d c w (lessOf rest (itemOf x)) (full + f) (breaking + b)
         turning-step t l h = rw (item-full, item-breaking) (record { fulls = summed-step (t .fulls) x l h; breakings = summed-step (t .breakings) x l h })
-
-        -- the search for the least item that counts: the lowest left is taken where nothing was found and something is below it
-        pub seeking-step : {rest full breaking old : ℕ} → Turning s K levels order mode d c w rest full breaking
-            → Sought w (belowAt s (weightOf K levels mode (d + 1)) order d c) rest breaking old → x < 64 → has rest x ≡ true → Lowest rest x
-            → (new : ℕ) → (breaking ≡ 0 → 0 < b → new ≡ x) → (0 < breaking → new ≡ old) → (b ≡ 0 → new ≡ old)
-            → Sought w (belowAt s (weightOf K levels mode (d + 1)) order d c) (lessOf rest (itemOf x)) (breaking + b) new
-        seeking-step {rest} {full} {breaking} {old} t q l h low new hit found past = rw item-breaking (go (decLt 0 breaking) (decLt 0 b))
-          where
-            go : Dec (0 < breaking) → Dec (0 < b) → Sought w (belowAt s (weightOf K levels mode (d + 1)) order d c) (lessOf rest (itemOf x)) (breaking + belowAt s (weightOf K levels mode (d + 1)) order d c x) new
-            go (yes k) n = rw (found k) (sought-found q x l h k)
-            go (no k) (yes n) = rw (hit (omega arith) n) (sought-hit q x l h low (t .breakings .inside) (omega arith) (rw item-breaking at n))
-            go (no k) (no n) =
-                let z : b ≡ 0 = omega arith in
-                rw (past z) (sought-past q x l h (sym item-breaking ∙ z))
 
         -- the sums so far and one item more fit
         pub turning-room : d < length order → ((y : ℕ) → s (getD order d 0) c y ≡ has w y) → length order ≤ 8

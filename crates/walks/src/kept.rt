@@ -1,13 +1,17 @@
 // A choice in one word, a byte for each variable, and counts that are kept with the choice that they were counted under.
 ghost use mathlib.Core.Path.{_≡_};
-ghost use Prim.Native.Nat.{_+_, _*_, _<_};
+ghost use Prim.Native.Nat.{_+_, _-_, _*_, _^_, _<_, _≤_};
 ghost use lib.ListN.{length, getD, set};
-ghost use Rattle.walks.specs.code.Kept.{choiceOf, Masks, written, Hit};
+ghost use Rattle.walks.specs.code.Kept.{choiceOf, Masks, written, Hit, Unwritten};
 
-// The word of no choice: each byte is 255. A slot whose full count is this was not written: no count is as large.
+// The word of no choice: each byte is 255.
 pub const NOTHING: u64 = 18446744073709551615;
 
-const UNWRITTEN: u64 = NOTHING;
+// What is kept of a full count is one more than it, so that a slot of zeros is one that was not written.
+const UNWRITTEN: u64 = 0;
+
+// How many numbers the slots have: 64 slots for each of 8 depths and 2 modes.
+pub const ROOM: usize = 3072;
 
 const BITS: usize = 8;
 
@@ -65,24 +69,35 @@ pub fn hit(kept: &[u64], slot: usize, key: u64) -> bool
     kept[at + 2] == key
 }
 
-// What the slot has.
+// What the slot has, which was written.
 pub fn taken(kept: &[u64], slot: usize) -> Counts
-    requires { ⌜ (slot < 1024) × (length (now kept) ≡ 3072) ⌝ }
-    ensures { λ r. ⌜ (r .full ≡ getD (now (kept .entry)) (3 * slot) 0) × (r .breaking ≡ getD (now (kept .entry)) (3 * slot + 1) 0) ⌝ }
+    requires { ⌜ (slot < 1024) × (length (now kept) ≡ 3072) × (0 < getD (now kept) (3 * slot) 0) ⌝ }
+    ensures { λ r. ⌜ (r .full ≡ getD (now (kept .entry)) (3 * slot) 0 - 1) × (r .breaking ≡ getD (now (kept .entry)) (3 * slot + 1) 0) ⌝ }
 {
     let at = ENTRY * slot;
-    let full = kept[at];
+    let full = kept[at] - 1;
     let breaking = kept[at + 1];
     Counts { full, breaking }
 }
 
 // An entry is written.
 pub fn keep(kept: &mut [u64], slot: usize, counts: Counts, key: u64)
-    requires { ⌜ (slot < 1024) × (length (now kept) ≡ 3072) ⌝ }
+    requires { ⌜ (slot < 1024) × (length (now kept) ≡ 3072) × (counts .full ≤ 64 ^ 8) ⌝ }
     ensures { λ _. ⌜ now (kept .exit) ≡ written (now (kept .entry)) slot (counts .full) (counts .breaking) key ⌝ }
 {
     let at = ENTRY * slot;
-    kept[at] = counts.full;
+    kept[at] = counts.full + 1;
     kept[at + 1] = counts.breaking;
     kept[at + 2] = key;
+}
+
+// Nothing is kept any more.
+pub fn clear(kept: &mut [u64])
+    ensures { λ _. ⌜ (length (now (kept .exit)) ≡ length (now (kept .entry))) × Unwritten (length (now (kept .entry))) (now (kept .exit)) ⌝ }
+{
+    let mut i = 0;
+    while i < kept.len() {
+        kept[i] = UNWRITTEN;
+        i += 1;
+    }
 }

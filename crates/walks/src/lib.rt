@@ -1,6 +1,7 @@
 // The walk over choices: its tally, the test of an order, the share.
 // Nothing here knows tables or rules: what a variable's set names is a word of variables.
 ghost use mathlib.Core.Path.{_≡_};
+ghost use mathlib.Core.Bool.{true};
 ghost use Prim.Native.Nat.{ℕ, _<_, _≤_, _^_};
 ghost use lib.ListN.{length, getD, drop, take};
 ghost use Rattle.walks.specs.Order.{count, isSmall, isOnce, isFree, isAfter, isOrder, namedBy, variableOf, variablesOf};
@@ -130,6 +131,21 @@ pub fn ordered(names: &[u64], order: &[u8], n: usize) -> bool
         return false;
     }
     false
+}
+
+// Whether two orders begin with the same k variables.
+pub fn begins_alike(a: &[u8], b: &[u8], k: usize) -> bool
+    requires { ⌜ (k ≤ length (now a)) × (k ≤ length (now b)) ⌝ }
+    ensures { λ r. ⌜ (r ≡ true → take k (now (a .entry)) ≡ take k (now (b .entry))) ⌝ }
+{
+    let mut i = 0;
+    while i < k {
+        if a[i] != b[i] {
+            return false;
+        }
+        i += 1;
+    }
+    true
 }
 
 // 100 × breaking / full to the nearest whole, a half upward; 255 where there is none.

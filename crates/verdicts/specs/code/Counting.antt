@@ -1,4 +1,4 @@
--- What counting by a plan asks and shows: the counts below a choice, the least item below which something breaks, and the whole.
+-- What counting by a plan asks and shows: the counts below a choice, the least item below which something breaks.
 -- Internal: contracts of entry points do not speak of it. Assumes nothing.
 use mathlib.Core.Path.{_≡_}
 use mathlib.Core.Bool.{Bool, not}
@@ -7,15 +7,12 @@ use Prim.Native.Nat.{ℕ, _+_, _*_, _-_, _<_, _≤_}
 use lib.ListN.{length, getD, drop}
 use Rattle.tables.specs.Tables.{Tables}
 use Rattle.syntax.specs.Rule.{Rule, ruleVars}
-use Rattle.walks.specs.Choices.{nothingChosen}
 use Rattle.walks.specs.Walk.{walk}
-use Rattle.walks.specs.declared.Tally.{Tally}
-use Rattle.walks.specs.code.Clauses.{breaksAny, falseIn, levelIs, ModeIs, weightOf, modeOf}
+use Rattle.walks.specs.code.Clauses.{falseIn, levelIs, ModeIs, weightOf, modeOf}
 use Rattle.walks.specs.code.Kept.{choiceOf, Counted}
 use Rattle.walks.specs.code.Summed.{Least}
-use Rattle.walks.specs.code.Tally.{Walked}
-use Rattle.walks.specs.code.Turning.{Turning, belowAt, Descending}
-use Rattle.values.specs.Sets.{inSet, breaks}
+use Rattle.walks.specs.code.Turning.{Turning, belowAt}
+use Rattle.values.specs.Sets.{inSet}
 use Rattle.values.specs.code.Plan.{planRoom, levelsFrom}
 use Rattle.values.proofs.ClausesLaws.{clausesOf}
 use Rattle.verdicts.specs.code.Planning.{variablesAt, setsFrom, Layout, Planned, Caches, Keeps}
@@ -50,6 +47,13 @@ pub record Enters (ts plan : List ℕ) (mode e choice : ℕ) (old new : List ℕ
   pub modes : r < 2
   pub room : length new ≡ length old
   pub goes : (y : Layout) (T : Tables) (ρ : Rule) → Planned ts plan y T ρ → Caches ts y choice old e → Caches ts y choice new (e + 1) × Entered plan T ρ mode e choice r
+
+-- So were the levels up to d, from the first on: r is the mode.
+pub record EntersTo (ts plan : List ℕ) (d choice : ℕ) (old new : List ℕ) (r : ℕ) : Type 0 where
+  pub modes : r < 2
+  pub room : length new ≡ length old
+  pub goes : (y : Layout) (T : Tables) (ρ : Rule) → Planned ts plan y T ρ
+      → Caches ts y choice new (d + 1) × ModeIs (clausesOf T ρ) (drop levelsFrom plan) r (d + 1) (choiceOf choice)
 
 -- The plan holds something, along which `left` variables are still to be chosen; the cache and what is kept go with it.
 pub record Standing (ts plan : List ℕ) (mode left choice : ℕ) (cache kept : List ℕ) : Type 0 where
@@ -89,26 +93,3 @@ Finds ts plan mode left choice cache kept cache′ kept′ r =
 -- The word of no choice.
 abbrev pub noChoice : ℕ
 noChoice = 18446744073709551615
-
--- The first breaking choice has the first d of its items in the choice, and the mode is right.
-pub record Nearer (plan : List ℕ) (y : Layout) (T : Tables) (ρ : Rule) (mode d choice : ℕ) : Type 0 where
-  pub modes : ModeIs (clausesOf T ρ) (drop levelsFrom plan) mode (d + 1) (choiceOf choice)
-  pub descending : Descending (inSet T (ruleVars [] ρ)) (breaksAny (clausesOf T ρ)) (y .order) (choiceOf noChoice) d (choiceOf choice)
-
--- r is the first breaking choice, where there is one.
-abbrev pub Descends : List ℕ → List ℕ → ℕ → List ℕ → List ℕ → ℕ → Type 0
-Descends ts plan mode cache kept r =
-    (y : Layout) (T : Tables) (ρ : Rule) → Planned ts plan y T ρ → Caches ts y noChoice cache 1 → Keeps plan y T ρ kept → Nearer plan y T ρ mode 0 noChoice
-    → Descending (inSet T (ruleVars [] ρ)) (breaksAny (clausesOf T ρ)) (y .order) (choiceOf noChoice) (length (y .order)) (choiceOf r)
-
--- The plan holds something.
-pub record Ready (ts plan : List ℕ) : Type 0 where
-  pub layout : Layout
-  pub tables : Tables
-  pub rule : Rule
-  pub planned : Planned ts plan layout tables rule
-
--- Whatever it holds, r is what the walk along the order gives, from nothing chosen.
-abbrev pub WalksBy : List ℕ → List ℕ → Tally → Type 0
-WalksBy ts plan r =
-    (y : Layout) (T : Tables) (ρ : Rule) → Planned ts plan y T ρ → Walked (inSet T (ruleVars [] ρ)) (breaks T (ruleVars [] ρ) ρ) (y .order) nothingChosen r

@@ -2,8 +2,8 @@
 -- Internal: contracts of entry points do not speak of it. Assumes nothing.
 use mathlib.Core.Path.{_≡_}
 use mathlib.Core.List.{List, []}
-use Prim.Native.Nat.{ℕ, _-_, _<_, _≤_}
-use lib.ListN.{length, getD, drop}
+use Prim.Native.Nat.{ℕ, _<_, _≤_}
+use lib.ListN.{length, getD, take}
 use Rattle.tables.specs.Tables.{Tables}
 use Rattle.tables.specs.Flat.{flat}
 use Rattle.tables.specs.Accepted.{Sound}
@@ -17,11 +17,10 @@ use Rattle.rules.specs.code.Parsed.{Parses}
 use Rattle.walks.specs.declared.Tally.{Tally}
 use Rattle.walks.specs.Meaning.{After}
 use Rattle.walks.specs.code.Among.{Within}
-use Rattle.walks.specs.code.Tally.{Walked}
 use Rattle.walks.specs.Share.{shareOf}
 use Rattle.verdicts.specs.Verdict.{outcomeOf, orderVerdict, acceptedVerdict, turnVerdict}
 use Rattle.verdicts.specs.declared.Verdict.{Verdict}
-use Rattle.values.specs.Sets.{itemsOf, inSet, names, breaks}
+use Rattle.values.specs.Sets.{itemsOf, inSet, names}
 use Rattle.values.specs.code.Nodes.{Evaluable, Variables, World}
 
 -- Under a full choice the rule's variables have items of their sorts.
@@ -53,10 +52,6 @@ pub record OrderList (vs order : List ℕ) : Type 0 where
 abbrev pub InTurn : List ℕ → ℕ → List ℕ → List ℕ → Type 0
 InTurn ns n vs order = (σ : Choices) → Variables ns n vs σ → After (names σ) order
 
--- r is what the walk along the last m variables of the order gives, from the choice c.
-abbrev pub WalkedFrom : Tables → Rule → List ℕ → ℕ → List ℕ → Tally → Type 0
-WalkedFrom T ρ order m c r = Walked (inSet T (ruleVars [] ρ)) (breaks T (ruleVars [] ρ) ρ) (drop (length order - m) order) c r
-
 -- The verdict of a tally.
 abbrev pub ruledBy : Tally → Verdict
 ruledBy a = record {
@@ -86,14 +81,20 @@ pub record SomeRule (p : Parsed) : Type 0 where
   pub text : Bytes
   pub parses : ParsedFrom text p
 
--- What is shown whatever tables and rule the slices hold: r is what the walk along the last m variables of the order gives; the verdict
--- r is that of the order.
-module _ (ts ns : List ℕ) (n : ℕ) (ks vs : List ℕ) (root : ℕ) (order : List ℕ) where
-  abbrev pub Walks : ℕ → List ℕ → Tally → Type 0
-  Walks m c r = (T : Tables) (ρ : Rule) → Case ts ns n ks vs root T ρ → WalkedFrom T ρ order m c r
+-- The nodes of a parsed rule's variables; what its slices hold; the slices lent.
+abbrev pub varsOf : Parsed → List ℕ
+varsOf p = take (p .count) (p .vars)
 
-  abbrev pub RulesOn : Verdict → Type 0
-  RulesOn r = (T : Tables) (ρ : Rule) → Case ts ns n ks vs root T ρ → r ≡ orderVerdict T ρ order
+abbrev pub CaseBy : List ℕ → Parsed → Tables → Rule → Type 0
+CaseBy ts p T ρ = Case ts (p .nodes) (p .n) (p .kinds) (varsOf p) (p .root) T ρ
+
+pub record LentBy (ts : List ℕ) (p : Parsed) : Type 0 where
+  pub lent : Lent ts (p .nodes) (p .n) (p .kinds) (varsOf p) (p .root)
+  pub few : p .count ≤ 8
+
+-- Whatever tables and rule they hold, the verdict r is that of the order.
+abbrev pub RulesOn : List ℕ → Parsed → List ℕ → Verdict → Type 0
+RulesOn ts p order r = (T : Tables) (ρ : Rule) → CaseBy ts p T ρ → r ≡ orderVerdict T ρ order
 
 -- Whatever tables the words hold, the verdict r is that of the rule along the order; along 1, 2, ..; of a parsed rule, whatever text it is of.
 abbrev pub JudgesOn : List ℕ → Bytes → Bytes → Verdict → Type 0

@@ -42,6 +42,10 @@ picksFrom = 832
 abbrev pub variablesAt : ℕ
 variablesAt = 850
 
+-- Where the words stand that the search for an order goes by. Nothing is shown of them.
+abbrev pub scopesFrom : ℕ
+scopesFrom = 880
+
 -- What the plan was made of: a rule's nodes, kinds and variables, an order of these, and the levels that it gives the nodes.
 pub record Layout : Type 0 where
   pub nodes : List ℕ
@@ -91,6 +95,11 @@ pub record Filled (old new : List ℕ) (at many : ℕ) (P : ℕ → ℕ → Type
   pub long : length new ≡ length old
   pub inside : (i : ℕ) → i < many → P i (getD new (at + i) 0)
   pub outside : (j : ℕ) → (at ≤ j → at + many ≤ j) → getD new j 0 ≡ getD old j 0
+
+-- Nothing below those words has changed.
+pub record Noted (old new : List ℕ) : Type 0 where
+  pub long : length new ≡ length old
+  pub below : (j : ℕ) → j < scopesFrom → getD new j 0 ≡ getD old j 0
 
 -- The nodes that a plan can be made of, each of which a chain leaves for one of the first n, or for n.
 pub record Plannable (ns : List ℕ) (n : ℕ) (ks vs next : List ℕ) : Type 0 where

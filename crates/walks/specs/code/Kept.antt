@@ -3,7 +3,7 @@
 use mathlib.Core.Path.{_≡_}
 use mathlib.Core.Bool.{Bool, true}
 use mathlib.Core.List.{List, [], _∷_}
-use Prim.Native.Nat.{ℕ, zero, suc, _+_, _*_, _/_, _%_, _^_, _<_}
+use Prim.Native.Nat.{ℕ, zero, suc, _+_, _-_, _*_, _/_, _%_, _^_, _<_}
 use lib.ListN.{length, getD, set, drop}
 use Rattle.words.specs.Words.{has, joinOf, lessOf}
 use Rattle.walks.specs.Choices.{Sets, each}
@@ -35,21 +35,25 @@ pub record Counted (s : Sets) (K : Clauses) (levels order : List ℕ) (mode d : 
   pub fulls : full ≡ walk 64 s each (drop d order) c
   pub breakings : breaking ≡ walk 64 s (weightOf K levels mode (d + 1)) (drop d order) c
 
--- A slot that was not written has this for its full count: no count is as large.
+-- What is kept of a full count is one more than it, so that a slot of zeros is one that was not written.
 abbrev pub unwritten : ℕ
-unwritten = 18446744073709551615
+unwritten = 0
 
 -- 64 slots for each of 8 depths and 2 modes.
 abbrev pub slotAt : ℕ → ℕ → ℕ → ℕ
 slotAt mode d i = 64 * (8 * mode + d) + i
 
--- Three numbers for each slot: full, breaking, and the choice as one word. What is written is right for every choice that agrees with the
+-- Three numbers for each slot: full and 1, breaking, and the choice as one word. What is written is right for every choice that agrees with the
 -- slot's own at the context.
 pub record KeptRight (s : Sets) (K : Clauses) (levels order contexts kept : List ℕ) : Type 0 where
   pub long : length kept ≡ 3072
   pub right : (k : ℕ) → k < 1024 → (getD kept (3 * k) 0 ≡ unwritten → ⊥)
       → (c : List ℕ) → length c ≡ 8 → Alike (getD contexts (k / 64) 0) (choiceOf (getD kept (3 * k + 2) 0)) c
-      → Counted s K levels order (k / 512) (k / 64 % 8) c (getD kept (3 * k) 0) (getD kept (3 * k + 1) 0)
+      → Counted s K levels order (k / 512) (k / 64 % 8) c (getD kept (3 * k) 0 - 1) (getD kept (3 * k + 1) 0)
+
+-- The first n numbers are those of slots that were not written.
+abbrev pub Unwritten : ℕ → List ℕ → Type 0
+Unwritten n kept = (j : ℕ) → j < n → getD kept j 0 ≡ unwritten
 
 -- r says only of a written entry, with that key, that there is one.
 abbrev pub Hit : List ℕ → ℕ → ℕ → Bool → Type 0
@@ -57,4 +61,4 @@ Hit kept k key r = r ≡ true → (getD kept (3 * k) 0 ≡ unwritten → ⊥) ×
 
 -- An entry is written.
 abbrev pub written : List ℕ → ℕ → ℕ → ℕ → ℕ → List ℕ
-written kept k full breaking choice = set (set (set kept (3 * k) full) (3 * k + 1) breaking) (3 * k + 2) choice
+written kept k full breaking choice = set (set (set kept (3 * k) (full + 1)) (3 * k + 1) breaking) (3 * k + 2) choice

@@ -10,7 +10,7 @@ use Rattle.words.proofs.LoopLaws.{lowest-item, less-smaller}
 use Rattle.walks.specs.code.Kept.{choiceOf}
 use Rattle.verdicts.specs.code.Planning.{setsFrom, Layout, Planned, Caches, Keeps}
 use Rattle.verdicts.specs.code.Counting.{depthOf, TurningAt}
-use Rattle.verdicts.proofs.CountingLaws.{plan-runs, set-small, set-in, caches-on, below-whole, below-last, below-hit, below-write, items-start, items-next, items-room, items-end, turned}
+use Rattle.verdicts.proofs.CountingLaws.{plan-runs, set-small, set-in, caches-on, counted-fits, below-whole, below-last, below-hit, below-write, items-start, items-next, items-room, items-end, turned}
 use Prim.Native.Nat.{ℕ, _<_, _+_, _-_, _*_, _^_}
 use borrow.Fn.Kinds.{In}
 use borrow.Fn.PlainCycle.{Measures, is, falls, and}
@@ -196,7 +196,7 @@ below-taken-requires t c κs =
     let at-slot = c .before .before .before .before .before .before in
     let at-if1 = at-slot .before .before .before in
     let at-start = at-if1 .before .before .before .before .before in
-    (omega (arith, at-slot .slot .ensures .is, at-slot .slot .ensures .small, at-start .pre .1 .modes, at-start .pre .1 .planned .turns .many, at-start .pre .1 .planned .turns .short, at-start .pre .1 .within, at-if1 .if1 .left), at-start .pre .1 .keeps .long)
+    (omega (arith, at-slot .slot .ensures .is, at-slot .slot .ensures .small, at-start .pre .1 .modes, at-start .pre .1 .planned .turns .many, at-start .pre .1 .planned .turns .short, at-start .pre .1 .within, at-if1 .if1 .left), at-start .pre .1 .keeps .long, omega (arith, c .before .before .hit .ensures (c .before .if3 .taken) .0))
 
 below-same-length : (t : ℕ) → below-lts.Need-same-length (called-below t) (below-at t) below.Post
 below-same-length t c = refl
@@ -230,7 +230,8 @@ below-keep-requires t c κs =
     let at-slot = c .before .before .before .before .before .before .before .before .before .before .before .before .before in
     let at-if1 = at-slot .before .before .before in
     let at-start = at-if1 .before .before .before .before .before in
-    (omega (arith, at-slot .slot .ensures .is, at-slot .slot .ensures .small, at-start .pre .1 .modes, at-start .pre .1 .planned .turns .many, at-start .pre .1 .planned .turns .short, at-start .pre .1 .within, at-if1 .if1 .left), c .before .before .before .before .before .items .ensures .slots ∙ at-start .pre .1 .keeps .long)
+    let Q = at-start .pre .1 in
+    (omega (arith, at-slot .slot .ensures .is, at-slot .slot .ensures .small, at-start .pre .1 .modes, at-start .pre .1 .planned .turns .many, at-start .pre .1 .planned .turns .short, at-start .pre .1 .within, at-if1 .if1 .left), c .before .before .before .before .before .items .ensures .slots ∙ at-start .pre .1 .keeps .long, counted-fits (Q .planned) (at-start .args .choice) (c .before .before .before .before .before .items .ensures .goes (Q .layout) (Q .tables) (Q .rule) (Q .planned) (Q .stored) (Q .keeps) .0))
 
 below-same-length-2 : (t : ℕ) → below-lts.Need-same-length-2 (called-below t) (below-at t) below.Post
 below-same-length-2 t c =

@@ -4,76 +4,147 @@ use mathlib.Core.Path.{_≡_, sym, ap, _∙_}
 use mathlib.Core.List.{List, []}
 use Prim.Native.Nat.{ℕ}
 use native.Mathlib.Omega.{arith}
+use borrow.Author.Needs.{needs}
 use lib.ListN.{length, take}
 use Rattle.syntax.specs.Rule.{ruleVars}
 use Rattle.walks.specs.Order.{variablesOf, namedBy}
-use Rattle.walks.proofs.OrderLaws.{order-small, length-variables-of}
-use Rattle.verdicts.proofs.RulingLaws.{other-length, no-order, counts-fit, order-ruled, in-turn}
-use borrow.Author.Needs.{needs}
+use Rattle.walks.proofs.OrderLaws.{length-variables-of}
+use Rattle.verdicts.proofs.RulingLaws.{other-length, no-order, counts-fit, order-ruled}
+use Rattle.verdicts.proofs.WalkingLaws.{vars-long, tested}
 use Rattle.verdicts.proofs.ruling.along.Statement.{statement}
 use Rattle.verdicts.proofs.ruling.along.Tie as tie
+use Rattle.verdicts.proofs.ruling.along.Reads as reads
+use Rattle.verdicts.proofs.ruling.along.Lts as lts
+use Rattle.values.proofs.names.names.Reads as names-reads
+use Rattle.verdicts.proofs.ruling.refused.Reads as refused-reads
+use Rattle.verdicts.proofs.ruling.ruled.Reads as ruled-reads
+use Rattle.verdicts.proofs.walking.whole.Reads as whole-reads
+use Rattle.walks.proofs.ordered.Reads as ordered-reads
+use Rattle.walks.proofs.variables.Reads as variables-reads
+
+-- The variables have room by their type.
+vars-room : (c : tie.Start) → length (c .args .parsed .vars) ≡ 8
+vars-room c = search needs
 
 -- The list that is tried is that of the variables of the order.
-same-list : (c : tie.After-all) → take (length (c .before .before .before .before .before .before .before .before .args .vars .now)) (c .before .variables .result) ≡ variablesOf (c .before .before .before .before .before .before .before .before .args .order .now)
-same-list c = rw (c .before .before .if1 .left) at (c .before .variables .ensures)
+same-list : (c : tie.After-variables) → take (c .before .before .before .before .args .parsed .count) (c .variables .result) ≡ variablesOf (c .before .before .before .before .args .order .now)
+same-list c = rw (c .before .if1 .left) at (c .variables .ensures)
 
+-- src/ruling.rt:59:9
+refused-requires : tie.Need-refused-requires
+refused-requires c κs = search needs
+
+-- src/ruling.rt:59:9
 returns : tie.Need-returns
 returns c =
-    let at-start = c .before .before .before .before .before .before .before in
-    λ T ρ C. c .refused .ensures ∙ other-length C (at-start .pre .few) (at-start .args .order .now) (c .before .if1 .taken)
+    let at-start = c .before .before .before .before in
+    λ T ρ C. c .refused .ensures ∙ other-length C (at-start .pre .lent .few) (at-start .args .order .now) (λ e. c .before .if1 .taken (e ∙ vars-long (at-start .pre) (vars-room at-start)))
 
+-- src/ruling.rt:61:15
+variables-requires : tie.Need-variables-requires
+variables-requires c κs =
+    let at-start = c .before .before .before in
+    omega (arith, c .if1 .left, at-start .pre .few)
+
+-- src/ruling.rt:62:18
+array-share-prefix-all : tie.Need-array-share-prefix-all
+array-share-prefix-all c = search needs
+
+-- src/ruling.rt:62:9
 slice-aggregate-listed : tie.Need-slice-aggregate-listed
-slice-aggregate-listed c = let S = c .before .before .before .before .before .before .before .before in sym (ap length (same-list c) ∙ length-variables-of (S .args .order .now) ∙ c .before .before .if1 .left)
+slice-aggregate-listed c =
+    let at-if1 = c .before .before in
+    let at-start = at-if1 .before .before .before in
+    sym (ap length (same-list (c .before)) ∙ length-variables-of (at-start .args .order .now) ∙ at-if1 .if1 .left)
 
+-- src/ruling.rt:65:38
+slice-aggregate-names : tie.Need-slice-aggregate-names
+slice-aggregate-names c = search needs
+
+-- src/ruling.rt:65:56
+array-share-prefix-vars : tie.Need-array-share-prefix-vars
+array-share-prefix-vars c =
+    let at-start = c .before .before .before .before .before .before .before .before in
+    omega (arith, at-start .pre .few, vars-room at-start)
+
+-- src/ruling.rt:65:56
+slice-aggregate-names-2 : tie.Need-slice-aggregate-names-2
+slice-aggregate-names-2 c =
+    let at-start = c .before .before .before .before .before .before .before .before .before in
+    sym (vars-long (at-start .pre) (vars-room at-start))
+
+-- src/ruling.rt:65:17
+names-requires : tie.Need-names-requires
+names-requires c κs = search needs
+
+-- src/ruling.rt:66:23
+slice-aggregate-ordered : tie.Need-slice-aggregate-ordered
+slice-aggregate-ordered c = search needs
+
+-- src/ruling.rt:66:8
+ordered-requires : tie.Need-ordered-requires
+ordered-requires c κs =
+    let at-start = c .before .before .before .before .before .before .before .before .before .before .before in
+    (search needs, at-start .pre .few)
+
+-- src/ruling.rt:67:22
 whole-requires : tie.Need-whole-requires
 whole-requires c κs =
-    let at-if1 = c .before .before .before .before .before .before in
-    let S = c .before .before .before .before .before .before .before .before .before .before .before .before in
-    let n : ℕ = length (S .args .vars .now) in
-    let listed : List ℕ = take n (c .before .before .before .before .before .variables .result) in
-    let same = same-list (c .before .before .before .before) in
-    let long : length listed ≡ n = ap length same ∙ length-variables-of (S .args .order .now) ∙ at-if1 .if1 .left in
-    let ok = sym (c .before .ordered .ensures) ∙ c .if2 .taken in
-    (S .pre, record { short = omega (arith, long, S .pre .few); small = order-small (namedBy (c .before .before .before .names .result)) n listed ok }, in-turn (c .before .before .before .names .result) listed (S .pre .few) (c .before .before .before .names .ensures) ok)
+    let at-names = c .before .before .before in
+    let at-variables = at-names .before .before .before .before .before .before in
+    let at-start = at-variables .before .before .before .before in
+    (at-start .pre, tested (at-start .pre) (at-names .names .result) (take (at-start .args .parsed .count) (at-variables .variables .result)) (at-names .names .ensures) (rw (vars-long (at-start .pre) (vars-room at-start)) (sym (c .before .ordered .ensures) ∙ c .if2 .taken)))
 
+-- src/ruling.rt:67:9
 ruled-requires : tie.Need-ruled-requires
 ruled-requires c κs =
-    let S = c .before .before .before .before .before .before .before .before .before .before .before .before .before in
-    let L = S .pre in
-    counts-fit (L .isCase) (L .few) (c .before .before .before .before .names .result) (S .args .order .now) _ (c .before .before .ordered .result)
-    (c .before .before .before .before .names .ensures (ruleVars [] (L .rule)) (L .isCase .world .variables)) (same-list (c .before .before .before .before .before)) (c .before .before .ordered .ensures) (c .before .if2 .taken) (c .whole .result)
-    (c .whole .ensures (L .tables) (L .rule) (L .isCase))
+    let at-ordered = c .before .before in
+    let at-names = at-ordered .before .before in
+    let at-variables = at-names .before .before .before .before .before .before in
+    let at-start = at-variables .before .before .before .before in
+    let L = at-start .pre .lent in
+    counts-fit (L .isCase) (L .few) (at-names .names .result) (at-start .args .order .now) _ (at-ordered .ordered .result) (at-names .names .ensures (ruleVars [] (L .rule)) (L .isCase .world .variables)) (same-list at-variables) (rw (vars-long (at-start .pre) (vars-room at-start)) (at-ordered .ordered .ensures)) (c .before .if2 .taken) (c .whole .result) (c .whole .ensures (L .tables) (L .rule) (L .isCase))
 
+-- src/ruling.rt:67:9
 returns-2 : tie.Need-returns-2
 returns-2 c =
-    let at-6 = c .before .before .before .before .before .before in
-    λ T ρ C.
-    let S = c .before .before .before .before .before .before .before .before .before .before .before .before .before .before in
-    c .ruled .ensures
-    ∙ order-ruled C (S .pre .few) (c .before .before .before .before .before .names .result) (S .args .order .now) _ (c .before .before .before .ordered .result)
-    (c .before .before .before .before .before .names .ensures (ruleVars [] ρ) (C .world .variables)) (same-list (at-6)) (c .before .before .before .ordered .ensures) (c .before .before .if2 .taken) (c .before .whole .result) (c .before .whole .ensures T ρ C)
+    let at-if2 = c .before .before in
+    let at-ordered = at-if2 .before in
+    let at-names = at-ordered .before .before in
+    let at-variables = at-names .before .before .before .before .before .before in
+    let at-start = at-variables .before .before .before .before in
+    λ T ρ C. c .ruled .ensures ∙ order-ruled C (at-start .pre .lent .few) (at-names .names .result) (at-start .args .order .now) _ (at-ordered .ordered .result) (at-names .names .ensures (ruleVars [] ρ) (C .world .variables)) (same-list at-variables) (rw (vars-long (at-start .pre) (vars-room at-start)) (at-ordered .ordered .ensures)) (at-if2 .if2 .taken) (c .before .whole .result) (c .before .whole .ensures T ρ C)
 
+-- src/ruling.rt:69:5
+refused-requires-2 : tie.Need-refused-requires-2
+refused-requires-2 c κs = search needs
+
+-- src/ruling.rt:53:1
 returns-3 : tie.Need-returns-3
-returns-3 c = λ T ρ C.
-    let S = c .before .before .before .before .before .before .before .before .before .before .before .before .before in
-    c .refused2 .ensures
-    ∙ no-order C (S .pre .few) (c .before .before .before .before .names .result) (S .args .order .now) _ (c .before .before .ordered .result)
-    (c .before .before .before .before .names .ensures (ruleVars [] ρ) (C .world .variables)) (same-list (c .before .before .before .before .before)) (c .before .before .ordered .ensures) (c .before .if2 .left)
+returns-3 c =
+    let at-ordered = c .before .before in
+    let at-names = at-ordered .before .before in
+    let at-variables = at-names .before .before .before .before .before .before in
+    let at-start = at-variables .before .before .before .before in
+    λ T ρ C. c .refused2 .ensures ∙ no-order C (at-start .pre .lent .few) (at-names .names .result) (at-start .args .order .now) _ (at-ordered .ordered .result) (at-names .names .ensures (ruleVars [] ρ) (C .world .variables)) (same-list at-variables) (rw (vars-long (at-start .pre) (vars-room at-start)) (at-ordered .ordered .ensures)) (c .before .if2 .left)
 
 pub along-spec : {M : Type 1} → statement M
 along-spec =
     tie.close
     (tie.spec
-    (λ c κs. search needs)
+    refused-requires
     returns
-    (λ c κs. search needs)
-    (λ c. search needs)
+    variables-requires
+    array-share-prefix-all
     slice-aggregate-listed
-    (λ c κs. search needs)
-    (λ c. search needs)
-    (λ c κs. search needs)
+    slice-aggregate-names
+    array-share-prefix-vars
+    slice-aggregate-names-2
+    names-requires
+    slice-aggregate-ordered
+    ordered-requires
     whole-requires
     ruled-requires
     returns-2
-    (λ c κs. search needs)
+    refused-requires-2
     returns-3)

@@ -21,6 +21,7 @@ keep-spec =
     (λ c. search needs)
     (λ c. search needs)
     (λ c. search needs)
+    (λ c. search needs)
     slice-write-kept-2
     (λ c. search needs)
     (λ c. search needs)
