@@ -43,7 +43,7 @@ const WORST: u64 = 17592186044416;
 // No variable has more items.
 const WIDEST: u64 = 64;
 
-// An order that costs no more is not worth a search; a search tries one for so many steps that the caller's order costs, and no more than so many.
+// An order that costs no more is not worth a search. A search has one try for so many steps of the caller's order, and so many at most.
 const CHEAP: u64 = 4096;
 
 const STEPS: u64 = 64;
@@ -241,29 +241,33 @@ fn cheapest(desk: &[u64]) -> [u8; 8]
     own
 }
 
-// Tries others than the caller's order, whose cost is on the desk, where that is worth it.
-fn improve(plan: &[u64], desk: &mut [u64], n: usize, begun: usize)
-    requires { ⌜ (length (now plan) ≡ planLength) × (length (now desk) ≡ deskLength) × (n ≤ choicesLimit) ⌝ }
+// The caller's order on the desk, and what it costs.
+fn reckon(t: &[u64], plan: &[u64], order: &[u8], begun: usize, desk: &mut [u64]) -> u64
+    requires { ⌜ Whole (now t) × (length (now plan) ≡ planLength) × (length (now order) ≤ choicesLimit) × (begun ≤ choicesLimit) × (length (now desk) ≡ deskLength) ⌝ }
     ensures { λ _. ⌜ length (now (desk .exit)) ≡ deskLength ⌝ }
 {
-    let cost = desk[COST];
-    if cost <= CHEAP {
-        return;
-    }
-    desk[TRIES] = capped(cost / STEPS, TRIES_LIMIT);
-    seek(plan, desk, n, begun, 0, 0, 0);
+    lay_out(t, plan, order, begun, desk);
+    desk[COST] = WORST;
+    desk[TRIES] = TRIES_LIMIT;
+    seek(plan, desk, order.len(), order.len(), 0, 0, 0);
+    desk[COST]
+}
+
+// Whether the caller's order costs enough that a search for another may pay.
+pub fn worth(t: &[u64], plan: &[u64], order: &[u8]) -> bool
+    requires { ⌜ Whole (now t) × (length (now plan) ≡ planLength) × (length (now order) ≤ choicesLimit) ⌝ }
+{
+    let mut desk = [0u64; DESK];
+    CHEAP < reckon(t, plan, order, 0, &mut desk)
 }
 
 // An order that begins with the first `begun` variables of the caller's, and costs no more than it does as far as the search can tell.
 pub fn own(t: &[u64], plan: &[u64], order: &[u8], begun: usize) -> [u8; 8]
     requires { ⌜ Whole (now t) × (length (now plan) ≡ planLength) × (length (now order) ≤ choicesLimit) × (begun ≤ choicesLimit) ⌝ }
 {
-    let n = order.len();
     let mut desk = [0u64; DESK];
-    lay_out(t, plan, order, begun, &mut desk);
-    desk[COST] = WORST;
-    desk[TRIES] = TRIES_LIMIT;
-    seek(plan, &mut desk, n, n, 0, 0, 0);
-    improve(plan, &mut desk, n, begun);
+    let cost = reckon(t, plan, order, begun, &mut desk);
+    desk[TRIES] = capped(cost / STEPS, TRIES_LIMIT);
+    seek(plan, &mut desk, order.len(), begun, 0, 0, 0);
     cheapest(&desk)
 }

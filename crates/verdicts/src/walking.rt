@@ -44,7 +44,7 @@ fn lay(t: &[u64], parsed: Parsed, order: &[u8], begun: usize, plan: &mut [u64])
     planning::plan(&nodes, n, &kinds, vars, root, order, plan);
 }
 
-// The plan for the counts. Two variables have no order that is worth a search.
+// The plan for the counts: along the caller's order, where that is cheap, and two variables always are.
 fn lay_first(t: &[u64], parsed: Parsed, order: &[u8], plan: &mut [u64])
     requires { ⌜ LentBy (now t) parsed × Ordered parsed (now order) × (length (now plan) ≡ planLength) ⌝ }
     ensures { λ _. ⌜ Lays (now (t .entry)) parsed (now (order .entry)) 0 (now (plan .exit)) ⌝ }
@@ -63,6 +63,9 @@ fn lay_first(t: &[u64], parsed: Parsed, order: &[u8], plan: &mut [u64])
         plan,
     );
     if count < 3 {
+        return;
+    }
+    if !orders::worth(t, &plan[..], order) {
         return;
     }
     lay(t, parsed, order, 0, plan);

@@ -6,11 +6,7 @@ use Rattle.verdicts.proofs.ParsedLaws.{parsed-few, parsed-lent, parsed-
 use borrow.Author.Needs.{needs}
 use Rattle.verdicts.proofs.of_accepted.Statement.{statement}
 use Rattle.verdicts.proofs.of_accepted.Tie as tie
-use Rattle.verdicts.proofs.of_accepted.Reads as reads
-use Rattle.verdicts.proofs.of_accepted.Lts as lts
-use Rattle.verdicts.proofs.ruling.along.Reads as along-reads
 
--- src/lib.rt:47:5
 along-requires : tie.Need-along-requires
 along-requires c κs =
     let at-start = c .before .before in
@@ -19,7 +15,6 @@ along-requires c κs =
     let lv : length (at-start .args .parsed .vars) ≡ 8 = search needs in
     record { lent = parsed-lent (at-start .pre .1 .0 .parses) (at-start .pre .1 .1) (at-start .pre .0) ln lk lv; few = parsed-few (at-start .pre .1 .0 .parses) }
 
--- src/lib.rt:41:1
 returns : tie.Need-returns
 returns c =
     let at-start = c .before .before .before in

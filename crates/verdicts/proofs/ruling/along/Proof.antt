@@ -1,26 +1,17 @@
 -- `verdicts::ruling::along` meets its contract.
 -- Assumes nothing.
 use mathlib.Core.Path.{_≡_, sym, ap, _∙_}
-use mathlib.Core.List.{List, []}
-use Prim.Native.Nat.{ℕ}
+use mathlib.Core.List.{[]}
 use native.Mathlib.Omega.{arith}
 use borrow.Author.Needs.{needs}
 use lib.ListN.{length, take}
 use Rattle.syntax.specs.Rule.{ruleVars}
-use Rattle.walks.specs.Order.{variablesOf, namedBy}
+use Rattle.walks.specs.Order.{variablesOf}
 use Rattle.walks.proofs.OrderLaws.{length-variables-of}
 use Rattle.verdicts.proofs.RulingLaws.{other-length, no-order, counts-fit, order-ruled}
 use Rattle.verdicts.proofs.WalkingLaws.{vars-long, tested}
 use Rattle.verdicts.proofs.ruling.along.Statement.{statement}
 use Rattle.verdicts.proofs.ruling.along.Tie as tie
-use Rattle.verdicts.proofs.ruling.along.Reads as reads
-use Rattle.verdicts.proofs.ruling.along.Lts as lts
-use Rattle.values.proofs.names.names.Reads as names-reads
-use Rattle.verdicts.proofs.ruling.refused.Reads as refused-reads
-use Rattle.verdicts.proofs.ruling.ruled.Reads as ruled-reads
-use Rattle.verdicts.proofs.walking.whole.Reads as whole-reads
-use Rattle.walks.proofs.ordered.Reads as ordered-reads
-use Rattle.walks.proofs.variables.Reads as variables-reads
 
 -- The variables have room by their type.
 vars-room : (c : tie.Start) → length (c .args .parsed .vars) ≡ 8
@@ -30,64 +21,37 @@ vars-room c = search needs
 same-list : (c : tie.After-variables) → take (c .before .before .before .before .args .parsed .count) (c .variables .result) ≡ variablesOf (c .before .before .before .before .args .order .now)
 same-list c = rw (c .before .if1 .left) at (c .variables .ensures)
 
--- src/ruling.rt:59:9
-refused-requires : tie.Need-refused-requires
-refused-requires c κs = search needs
-
--- src/ruling.rt:59:9
 returns : tie.Need-returns
 returns c =
     let at-start = c .before .before .before .before in
     λ T ρ C. c .refused .ensures ∙ other-length C (at-start .pre .lent .few) (at-start .args .order .now) (λ e. c .before .if1 .taken (e ∙ vars-long (at-start .pre) (vars-room at-start)))
 
--- src/ruling.rt:61:15
 variables-requires : tie.Need-variables-requires
 variables-requires c κs =
     let at-start = c .before .before .before in
     omega (arith, c .if1 .left, at-start .pre .few)
 
--- src/ruling.rt:62:18
-array-share-prefix-all : tie.Need-array-share-prefix-all
-array-share-prefix-all c = search needs
-
--- src/ruling.rt:62:9
 slice-aggregate-listed : tie.Need-slice-aggregate-listed
 slice-aggregate-listed c =
     let at-if1 = c .before .before in
     let at-start = at-if1 .before .before .before in
     sym (ap length (same-list (c .before)) ∙ length-variables-of (at-start .args .order .now) ∙ at-if1 .if1 .left)
 
--- src/ruling.rt:65:38
-slice-aggregate-names : tie.Need-slice-aggregate-names
-slice-aggregate-names c = search needs
-
--- src/ruling.rt:65:56
 array-share-prefix-vars : tie.Need-array-share-prefix-vars
 array-share-prefix-vars c =
     let at-start = c .before .before .before .before .before .before .before .before in
     omega (arith, at-start .pre .few, vars-room at-start)
 
--- src/ruling.rt:65:56
 slice-aggregate-names-2 : tie.Need-slice-aggregate-names-2
 slice-aggregate-names-2 c =
     let at-start = c .before .before .before .before .before .before .before .before .before in
     sym (vars-long (at-start .pre) (vars-room at-start))
 
--- src/ruling.rt:65:17
-names-requires : tie.Need-names-requires
-names-requires c κs = search needs
-
--- src/ruling.rt:66:23
-slice-aggregate-ordered : tie.Need-slice-aggregate-ordered
-slice-aggregate-ordered c = search needs
-
--- src/ruling.rt:66:8
 ordered-requires : tie.Need-ordered-requires
 ordered-requires c κs =
     let at-start = c .before .before .before .before .before .before .before .before .before .before .before in
     (search needs, at-start .pre .few)
 
--- src/ruling.rt:67:22
 whole-requires : tie.Need-whole-requires
 whole-requires c κs =
     let at-names = c .before .before .before in
@@ -95,7 +59,6 @@ whole-requires c κs =
     let at-start = at-variables .before .before .before .before in
     (at-start .pre, tested (at-start .pre) (at-names .names .result) (take (at-start .args .parsed .count) (at-variables .variables .result)) (at-names .names .ensures) (rw (vars-long (at-start .pre) (vars-room at-start)) (sym (c .before .ordered .ensures) ∙ c .if2 .taken)))
 
--- src/ruling.rt:67:9
 ruled-requires : tie.Need-ruled-requires
 ruled-requires c κs =
     let at-ordered = c .before .before in
@@ -105,7 +68,6 @@ ruled-requires c κs =
     let L = at-start .pre .lent in
     counts-fit (L .isCase) (L .few) (at-names .names .result) (at-start .args .order .now) _ (at-ordered .ordered .result) (at-names .names .ensures (ruleVars [] (L .rule)) (L .isCase .world .variables)) (same-list at-variables) (rw (vars-long (at-start .pre) (vars-room at-start)) (at-ordered .ordered .ensures)) (c .before .if2 .taken) (c .whole .result) (c .whole .ensures (L .tables) (L .rule) (L .isCase))
 
--- src/ruling.rt:67:9
 returns-2 : tie.Need-returns-2
 returns-2 c =
     let at-if2 = c .before .before in
@@ -115,11 +77,6 @@ returns-2 c =
     let at-start = at-variables .before .before .before .before in
     λ T ρ C. c .ruled .ensures ∙ order-ruled C (at-start .pre .lent .few) (at-names .names .result) (at-start .args .order .now) _ (at-ordered .ordered .result) (at-names .names .ensures (ruleVars [] ρ) (C .world .variables)) (same-list at-variables) (rw (vars-long (at-start .pre) (vars-room at-start)) (at-ordered .ordered .ensures)) (at-if2 .if2 .taken) (c .before .whole .result) (c .before .whole .ensures T ρ C)
 
--- src/ruling.rt:69:5
-refused-requires-2 : tie.Need-refused-requires-2
-refused-requires-2 c κs = search needs
-
--- src/ruling.rt:53:1
 returns-3 : tie.Need-returns-3
 returns-3 c =
     let at-ordered = c .before .before in
@@ -132,19 +89,19 @@ pub along-spec : {M : Type 1} → statement M
 along-spec =
     tie.close
     (tie.spec
-    refused-requires
+    (λ c κs. search needs)
     returns
     variables-requires
-    array-share-prefix-all
+    (λ c. search needs)
     slice-aggregate-listed
-    slice-aggregate-names
+    (λ c. search needs)
     array-share-prefix-vars
     slice-aggregate-names-2
-    names-requires
-    slice-aggregate-ordered
+    (λ c κs. search needs)
+    (λ c. search needs)
     ordered-requires
     whole-requires
     ruled-requires
     returns-2
-    refused-requires-2
+    (λ c κs. search needs)
     returns-3)

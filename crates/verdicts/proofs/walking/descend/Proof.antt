@@ -1,23 +1,15 @@
 -- `verdicts::walking::descend` meets its contract. The invariant: the choice has the items of the first breaking choice that were found, and all is ready.
 -- Assumes nothing.
-use mathlib.Core.Path.{_≡_, refl, sym, ap, _∙_}
-use mathlib.Core.List.{List}
-use Prim.Native.Nat.{ℕ, _+_, _-_, _<_, _≤_}
+use mathlib.Core.Path.{_≡_, refl, sym, _∙_}
+use Prim.Native.Nat.{_+_, _-_, _≤_}
 use native.Mathlib.Omega.{arith}
-use borrow.Author.Needs.{needs}
-use lib.ListN.{length, getD, set, take, drop, length-replicate, getD-replicate}
+use lib.ListN.{length}
 use Rattle.verdicts.specs.code.Walking.{Stands, Descends}
-use Rattle.verdicts.proofs.WalkingLaws.{vars-long, laid-for, laid-along, once-for, after-for}
+use Rattle.verdicts.proofs.WalkingLaws.{once-for, after-for}
 use Rattle.verdicts.proofs.CountingLaws.{plan-runs}
-use Rattle.verdicts.proofs.DescendLaws.{keeps-none, ready-on, depth-is, stored-at, standing-at, ready-next, descending-next, walks-none, breaks-some, walks-some, walks-bare}
+use Rattle.verdicts.proofs.DescendLaws.{standing-at, ready-next, descending-next}
 use Rattle.verdicts.proofs.walking.descend.Statement.{statement}
 use Rattle.verdicts.proofs.walking.descend.Tie as tie
-use Rattle.verdicts.proofs.walking.descend.Reads as reads
-use Rattle.verdicts.proofs.walking.descend.Lts as lts
-use Rattle.verdicts.proofs.counting.enter.Reads as enter-reads
-use Rattle.verdicts.proofs.counting.least.Reads as least-reads
-use Rattle.verdicts.proofs.walking.turn.Reads as turn-reads
-use Rattle.walks.proofs.kept.put.Reads as put-reads
 
 abbrev Inv-loop : tie.InvT-loop
 Inv-loop t parsed order mode plan₀ cache₀ kept₀ choice₀ at₀ depth₀ plan cache kept choice at depth =
@@ -26,13 +18,11 @@ Inv-loop t parsed order mode plan₀ cache₀ kept₀ choice₀ at₀ depth₀ p
 abbrev μ-loop : tie.MeasureT-loop
 μ-loop t parsed order mode plan₀ cache₀ kept₀ choice₀ at₀ depth₀ plan cache kept choice at depth = length order - depth
 
--- src/walking.rt:116:5
 loop-holds : tie.Need-loop-holds Inv-loop μ-loop
 loop-holds c =
     let at-start = c .before .before .before .before .before in
     (omega arith, at-start .pre .2, λ T ρ C some. record { first = refl; some = some })
 
--- src/walking.rt:117:13
 turn-requires : tie.Need-turn-requires Inv-loop μ-loop
 turn-requires c κs =
     let at-loop-test = c .before .before .before in
@@ -40,13 +30,11 @@ turn-requires c κs =
     let at-start = at-loop .before .before .before .before .before .before in
     (at-start .pre .0, at-start .pre .1, at-loop-test .loop-test .taken, at-loop .loop .inv .1)
 
--- src/walking.rt:130:43
 sub-least : tie.Need-sub-least Inv-loop μ-loop
 sub-least c =
     let at-loop-test = c .before .before .before .before .before .before .before .before .before .before .before in
     omega (arith, at-loop-test .loop-test .taken)
 
--- src/walking.rt:130:13
 least-requires : tie.Need-least-requires Inv-loop μ-loop
 least-requires c κs =
     let at-turn = c .before .before .before .before .before .before .before .before .before in
@@ -56,19 +44,16 @@ least-requires c κs =
     let O = at-start .pre .1 in
     (standing-at (once-for (at-start .pre .0) O (L .isCase)) (after-for (at-start .pre .0) O (L .isCase)) _ (at-turn .turn .ensures .ready (L .tables) (L .rule) (L .isCase)) (omega (arith, at-loop-test .loop-test .taken)) (at-turn .turn .ensures .small) (at-turn .turn .ensures .room), omega (arith, at-loop-test .loop-test .taken))
 
--- src/walking.rt:131:36
 shared-slice-read-put : tie.Need-shared-slice-read-put Inv-loop μ-loop
 shared-slice-read-put c =
     let at-loop-test = c .before .before .before .before .before .before .before .before .before .before .before .before .before .before .before .before .before .before .before in
     at-loop-test .loop-test .taken
 
--- src/walking.rt:131:36
 cast-put : tie.Need-cast-put Inv-loop μ-loop
 cast-put c =
     let at-loop = c .before .before .before .before .before .before .before .before .before .before .before .before .before .before .before .before .before .before .before .before in
     omega (arith, c .shared-slice-known3 .given (at-loop .loop .depth))
 
--- src/walking.rt:131:9
 put-requires : tie.Need-put-requires Inv-loop μ-loop
 put-requires c κs =
     let at-least = c .before .before .before .before .before in
@@ -77,14 +62,12 @@ put-requires c κs =
     let at-start = at-loop .before .before .before .before .before .before in
     (omega (arith, at-start .pre .1 .list .small (at-loop .loop .depth) (at-loop-test .loop-test .taken), at-start .pre .0 .lent .few), omega (arith, at-least .least .ensures .0))
 
--- src/walking.rt:132:40
 add-enter : tie.Need-add-enter Inv-loop μ-loop
 add-enter c =
     let at-loop-test = c .before .before .before .before .before .before .before .before .before .before .before .before .before .before .before .before .before .before .before .before .before in
     let at-start = at-loop-test .before .before .before .before .before .before .before in
     omega (arith, at-loop-test .loop-test .taken, at-start .pre .1 .list .short)
 
--- src/walking.rt:132:9
 enter-requires : tie.Need-enter-requires Inv-loop μ-loop
 enter-requires c κs =
     let at-least = c .before .before .before .before .before .before .before .before in
@@ -93,20 +76,17 @@ enter-requires c κs =
     let at-start = at-loop-test .before .before .before .before .before .before .before in
     let L = at-start .pre .0 .lent in (L .ready .whole, plan-runs (at-turn .turn .ensures .ready (L .tables) (L .rule) (L .isCase) .along .planned), at-least .least .ensures .1 .room ∙ at-turn .turn .ensures .room, omega (arith, at-loop-test .loop-test .taken, at-start .pre .1 .list .short), at-turn .turn .ensures .small)
 
--- src/walking.rt:133:9
 add-depth : tie.Need-add-depth Inv-loop μ-loop
 add-depth c =
     let at-loop-test = c .before .before .before .before .before .before .before .before .before .before .before .before .before .before .before .before .before .before .before .before .before .before .before .before .before in
     let at-start = at-loop-test .before .before .before .before .before .before .before in
     omega (arith, at-loop-test .loop-test .taken, at-start .pre .1 .list .short)
 
--- src/walking.rt:116:5
 loop-less : tie.Need-loop-less Inv-loop μ-loop
 loop-less c =
     let at-loop-test = c .before .before .before .before .before .before .before .before .before .before .before .before .before .before .before .before .before .before .before .before .before .before .before .before .before in
     omega (arith, at-loop-test .loop-test .taken)
 
--- src/walking.rt:116:5
 loop-again : tie.Need-loop-again Inv-loop μ-loop
 loop-again c =
     let at-enter = c .before .before in
@@ -128,25 +108,21 @@ loop-again c =
       λ T ρ C some. descending-next (once-for (at-start .pre .0) (at-start .pre .1) C) (after-for (at-start .pre .0) (at-start .pre .1) C) (at-put .put .result) (at-least .least .result) (at-loop-test .loop-test .taken) (at-turn .turn .ensures .ready T ρ C) (at-put .put .ensures) _ left (at-least .least .ensures .1) (at-enter .enter .ensures) (at-loop .loop .inv .2 T ρ C some),
     )
 
--- src/walking.rt:101:1
 same-length : tie.Need-same-length Inv-loop μ-loop
 same-length c =
     let at-start = c .before .before .before .before .before .before .before in
     c .before .loop .inv .1 .long ∙ sym (at-start .pre .2 .long)
 
--- src/walking.rt:101:1
 same-length-2 : tie.Need-same-length-2 Inv-loop μ-loop
 same-length-2 c =
     let at-start = c .before .before .before .before .before .before .before in
     c .before .loop .inv .1 .room ∙ sym (at-start .pre .2 .room)
 
--- src/walking.rt:101:1
 same-length-3 : tie.Need-same-length-3 Inv-loop μ-loop
 same-length-3 c =
     let at-start = c .before .before .before .before .before .before .before in
     c .before .loop .inv .1 .slots ∙ sym (at-start .pre .2 .slots)
 
--- src/walking.rt:101:1
 returns : tie.Need-returns Inv-loop μ-loop
 returns c =
     let at-start = c .before .before .before .before .before .before .before in

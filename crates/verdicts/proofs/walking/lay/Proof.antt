@@ -1,25 +1,16 @@
 -- `verdicts::walking::lay` meets its contract: what was found is tested, and so the plan is laid along an order.
 -- Assumes nothing.
-use mathlib.Core.Path.{_≡_, refl, sym, ap, subst, _∙_}
+use mathlib.Core.Path.{_≡_, refl, sym, _∙_}
 use mathlib.Core.List.{List}
-use Prim.Native.Nat.{ℕ, _+_, _-_, _<_, _≤_}
+use Prim.Native.Nat.{ℕ}
 use native.Mathlib.Omega.{arith}
 use borrow.Author.Needs.{needs}
-use lib.ListN.{length, getD, set, take, drop}
+use lib.ListN.{length, take}
 use lib.Seq.{length-take-le}
-use Rattle.walks.specs.Order.{isOrder, namedBy}
-use Rattle.verdicts.specs.code.Judging.{varsOf}
 use Rattle.verdicts.specs.code.Walking.{Ordered}
 use Rattle.verdicts.proofs.WalkingLaws.{vars-long, tested, own-length, laid-for, laid-along}
 use Rattle.verdicts.proofs.walking.lay.Statement.{statement}
 use Rattle.verdicts.proofs.walking.lay.Tie as tie
-use Rattle.verdicts.proofs.walking.lay.Reads as reads
-use Rattle.verdicts.proofs.walking.lay.Lts as lts
-use Rattle.values.proofs.names.names.Reads as names-reads
-use Rattle.verdicts.proofs.orders.own.Reads as own-reads
-use Rattle.verdicts.proofs.planning.plan.Reads as plan-reads
-use Rattle.walks.proofs.begins_alike.Reads as begins-alike-reads
-use Rattle.walks.proofs.ordered.Reads as ordered-reads
 
 -- Arrays have their length by their type.
 vars-room : (c : tie.Start) → length (c .args .parsed .vars) ≡ 8
@@ -48,77 +39,41 @@ own-ordered c =
     tested (at-start .pre .0) (c .before .before .before .names .result) own (c .before .before .before .names .ensures)
     (rw (vars-long (at-start .pre .0) (vars-room at-start)) (sym (c .before .ordered .ensures) ∙ c .if1 .taken))
 
--- src/walking.rt:34:16
 array-share-prefix-all : tie.Need-array-share-prefix-all
 array-share-prefix-all c =
     let at-start = c .before .before .before .before .before .before in
     omega (arith, at-start .pre .0 .few, vars-room at-start)
 
--- src/walking.rt:34:9
 slice-aggregate-vars : tie.Need-slice-aggregate-vars
 slice-aggregate-vars c =
     let at-start = c .before .before .before .before .before .before .before in
     sym (vars-long (at-start .pre .0) (vars-room at-start))
 
--- src/walking.rt:35:17
-own-requires : tie.Need-own-requires
-own-requires c κs = search needs
-
--- src/walking.rt:36:15
-array-share-prefix-found : tie.Need-array-share-prefix-found
-array-share-prefix-found c = search needs
-
--- src/walking.rt:36:9
 slice-aggregate-own : tie.Need-slice-aggregate-own
 slice-aggregate-own c = sym (own-long (c .before))
 
--- src/walking.rt:37:38
-slice-aggregate-names : tie.Need-slice-aggregate-names
-slice-aggregate-names c = search needs
-
--- src/walking.rt:37:17
-names-requires : tie.Need-names-requires
-names-requires c κs = search needs
-
--- src/walking.rt:38:23
-slice-aggregate-ordered : tie.Need-slice-aggregate-ordered
-slice-aggregate-ordered c = search needs
-
--- src/walking.rt:38:8
-ordered-requires : tie.Need-ordered-requires
-ordered-requires c κs = search needs
-
--- src/walking.rt:39:12
 begins-alike-requires : tie.Need-begins-alike-requires
 begins-alike-requires c κs =
     let at-own = c .before .before .before .before .before .before in
     let at-start = at-own .before .before .before .before .before .before .before .before .before in
     (omega (arith, at-start .pre .2, own-long at-own, own-length (at-start .pre .0) (at-start .pre .1), vars-long (at-start .pre .0) (vars-room at-start)), at-start .pre .2)
 
--- src/walking.rt:40:28
 slice-aggregate-plan : tie.Need-slice-aggregate-plan
 slice-aggregate-plan c =
     let at-start = c .before .before .before .before .before .before .before .before .before .before .before .before .before .before .before .before .before .before in
     sym (nodes-room at-start)
 
--- src/walking.rt:40:39
 slice-aggregate-plan-2 : tie.Need-slice-aggregate-plan-2
 slice-aggregate-plan-2 c =
     let at-start = c .before .before .before .before .before .before .before .before .before .before .before .before .before .before .before .before .before .before .before in
     sym (kinds-room at-start)
 
--- src/walking.rt:40:13
 plan-requires : tie.Need-plan-requires
 plan-requires c κs =
     let at-if1 = c .before .before .before .before .before in
     let at-start = at-if1 .before .before .before .before .before .before .before .before .before .before .before .before .before .before .before in
     (laid-for (at-start .pre .0) (own-ordered at-if1), at-start .pre .3)
 
--- src/walking.rt:41:13
-same-length : tie.Need-same-length
-same-length c = search needs
-
--- src/walking.rt:41:13
 returns : tie.Need-returns
 returns c =
     let at-plan = c .before .before in
@@ -128,27 +83,16 @@ returns c =
     let at-start = at-if1 .before .before .before .before .before .before .before .before .before .before .before .before .before .before .before in
     laid-along (at-start .pre .0) (own-ordered at-if1) (at-plan .plan .ensures) (at-begins-alike .begins-alike .ensures (at-if2 .if2 .taken))
 
--- src/walking.rt:44:20
-slice-aggregate-plan-3 : tie.Need-slice-aggregate-plan-3
-slice-aggregate-plan-3 c = search needs
-
--- src/walking.rt:44:31
 slice-aggregate-plan-4 : tie.Need-slice-aggregate-plan-4
 slice-aggregate-plan-4 c =
     let at-start = c .before .before .before .before .before .before .before .before .before .before .before .before .before .before .before .before .before in
     sym (kinds-room at-start)
 
--- src/walking.rt:44:5
 plan-requires-2 : tie.Need-plan-requires-2
 plan-requires-2 c κs =
     let at-start = c .before .before .before .before .before .before .before .before .before .before .before .before .before .before .before .before .before .before in
     (laid-for (at-start .pre .0) (at-start .pre .1), at-start .pre .3)
 
--- src/walking.rt:24:1
-same-length-2 : tie.Need-same-length-2
-same-length-2 c = search needs
-
--- src/walking.rt:24:1
 returns-2 : tie.Need-returns-2
 returns-2 c =
     let at-plan3 = c .before .before in
@@ -161,21 +105,21 @@ lay-spec =
     (tie.spec
     array-share-prefix-all
     slice-aggregate-vars
-    own-requires
-    array-share-prefix-found
+    (λ c κs. search needs)
+    (λ c. search needs)
     slice-aggregate-own
-    slice-aggregate-names
-    names-requires
-    slice-aggregate-ordered
-    ordered-requires
+    (λ c. search needs)
+    (λ c κs. search needs)
+    (λ c. search needs)
+    (λ c κs. search needs)
     begins-alike-requires
     slice-aggregate-plan
     slice-aggregate-plan-2
     plan-requires
-    same-length
+    (λ c. search needs)
     returns
-    slice-aggregate-plan-3
+    (λ c. search needs)
     slice-aggregate-plan-4
     plan-requires-2
-    same-length-2
+    (λ c. search needs)
     returns-2)
