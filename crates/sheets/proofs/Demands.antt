@@ -5,7 +5,7 @@ use mathlib.Core.List.{List, [], _++_}
 use mathlib.Core.Option.{Option, none, some}
 use mathlib.Core.Bool.{Bool, true, false}
 use mathlib.Core.Logic.{_⊎_, inl, inr}
-use Prim.Native.Nat.{ℕ, suc, _-_, _≤_}
+use Prim.Native.Nat.{ℕ, suc, _-_, _≤_, _<_}
 use native.Mathlib.Omega.{arith}
 use lib.Dec.{leb}
 use lib.ListN.{length, take, drop, getElem?}
@@ -33,9 +33,12 @@ use Rattle.verdicts.specs.Report.{OrderOf}
 use Rattle.verdicts.proofs.VerdictLaws.{turn-order}
 use Rattle.verdicts.proofs.ReportLaws.{verdict-reports}
 use Rattle.sheets.specs.Line.{labelled, saysOf, lineText}
-use Rattle.sheets.specs.Sheet.{sheetBy, sheetOf, sheetLine}
-use Rattle.sheets.specs.Promise.{Lines, Wrote, TooShort, LineReports}
-use Rattle.sheets.proofs.SheetLaws.{judged-some}
+use Rattle.sheets.specs.Total.{isHeld, isIdle, isBroken, isRefused, totalOf}
+use Rattle.sheets.specs.Sheet.{judgedFrom, listed, sheetBy, sheetOf, sheetLine}
+use Rattle.sheets.specs.Promise.{Lines, Wrote, TooShort, LineReports, TotalReports}
+use Rattle.sheets.proofs.SheetLaws.{judged-length, listed-some, listed-total, listed-none}
+use Rattle.sheets.proofs.TotalLaws.{total-adds-up}
+use Rattle.sheets.proofs.WordLaws.{tells-held, tells-idle, tells-broken, tells-refused, carried}
 
 accepted-none : (rule : Bytes) → accepted rule ≡ true → refusal rule ≡ none
 accepted-none rule h = go (refusal rule) h
@@ -70,7 +73,7 @@ module _ (tables rules : Bytes) (T : Tables) (t : tablesOf tables ≡ taken T) (
   unfolding sheetOf sheetBy
   line-is =
       let m : suc k - 1 ≡ k = omega arith in
-      rw (t, le-leb (length rules) 32768 short) (judged-some T (lines rules) (suc k) rule (λ e. omega arith) (rw m at))
+      rw (t, le-leb (length rules) 32768 short) (listed-some T (lines rules) (suc k) rule (λ e. omega arith) (rw m at))
 
   -- An accepted rule's line reports its verdict: broken, idle or held exactly as the counts say, the counts, the share, and if broken the first breaking choice.
   pub line-reports : accepted rule ≡ true → (ρ : Rule) × (rule ≡ ruleText [] ρ) × ((old new : List ℕ) (w : Written) → Lines tables rules (suc k) old new w
@@ -98,3 +101,37 @@ module _ (tables rules : Bytes) (T : Tables) (t : tablesOf tables ≡ taken T) (
       → sheetLine (sheetOf tables rules) (suc k) ≡ decimalOf (suc k) ++ labelled (ascii " refused ") (numberOf e)
   unfolding turnVerdict acceptedVerdict saysOf
   line-refused e h = line-is ∙ rw h
+
+-- N1, as the sheet's reader meets it: behind the L lines of the rules stands their total, and nothing further.
+module _ (tables rules : Bytes) (T : Tables) (t : tablesOf tables ≡ taken T) (short : length rules ≤ 32768) where
+  listed-is : sheetOf tables rules ≡ listed T (lines rules)
+  unfolding sheetOf sheetBy
+  listed-is = rw (t, le-leb (length rules) 32768 short)
+
+  -- What the total says of the lines above it.
+  above-reports : TotalReports (length (lines rules)) (take (length (lines rules)) (sheetOf tables rules)) (sheetLine (sheetOf tables rules) (suc (length (lines rules))))
+  above-reports =
+      let ws : List Bytes = lines rules in
+      let above : take (length ws) (listed T ws) ≡ judgedFrom 1 T ws = take-at (judgedFrom 1 T ws) _ (length ws) (judged-length 1 T ws) in
+      rw (listed-is, above) (
+      record {
+        total = totalOf T ws;
+        lines = refl;
+        held = carried (ascii "held") isHeld tells-held 1 T ws;
+        idle = carried (ascii "idle") isIdle tells-idle 1 T ws;
+        broken = carried (ascii "broken") isBroken tells-broken 1 T ws;
+        refused = carried (ascii "refused") isRefused tells-refused 1 T ws;
+        adds-up = total-adds-up T ws;
+        says = listed-total T ws (suc (length ws)) (omega arith);
+      }
+      )
+
+  pub total-reports : (old new : List ℕ) (w : Written) → Lines tables rules (suc (length (lines rules))) old new w
+      → length (sheetLine (sheetOf tables rules) (suc (length (lines rules)))) ≤ length old
+      → (numberIn w ≡ 0) × TotalReports (length (lines rules)) (take (length (lines rules)) (sheetOf tables rules)) (take (lengthIn w) new) × (drop (lengthIn w) new ≡ drop (lengthIn w) old)
+  total-reports old new w p room =
+      let x = line-written tables rules (suc (length (lines rules))) p room in
+      (x .number, rw (x .size, x .front) above-reports, rw (x .size) (x .kept))
+
+  pub nothing-further : (place : ℕ) → suc (length (lines rules)) < place → sheetLine (sheetOf tables rules) place ≡ []
+  nothing-further place h = rw listed-is (listed-none T (lines rules) place (omega arith))

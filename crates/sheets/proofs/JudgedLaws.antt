@@ -1,10 +1,12 @@
 -- Laws that join the readings of tables and rules to the sheet: the line at a place.
 -- Assumes nothing.
-use mathlib.Core.Path.{_≡_}
+use mathlib.Core.Path.{_≡_, sym, _∙_}
+use mathlib.Core.Bool.{Bool, true, false, not}
 use mathlib.Core.List.{List}
-use Prim.Native.Nat.{ℕ, _-_, _≤_, _<_}
-use borrow.Author.Tests.{le-leb, lt-leb}
-use lib.Dec.{leb}
+use Prim.Native.Nat.{ℕ, _+_, _-_, _≤_, _<_}
+use native.Mathlib.Omega.{arith}
+use borrow.Author.Tests.{le-leb, lt-leb, eqb-true, eqb-false, not-true, not-false}
+use lib.Dec.{leb, eqb}
 use lib.ListN.{length, take, drop, getElem?}
 use Rattle.answers.specs.Refusal.{numberOf}
 use Rattle.answers.specs.declared.Refusal.{Refusal}
@@ -22,10 +24,12 @@ use Rattle.texts.proofs.SpansLaws.{missing, lies}
 use Rattle.texts.proofs.OverwrittenLaws.{none-written}
 use Rattle.verdicts.specs.Verdict.{turnVerdict}
 use Rattle.verdicts.proofs.LoadedLaws.{was-rejected, was-taken}
+use Rattle.sheets.specs.declared.total.Total.{Total}
 use Rattle.sheets.specs.Line.{lineText, labelled}
+use Rattle.sheets.specs.Total.{totalOf, totalText}
 use Rattle.sheets.specs.Sheet.{only, unlessLong, sheetBy, sheetOf, sheetLine}
 use Rattle.sheets.specs.code.Lines.{LinesOn}
-use Rattle.sheets.proofs.SheetLaws.{judged-none, judged-some, no-place}
+use Rattle.sheets.proofs.SheetLaws.{listed-some, listed-total, listed-none, past, no-place}
 
 -- The line at a place of accepted tables
 
@@ -39,13 +43,25 @@ module _ (T : Tables) (rules : Bytes) (place : ℕ) where
   pub zero-made : (old : List ℕ) → place ≡ 0 → Made old old 0
   zero-made old e = rw (no-place (unlessLong (leb (length rules) 32768) T rules) place e) (none-written old)
 
-  pub missing-made : {p : Span} (old : List ℕ) → length rules ≤ 32768 → Spans rules (getElem? (lines rules) (place - 1)) p → p ≡ Missing → Made old old 0
-  missing-made old h f q = rw (le-leb (length rules) 32768 h, judged-none T (lines rules) place (missing f q)) (none-written old)
+  pub total-made : {b : Bool} {old new : List ℕ} {n : ℕ} {t : Total} → length rules ≤ 32768 → b ≡ eqb place (length (lines rules) + 1) → not b ≡ false → t ≡ totalOf T (lines rules)
+      → Overwritten (totalText t) old new n → Made old new n
+  total-made {b} h f l q w =
+      let e : place ≡ length (lines rules) + 1 = eqb-true place (length (lines rules) + 1) (sym f ∙ not-false b l) in
+      rw (le-leb (length rules) 32768 h, listed-total T (lines rules) place e) (rw q at w)
+
+  pub beyond-made : {b : Bool} (old : List ℕ) → length rules ≤ 32768 → length (lines rules) < place → b ≡ eqb place (length (lines rules) + 1) → not b ≡ true → Made old old 0
+  beyond-made {b} old h p f l =
+      let n : place ≡ length (lines rules) + 1 → ⊥ = eqb-false place (length (lines rules) + 1) (sym f ∙ not-true b l) in
+      rw (le-leb (length rules) 32768 h, listed-none T (lines rules) place (omega (arith, n))) (none-written old)
 
   pub found-made : {p : Span} {a e : ℕ} {old new : List ℕ} {n : ℕ} → length rules ≤ 32768 → (place ≡ 0 → ⊥)
       → Spans rules (getElem? (lines rules) (place - 1)) p → p ≡ Found a e
       → Overwritten (lineText place (turnVerdict T (take (e - a) (drop a rules)))) old new n → Made old new n
-  found-made h z f q w = let l = lies f q in rw (le-leb (length rules) 32768 h, judged-some T (lines rules) place _ z (l .bytes)) w
+  found-made h z f q w = let l = lies f q in rw (le-leb (length rules) 32768 h, listed-some T (lines rules) place _ z (l .bytes)) w
+
+-- A place without a line is behind them.
+pub no-line-at : (rules : Bytes) (place : ℕ) {p : Span} → Spans rules (getElem? (lines rules) (place - 1)) p → p ≡ Missing → (place ≡ 0 → ⊥) → length (lines rules) < place
+no-line-at rules place f q n = omega (arith, past (lines rules) (place - 1) (missing f q), n)
 
 -- The line at a place of any tables
 

@@ -1,5 +1,8 @@
 -- Laws on the lines of a sheet.
 pub mod LineLaws
 pub mod SheetLaws
+pub mod TotalLaws
+pub mod TurnLaws
+pub mod WordLaws
 pub mod JudgedLaws
 pub mod Demands

@@ -23,8 +23,8 @@ pub shared-short : (w : List ℕ) (v : Verdict) → length (sharedOf w v) ≤ le
 unfolding sharedOf
 shared-short w v = simp length-append (omega (arith, counts-short w v, digits-short 20 (v .share)))
 
-pub choice-short : (i x : ℕ) → length (labelled (ascii " v") i ++ labelled (ascii "=") x) ≤ 43
-choice-short i x = simp length-append (omega (arith, digits-short 20 i, digits-short 20 x))
+pub two-short : (w : List ℕ) (x : ℕ) (u : List ℕ) (y : ℕ) → length (labelled w x ++ labelled u y) ≤ length w + length u + 40
+two-short w x u y = simp length-append (omega (arith, digits-short 20 x, digits-short 20 y))
 
 module _ (first : List ℕ) (k : ℕ) where
   pub none-left : (old : List ℕ) → length first ≤ k → Overwritten (choicesFrom (k + 1) (drop k first)) old old 0

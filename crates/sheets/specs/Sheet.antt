@@ -1,7 +1,7 @@
 -- Document 01, "Day sheet": everything that the listing program prints, as the list of its lines without byte 10.
 -- Assumes nothing.
 use mathlib.Core.Bool.{Bool, true, false}
-use mathlib.Core.List.{List, [], _∷_}
+use mathlib.Core.List.{List, [], _∷_, _++_}
 use mathlib.Core.Option.{Option, none, some}
 use Prim.Native.Nat.{ℕ, zero, suc}
 use lib.Dec.{leb}
@@ -13,6 +13,7 @@ use Rattle.tables.specs.Reading.{Reading, rejected, taken, tablesOf}
 use Rattle.texts.specs.Pieces.{lines}
 use Rattle.verdicts.specs.Verdict.{turnVerdict}
 use Rattle.sheets.specs.Line.{labelled, lineText}
+use Rattle.sheets.specs.Total.{totalOf, totalText}
 
 -- The lines of the rules from line k on: "The order is 1, 2, .."
 unfoldable pub judgedFrom : ℕ → Tables → List Bytes → List Bytes
@@ -23,15 +24,19 @@ judgedFrom k T (w ∷ ws) = lineText k (turnVerdict T w) ∷ judgedFrom (suc k) 
 abbrev pub only : Bytes → List Bytes
 only w = w ∷ []
 
+-- N1: the lines of the rules, and then the total. "An empty rules file now prints the total line with zeros."
+abbrev pub listed : Tables → List Bytes → List Bytes
+listed T ws = judgedFrom 1 T ws ++ only (totalText (totalOf T ws))
+
 -- "rules.txt (to 32,768 bytes; longer prints only `rules too long`)"
 abbrev pub rulesLimit : ℕ
 rulesLimit = 32768
 
 abbrev pub unlessLong : Bool → Tables → Bytes → List Bytes
-unlessLong true T rules = judgedFrom 1 T (lines rules)
+unlessLong true T rules = listed T (lines rules)
 unlessLong false T rules = only (ascii "rules too long")
 
--- "Refused tables print only `tables refused N`, before the rules' length is looked at."
+-- "Refused tables print only `tables refused N`, before the rules' length is looked at." N1: these "and `rules too long` print as before".
 unfoldable pub sheetBy : Reading → Bytes → List Bytes
 sheetBy (rejected e) rules = only (labelled (ascii "tables refused ") (numberOf e))
 sheetBy (taken T) rules = unlessLong (leb (length rules) rulesLimit) T rules

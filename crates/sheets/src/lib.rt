@@ -6,15 +6,20 @@ use tables::Outcome;
 use texts::Span;
 
 mod text;
+pub mod total;
+pub mod turns;
 
-ghost use Prim.Native.Nat.{_≤_};
+ghost use mathlib.Core.Path.{_≡_};
+ghost use Prim.Native.Nat.{_≤_, _<_, _+_};
+ghost use lib.Dec.{eqb};
 ghost use lib.ListN.{length};
 ghost use Rattle.answers.specs.Refusal.{numberOf};
 ghost use Rattle.syntax.specs.Bytes.{ascii};
+ghost use Rattle.texts.specs.Pieces.{lines};
 ghost use Rattle.texts.specs.code.Overwritten.{Overwritten};
 ghost use Rattle.verdicts.specs.code.Judging.{Loaded};
 ghost use Rattle.sheets.specs.Line.{labelled};
-ghost use Rattle.sheets.specs.Sheet.{only, sheetOf, sheetLine};
+ghost use Rattle.sheets.specs.Sheet.{only, rulesLimit, sheetOf, sheetLine};
 ghost use Rattle.sheets.specs.Promise.{Lines};
 ghost use Rattle.sheets.specs.code.Lines.{lineRoom, LinesOn, RuleLineOn};
 
@@ -22,7 +27,7 @@ ghost use Rattle.sheets.specs.code.Lines.{lineRoom, LinesOn, RuleLineOn}
 pub const LINE_ROOM: usize = 512;
 
 // Longer rules are not read.
-const RULES_LIMIT: usize = 32768;
+pub const RULES_LIMIT: usize = 32768;
 
 // The line at a place, from 1, without byte 10; no bytes at any other place.
 pub fn line(tables: &[u8], rules: &[u8], place: usize, out: &mut [u8]) -> Written
@@ -84,9 +89,36 @@ fn judged_line(words: &[u64], rules: &[u8], place: usize, out: &mut [u8]) -> usi
         return 0;
     }
     let Span::Found { from, to } = texts::line(rules, place - 1) else {
-        return 0;
+        return foot(words, rules, place, out);
     };
     rule_line(words, &rules[from..to], place, out)
+}
+
+// The total, straight behind the lines; nothing further.
+fn foot(words: &[u64], rules: &[u8], place: usize, out: &mut [u8]) -> usize
+    requires { ⌜ Loaded (now words) ⌝ }
+    requires { ⌜ lineRoom ≤ length (now out) ⌝ }
+    requires { ⌜ (length (now rules) ≤ rulesLimit) × (length (lines (now rules)) < place) ⌝ }
+    ensures { λ r. ⌜ LinesOn (now (words .entry)) (now (rules .entry)) place (now (out .entry)) (now (out .exit)) r ⌝ }
+{
+    if !is_foot(rules, place) {
+        return 0;
+    }
+    total::write(turns::whole(words, rules), out)
+}
+
+// Whether a place behind the lines is the one straight behind them.
+fn is_foot(rules: &[u8], place: usize) -> bool
+    requires { ⌜ length (lines (now rules)) < place ⌝ }
+    ensures { λ r. ⌜ r ≡ eqb place (length (lines (now (rules .entry))) + 1) ⌝ }
+{
+    if place == 1 {
+        return true;
+    }
+    let Span::Missing = texts::line(rules, place - 2) else {
+        return true;
+    };
+    false
 }
 
 // The line of one rule on accepted tables.

@@ -67,9 +67,7 @@ fn counts(word: &[u8], v: Verdict, out: &mut [u8]) -> usize
     requires { ⌜ (length (now word) ≤ 10) × (60 ≤ length (now out)) ⌝ }
     ensures { λ r. ⌜ Overwritten (countsOf (now (word .entry)) v) (now (out .entry)) (now (out .exit)) r ⌝ }
 {
-    let n = labelled(word, v.full, out);
-    let m = labelled(b" ", v.breaking, &mut out[n..]);
-    n + m
+    two(word, v.full, b" ", v.breaking, out)
 }
 
 // The items of the choice from variable k on, where v1 is variable 0.
@@ -93,8 +91,16 @@ fn choice(i: usize, x: u8, out: &mut [u8]) -> usize
     requires { ⌜ 43 ≤ length (now out) ⌝ }
     ensures { λ r. ⌜ Overwritten (labelled (ascii " v") i ++ labelled (ascii "=") x) (now (out .entry)) (now (out .exit)) r ⌝ }
 {
-    let n = labelled(b" v", i as u64, out);
-    let m = labelled(b"=", x as u64, &mut out[n..]);
+    two(b" v", i as u64, b"=", x as u64, out)
+}
+
+// Two numbers, each behind its text.
+pub fn two(word: &[u8], x: u64, sign: &[u8], y: u64, out: &mut [u8]) -> usize
+    requires { ⌜ length (now word) + length (now sign) + 40 ≤ length (now out) ⌝ }
+    ensures { λ r. ⌜ Overwritten (labelled (now (word .entry)) x ++ labelled (now (sign .entry)) y) (now (out .entry)) (now (out .exit)) r ⌝ }
+{
+    let n = labelled(word, x, out);
+    let m = labelled(sign, y, &mut out[n..]);
     n + m
 }
 

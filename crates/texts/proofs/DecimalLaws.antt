@@ -5,12 +5,13 @@ use mathlib.Core.Bool.{Bool, true, false}
 use mathlib.Core.List.{List, _++_}
 use Prim.Native.Nat.{ℕ, zero, suc, _+_, _-_, _/_, _%_, _≤_, _<_}
 use native.Mathlib.Omega.{arith}
-use borrow.Author.Tests.{lt-ltb, le-ltb}
+use borrow.Author.Tests.{lt-ltb, le-ltb, ne-eqb}
 use lib.Dec.{ltb}
 use lib.ListN.{length, set, length-append}
 use Rattle.texts.specs.code.Overwritten.{Overwritten}
 use Rattle.texts.specs.Decimal.{lastDigit, digitsTo, decimalOf}
 use Rattle.texts.proofs.OverwrittenLaws.{none-written, written-byte}
+use Rattle.texts.proofs.PiecesLaws.{free, free-append}
 
 pub digits-short : (k n : ℕ) → length (digitsTo k n) ≤ k
 unfolding digitsTo
@@ -20,6 +21,16 @@ digits-short (suc k) n = go (ltb n 10) (digitsTo k (n / 10)) (digits-short k (n 
     go : (b : Bool) (w : List ℕ) → length w ≤ k → length (lastDigit b n w) ≤ suc k
     go true w h = omega arith
     go false w h = simp length-append (omega arith)
+
+-- A byte below the digits does not stand among them.
+pub digits-free : (c k n : ℕ) → c < 48 → free c (digitsTo k n) ≡ true
+unfolding digitsTo free
+digits-free c zero n h = refl
+digits-free c (suc k) n h = go (ltb n 10) (digitsTo k (n / 10)) (digits-free c k (n / 10) h)
+  where
+    go : (b : Bool) (w : List ℕ) → free c w ≡ true → free c (lastDigit b n w) ≡ true
+    go true w f = rw (ne-eqb (48 + n) c (λ e. omega arith))
+    go false w f = free-append c w _ f (rw (ne-eqb (48 + n % 10) c (λ e. omega arith)))
 
 pub digits-room : (k n : ℕ) {old new : List ℕ} {i : ℕ} → Overwritten (digitsTo k n) old new i → i ≤ k
 digits-room k n r = omega (arith, r .count, digits-short k n)

@@ -1,5 +1,5 @@
 -- Laws on texts made of pieces.
 pub mod OverwrittenLaws
-pub mod DecimalLaws
 pub mod PiecesLaws
+pub mod DecimalLaws
 pub mod SpansLaws

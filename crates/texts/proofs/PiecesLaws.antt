@@ -1,10 +1,11 @@
 -- Laws of `split`: a text has its bytes up to the first separator, and then the pieces of the rest; without a separator it is one piece.
 -- Assumes nothing.
 use mathlib.Core.Path.{_≡_, refl, ap}
-use mathlib.Core.Bool.{Bool, true, false}
-use mathlib.Core.List.{List, [], _∷_}
+use mathlib.Core.Bool.{Bool, true, false, not, _&&_}
+use mathlib.Core.List.{List, [], _∷_, _++_}
 use Prim.Native.Nat.{ℕ, suc, _≤_, _<_}
 use native.Mathlib.Omega.{arith}
+use borrow.Author.Tests.{eq-eqb}
 use lib.Dec.{eqb}
 use lib.ListN.{length, take, drop}
 use Rattle.bytes.specs.Bytes.{indexOf, indexAfter}
@@ -45,3 +46,28 @@ split-one c final (x ∷ y ∷ s) o p h = go (eqb x c) (λ k. split-one c final 
     go : (b : Bool) → (length (y ∷ s) ≤ indexOf c (y ∷ s) → split c final (y ∷ s) ≡ (y ∷ s) ∷ []) → suc (length (y ∷ s)) ≤ indexAfter b (indexOf c (y ∷ s)) → cut b x (split c final (y ∷ s)) ≡ (x ∷ y ∷ s) ∷ []
     go true f h = absurd (omega arith)
     go false f h = ap (onFirst x) (f (omega arith))
+
+-- The separator c does not stand in s.
+unfoldable pub free : ℕ → List ℕ → Bool
+free c [] = true
+free c (x ∷ s) = not (eqb x c) && free c s
+
+module _ (c : ℕ) where
+  pub free-append : (a b : List ℕ) → free c a ≡ true → free c b ≡ true → free c (a ++ b) ≡ true
+  unfolding free
+  free-append [] b h k = k
+  free-append (x ∷ a) b h k = go (eqb x c) h (λ i. free-append a b i k)
+    where
+      go : (y : Bool) → (not y && free c a) ≡ true → (free c a ≡ true → free c (a ++ b) ≡ true) → (not y && free c (a ++ b)) ≡ true
+      go true h f = h
+      go false h f = f h
+
+  -- A piece without the separator, the separator, and the other pieces.
+  pub split-free : (final : List (List ℕ)) (a s : List ℕ) → free c a ≡ true → split c final (a ++ c ∷ s) ≡ a ∷ split c final s
+  unfolding free split
+  split-free final [] s h = rw (eq-eqb c c refl)
+  split-free final (x ∷ a) s h = go (eqb x c) h (λ i. split-free final a s i)
+    where
+      go : (y : Bool) → (not y && free c a) ≡ true → (free c a ≡ true → split c final (a ++ c ∷ s) ≡ a ∷ split c final s) → cut y x (split c final (a ++ c ∷ s)) ≡ (x ∷ a) ∷ split c final s
+      go true h f = cc
+      go false h f = ap (onFirst x) (f h)

@@ -13,16 +13,9 @@ use Rattle.texts.specs.declared.Span.{Span}
 use Rattle.texts.specs.declared.Span.the-variants.{Missing, Found}
 use Rattle.texts.specs.declared.Start.{Start}
 use Rattle.texts.specs.declared.Start.the-variants.{Nowhere, At}
-use Rattle.texts.specs.Pieces.{split, onFirst}
-use Rattle.texts.specs.code.Spans.{Spans, no-piece, piece, Starts, no-start, start}
+use Rattle.texts.specs.Pieces.{split, onFirst, lines}
+use Rattle.texts.specs.code.Spans.{Spans, no-piece, piece, Starts, no-start, start, Sought}
 use Rattle.texts.proofs.PiecesLaws.{split-first, split-few, split-one}
-
--- The first separator of s from `at` on is at e, or none is and e is the end.
-pub record Sought (c : ℕ) (s : List ℕ) (at e : ℕ) : Type 0 where
-  pub low : at ≤ e
-  pub high : e ≤ length s
-  pub rest : length (drop at s) ≡ length s - at
-  pub place : indexOf c (drop at s) ≡ e - at
 
 pub sought : {c : ℕ} {s : List ℕ} {at e : ℕ} → at ≤ length s → e ≡ at + indexOf c (slice at (length s) s) → e ≤ length s → Sought c s at e
 unfolding slice
@@ -46,6 +39,15 @@ module _ {c : ℕ} {s : List ℕ} {at e : ℕ} (f : Sought c s at e) where
       let l : length (drop at s) ≤ e - at = omega (arith, f .rest) in
       split-one c final (drop at s) o (omega (arith, n, f .low, f .high, f .rest)) (omega (arith, f .rest, f .place)) ∙ rw (take-all (e - at) (drop at s) l)
 
+-- The line that begins at a place, and those behind it.
+pub next-line : {s : List ℕ} {at e : ℕ} → Sought 10 s at e → at < length s → lines (drop at s) ≡ take (e - at) (drop at s) ∷ lines (drop (e + 1) s)
+unfolding split
+next-line {s} {at} {e} f h = go (ℕ-discrete e (length s))
+  where
+    go : Dec (e ≡ length s) → split 10 [] (drop at s) ≡ take (e - at) (drop at s) ∷ split 10 [] (drop (e + 1) s)
+    go (yes q) = one-piece f [] (λ x. refl) (λ n. omega arith) q ∙ rw (drop-of-length-le s {i = e + 1} (omega arith))
+    go (no n) = first-piece f [] n
+
 -- Piece k of s is piece n of what stands from `at` on, however s ends.
 pub record Along (c k : ℕ) (s : List ℕ) (at n : ℕ) : Type 0 where
   pub same : (final : List (List ℕ)) → getElem? (split c final s) k ≡ getElem? (split c final (drop at s)) n
@@ -59,7 +61,7 @@ along-next {n = suc n} a f x p =
     let m : suc n - 1 ≡ n = omega arith in
     record { same = λ final. a .same final ∙ rw (first-piece f final x, m) }
 
-beyond : (ws : List (List ℕ)) (n : ℕ) → length ws ≤ n → getElem? ws n ≡ none
+pub beyond : (ws : List (List ℕ)) (n : ℕ) → length ws ≤ n → getElem? ws n ≡ none
 beyond [] n h = refl
 beyond (w ∷ ws) zero h = absurd (omega arith)
 beyond (w ∷ ws) (suc n) h = beyond ws n (omega arith)

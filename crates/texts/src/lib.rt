@@ -6,7 +6,7 @@ ghost use lib.ListN.{length, getElem?};
 ghost use Rattle.texts.specs.code.Overwritten.{Overwritten};
 ghost use Rattle.texts.specs.Decimal.{digitsTo, decimalOf};
 ghost use Rattle.texts.specs.Pieces.{lines, fields};
-ghost use Rattle.texts.specs.code.Spans.{Spans, Starts};
+ghost use Rattle.texts.specs.code.Spans.{Spans, Starts, Sought};
 
 // Writes the bytes of w.
 pub fn put(w: &[u8], out: &mut [u8]) -> usize
@@ -63,8 +63,16 @@ pub fn line(s: &[u8], k: usize) -> Span
     if from == s.len() {
         return Span::Missing;
     }
-    let to = bytes::scan::find(s, from, s.len(), b'\n');
+    let to = line_end(s, from);
     Span::Found { from, to }
+}
+
+// Where the line that begins at `from` ends: at its byte 10, or where s ends.
+pub fn line_end(s: &[u8], from: usize) -> usize
+    requires { ⌜ from ≤ length (now s) ⌝ }
+    ensures { λ r. ⌜ Sought 10 (now (s .entry)) from r ⌝ }
+{
+    bytes::scan::find(s, from, s.len(), b'\n')
 }
 
 // Field k of s, from 0.

@@ -1,7 +1,7 @@
--- `sheets::judged_line` writes the line of accepted tables: rules too long, no such line, or the line of a rule.
+-- `sheets::judged_line` writes the line of accepted tables: rules too long, the line of a rule, or what is behind the lines.
 -- Assumes nothing.
 use Rattle.texts.proofs.SpansLaws.{lies}
-use Rattle.sheets.proofs.JudgedLaws.{long-made, zero-made, missing-made, found-made}
+use Rattle.sheets.proofs.JudgedLaws.{long-made, zero-made, no-line-at, found-made}
 use borrow.Author.Needs.{needs}
 use Rattle.sheets.proofs.judged_line.Statement.{statement}
 use Rattle.sheets.proofs.judged_line.Tie as tie
@@ -14,8 +14,14 @@ returns c =
 returns-2 : tie.Need-returns-2
 returns-2 c = λ T H. zero-made T (c .before .before .before .before .before .args .rules .now) _ _ (c .if2 .taken)
 
+foot-requires : tie.Need-foot-requires
+foot-requires c κs =
+    let at-if1 = c .before .before .before .before .before in
+    let at-start = at-if1 .before .before .before .before in
+    (at-start .pre .0, (at-start .pre .1, (at-if1 .if1 .left, no-line-at (at-start .args .rules .now) (at-start .args .place) (c .before .before .before .line .ensures) (c .before .enum-told .given .1) (c .before .before .before .before .if2 .left))))
+
 returns-3 : tie.Need-returns-3
-returns-3 c = λ T H. missing-made T _ _ _ (c .before .before .before .before .if1 .left) (c .before .before .line .ensures) (c .enum-told .given .1)
+returns-3 c = c .before .before .foot .ensures
 
 sub-rule-line : tie.Need-sub-rule-line
 sub-rule-line c = lies (c .before .before .before .line .ensures) (c .before .from .given .1) .low
@@ -45,6 +51,8 @@ judged-line-spec =
     (λ c. search needs)
     (λ c κs. search needs)
     (λ c. search needs)
+    (λ c. search needs)
+    foot-requires
     (λ c. search needs)
     returns-3
     sub-rule-line

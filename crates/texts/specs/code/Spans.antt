@@ -5,6 +5,7 @@ use mathlib.Core.List.{List}
 use mathlib.Core.Option.{Option, none, some}
 use Prim.Native.Nat.{ℕ, _-_, _≤_}
 use lib.ListN.{length, take, drop, getElem?}
+use Rattle.bytes.specs.Bytes.{indexOf}
 use Rattle.texts.specs.declared.Span.{Span}
 use Rattle.texts.specs.declared.Span.the-variants.{Missing, Found}
 use Rattle.texts.specs.declared.Start.{Start}
@@ -20,3 +21,10 @@ pub data Spans (s : List ℕ) (w : Option (List ℕ)) : Span → Type 0 where
 pub data Starts (c k : ℕ) (s : List ℕ) : Start → Type 0 where
   no-start : ((final : List (List ℕ)) → length final ≤ 1 → getElem? (split c final s) k ≡ none) → Starts c k s Nowhere
   start : {a : ℕ} → a ≤ length s → ((final : List (List ℕ)) → getElem? (split c final s) k ≡ getElem? (split c final (drop a s)) 0) → Starts c k s (At a)
+
+-- The first separator of s from `at` on is at e, or none is and e is the end.
+pub record Sought (c : ℕ) (s : List ℕ) (at e : ℕ) : Type 0 where
+  pub low : at ≤ e
+  pub high : e ≤ length s
+  pub rest : length (drop at s) ≡ length s - at
+  pub place : indexOf c (drop at s) ≡ e - at

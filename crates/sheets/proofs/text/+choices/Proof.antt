@@ -4,7 +4,8 @@ use native.Mathlib.Omega.{arith}
 use lib.ListN.{length, getD}
 use borrow.Author.Needs.{needs}
 use Rattle.texts.proofs.OverwrittenLaws.{written-rest, rest-room}
-use Rattle.sheets.proofs.LineLaws.{choice-short, none-left, none-chosen, one-chosen}
+use Rattle.syntax.specs.Bytes.{ascii}
+use Rattle.sheets.proofs.LineLaws.{two-short, none-left, none-chosen, one-chosen}
 use Prim.Native.Nat.{ℕ, _<_, _+_, _-_, _*_}
 use borrow.Fn.Kinds.{In}
 use borrow.Fn.PlainCycle.{Measures, is, falls, and}
@@ -43,7 +44,7 @@ choices-choices-requires t c κs =
       (
         at-start .pre .1 .0,
         rest-room (43 * (length (at-start .args .first .now) - (at-start .args .k + 1))) (c .before .before .before .choice .ensures)
-            (omega (arith, at-start .pre .1 .1, at-if1 .if1 .left, choice-short (at-start .args .k + 1) (getD (at-start .args .first .now) (at-start .args .k) 0))),
+            (omega (arith, at-start .pre .1 .1, at-if1 .if1 .left, two-short (ascii " v") (at-start .args .k + 1) (ascii "=") (getD (at-start .args .first .now) (at-start .args .k) 0))),
       ),
     )
 
