@@ -1,26 +1,25 @@
 // The listing program: prints the day sheet of `tables.bin` and `rules.txt` in the folder that it
-// runs in. Each line is made by `sheets::line`; here are only the files and the printing.
+// runs in. Each line is made by crate `sheets`; here are only the files and the printing.
 // A program has no exit status of its own: where the sheet cannot be written whole it stops and says
 // so on standard error, and `bin/day-sheet` makes an exit status of that.
 use answers::Written;
 use libc::STDERR_FILENO;
 use libc::STDOUT_FILENO;
 use sheets::LINE_ROOM;
+use sheets::RULES_LIMIT;
+use sheets::total;
+use sheets::turns;
+use tables::Outcome;
 ghost use Rattle.io.specs.Counts.{Counts};
 ghost use Prim.Native.Nat.{_≤_};
 ghost use lib.ListN.{length};
+ghost use Rattle.verdicts.specs.code.Judging.{Loaded};
+ghost use Rattle.sheets.specs.Sheet.{rulesLimit};
 
 // What was read of a file: its first n bytes, none where it cannot be read.
 struct Contents {
     good: bool,
     n: usize,
-}
-
-// What became of a line of the sheet.
-enum Line {
-    Printed,
-    Missing,
-    Unwritten,
 }
 
 fn main() {
@@ -93,35 +92,54 @@ fn read_some(fd: i32, out: &mut [u8]) -> Contents
     }
 }
 
-// Rules of 32,768 bytes have no more lines than bytes. Answers whether every line is written.
+// Prints the sheet; answers whether every line is written. The tables are read once.
 fn print_sheet(tables: &[u8], rules: &[u8]) -> bool {
-    let mut place = 1;
-    while place <= 32768 {
-        let line = print_line(tables, rules, place);
-        match line {
-            Line::Printed => {}
-            Line::Missing => return true,
-            Line::Unwritten => return false,
+    if rules.len() > RULES_LIMIT {
+        return print_only_line(tables, rules);
+    }
+    let loaded = tables::read(tables);
+    let outcome = loaded.outcome;
+    match outcome {
+        Outcome::Refused(_) => print_only_line(tables, rules),
+        Outcome::Accepted => {
+            let words = loaded.words;
+            print_lines(&words, rules)
         }
-        place += 1;
+    }
+}
+
+// The sheet of refused tables, or of rules that are too long, is its first line.
+fn print_only_line(tables: &[u8], rules: &[u8]) -> bool {
+    let mut line = [0u8; LINE_ROOM];
+    let Written::Wrote(n) = sheets::line(tables, rules, 1, &mut line) else {
+        return false;
+    };
+    print_line(&line[..n])
+}
+
+// The line of each rule, which is judged for it and not again, and the total of them.
+fn print_lines(words: &[u64], rules: &[u8]) -> bool
+    requires { ⌜ Loaded (now words) ⌝ }
+    requires { ⌜ length (now rules) ≤ rulesLimit ⌝ }
+{
+    let mut at = 0;
+    let mut total = total::no_lines();
+    let mut more = true;
+    while more {
+        let mut line = [0u8; LINE_ROOM];
+        let turn = turns::next_line(words, rules, at, total, &mut line);
+        let n = turn.n;
+        if !print_line(&line[..n]) {
+            return false;
+        }
+        more = !turn.last;
+        at = turn.at;
+        total = turn.total;
     }
     true
 }
 
-// Prints the line at a place, if there is one.
-fn print_line(tables: &[u8], rules: &[u8], place: usize) -> Line {
-    let mut line = [0u8; LINE_ROOM];
-    let Written::Wrote(n) = sheets::line(tables, rules, place, &mut line) else {
-        return Line::Missing;
-    };
-    if n == 0 {
-        return Line::Missing;
-    }
-    if !io::write_all(STDOUT_FILENO, &line[..n]) {
-        return Line::Unwritten;
-    }
-    if !io::write_all(STDOUT_FILENO, b"\n") {
-        return Line::Unwritten;
-    }
-    Line::Printed
+// Prints a line with its byte 10; answers whether it is written.
+fn print_line(line: &[u8]) -> bool {
+    io::write_all(STDOUT_FILENO, line) && io::write_all(STDOUT_FILENO, b"\n")
 }

@@ -1,12 +1,13 @@
 -- Laws of the lines one after another: where they begin, what the next one is, and how far the total has come with it.
 -- Assumes nothing.
 use mathlib.Core.Path.{_≡_, refl, sym, ap, _∙_}
-use mathlib.Core.Bool.{true, false}
+use mathlib.Core.Bool.{Bool, true, false, not}
 use mathlib.Core.List.{List, [], _∷_}
 use mathlib.Core.Option.{some}
 use Prim.Native.Nat.{ℕ, zero, suc, _+_, _-_, _≤_, _<_}
 use native.Mathlib.Numerals.{add-one}
 use native.Mathlib.Omega.{arith}
+use borrow.Author.Tests.{not-true}
 use lib.ListN.{length, take, drop, getElem?, length-append, drop-of-length-le}
 use Rattle.syntax.specs.Bytes.{Bytes}
 use Rattle.tables.specs.Tables.{Tables}
@@ -14,6 +15,7 @@ use Rattle.texts.specs.Pieces.{split, lines}
 use Rattle.texts.specs.code.Overwritten.{Overwritten}
 use Rattle.texts.specs.code.Spans.{Sought}
 use Rattle.texts.proofs.SpansLaws.{next-line}
+use Rattle.texts.proofs.OverwrittenLaws.{written-length}
 use Rattle.verdicts.specs.Verdict.{turnVerdict}
 use Rattle.verdicts.specs.code.Judging.{TablesAt}
 use Rattle.verdicts.specs.declared.Outcome.{Outcome}
@@ -108,3 +110,22 @@ not-last r e o = record {
   ends = λ q T H. let z : _≡_ {A = ℕ} 0 1 = cc in absurd (omega arith);
   goes = λ q. o;
 }
+
+-- What a caller that goes from line to line needs: the line lies in the lent bytes, and there is an end.
+pub line-within : {w old new : List ℕ} {n : ℕ} → Overwritten w old new n → n ≤ length new
+line-within x = omega (arith, x .count, x .fits, written-length x)
+
+abbrev pub turnsLeft : Bool → Bytes → ℕ → ℕ
+turnsLeft true rules at = suc (suc (length rules) - at)
+turnsLeft false rules at = 0
+
+module _ {ts : List ℕ} {rules : Bytes} {at : ℕ} {t : Total} {r : Turn} (x : Turns ts rules at t r) where
+  pub turn-on : not (r .last) ≡ true → SofarOn ts rules (r .at) (r .total)
+  turn-on e = x .goes (not-true (r .last) e) .on
+
+  pub turn-less : turnsLeft (not (r .last)) rules (r .at) < turnsLeft true rules at
+  turn-less = go (r .last) (x .goes)
+    where
+      go : (b : Bool) → (b ≡ false → Onward ts rules at (r .at) (r .total)) → turnsLeft (not b) rules (r .at) < turnsLeft true rules at
+      go true f = omega arith
+      go false f = let o = f refl in omega (arith, o .within, o .further)
