@@ -10,6 +10,7 @@ use answers::Written;
 use libc::STDOUT_FILENO;
 use rules::Checked;
 use sheets::LINE_ROOM;
+use sheets::RULES_LIMIT;
 use tables::Outcome;
 ghost use Prim.Native.Nat.{_≤_};
 ghost use lib.ListN.{length};
@@ -138,22 +139,19 @@ fn sheet(line: &[u8], tables: &[u8])
         return;
     }
     let n = r.n;
-    if !print_sheet(tables, &rules[..n]) {
-        io::write_all(STDOUT_FILENO, b"-");
-    }
+    print_sheet(tables, &rules[..n]);
     io::write_all(STDOUT_FILENO, b"\n");
 }
 
-// Prints the lines; answers whether there is any. There are no more lines than 32,768 bytes.
-fn print_sheet(tables: &[u8], rules: &[u8]) -> bool {
+// Prints the lines: no more than the rules have bytes, and the total behind them.
+fn print_sheet(tables: &[u8], rules: &[u8]) {
     let mut place = 1;
-    while place <= 32768 {
+    while place <= RULES_LIMIT + 1 {
         if !print_line(tables, rules, place) {
-            return 1 < place;
+            return;
         }
         place += 1;
     }
-    true
 }
 
 // Prints the line at a place, with its byte 10; answers whether there is one.

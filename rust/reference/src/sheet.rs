@@ -1,4 +1,4 @@
-//! Document 01, "Day sheet": what the listing program prints for two files.
+//! Document 01, "Day sheet", and document 02, N1: what the listing program prints for two files.
 
 use crate::verdict::{read_order, walk, Verdict};
 use crate::{rule, tables, Answer};
@@ -15,11 +15,24 @@ pub fn sheet(tables: &[u8], rules: &[u8]) -> String {
     if rules.len() > LONGEST {
         return "rules too long\n".to_string();
     }
-    lines(rules)
+    let lines: Vec<String> = lines(rules)
         .iter()
         .enumerate()
         .map(|(place, text)| line(place + 1, judged(&tables, text)))
-        .collect()
+        .collect();
+    lines.concat() + &total(&lines)
+}
+
+/// "Print a last line `total L held H idle I broken B refused R`. L is the number of lines; each
+/// other number is how many lines above carry that word."
+fn total(lines: &[String]) -> String {
+    let carrying = |word: &str| {
+        let carries = |line: &&String| line.split_whitespace().nth(1) == Some(word);
+        lines.iter().filter(carries).count()
+    };
+    let words = ["held", "idle", "broken", "refused"];
+    let counts = words.map(|word| format!(" {word} {}", carrying(word)));
+    format!("total {}{}\n", lines.len(), counts.concat())
 }
 
 /// The lines of a file; nothing after a final byte 10 is no line.

@@ -14,7 +14,23 @@ const B: &[u8] = b"OE(OE(CR))@roles(OE(U))=>(AO(OE(CR))&roles(OE(U)))={}";
 fn the_listing() {
     let rules = b"|(roles(OE(U))&OE(CR))|<=1\n|(roles(OE(S))&OE(CR))|<=1\n|CR|=1\n|roles(OE(U))";
     let lines = "1 broken 2 1 50 v1=0 v2=0\n2 idle 0 0 -\n3 held 1 0 0\n4 refused 13\n";
-    assert_eq!(sheet::sheet(T, rules), lines);
+    let total = "total 4 held 1 idle 1 broken 1 refused 1\n";
+    assert_eq!(sheet::sheet(T, rules), [lines, total].concat());
+}
+
+#[test]
+fn the_foot_of_the_listing() {
+    let none = "total 0 held 0 idle 0 broken 0 refused 0\n";
+    assert_eq!(sheet::sheet(T, b""), none);
+    for rules in [&b"U=U\n\n"[..], b"U=U\n\r"] {
+        let foot = "total 2 held 1 idle 0 broken 0 refused 1\n";
+        assert!(sheet::sheet(T, rules).ends_with(foot));
+    }
+    let longest = vec![b'\n'; 32_768];
+    let foot = "total 32768 held 0 idle 0 broken 0 refused 32768\n";
+    assert!(sheet::sheet(T, &longest).ends_with(foot));
+    assert_eq!(sheet::sheet(T, &[b'\n'; 32_769]), "rules too long\n");
+    assert_eq!(sheet::sheet(b"A", b""), "tables refused 2\n");
 }
 
 #[test]
