@@ -11,7 +11,9 @@
 #include <string.h>
 
 static const uint8_t in_turn[RCL2000_MAX_VARIABLES] = {1, 2, 3, 4, 5, 6, 7, 8};
-static const char *const words[] = {"held", "idle", "broken"};
+/* The words of a verdict by its number, and then that of a refusal. */
+enum { REFUSED = 3, WORDS };
+static const char *const words[WORDS] = {"held", "idle", "broken", "refused"};
 
 /* The bytes of a file, at most `most`; answers whether it could be read. */
 static int read_file(const char *folder, const char *name, uint8_t *bytes, size_t most, size_t *length) {
@@ -60,15 +62,31 @@ static void print_verdict(const uint8_t *verdict) {
     printf("\n");
 }
 
-/* The line of one rule, which stands at a place. */
-static void print_line(const uint8_t *tables, size_t t, const uint8_t *rule, size_t length, size_t place) {
+/* The line of one rule, which stands at a place; answers which word it carries. */
+static size_t print_line(const uint8_t *tables, size_t t, const uint8_t *rule, size_t length, size_t place) {
     uint8_t verdict[RCL2000_VERDICT];
     uint32_t returned = judge(tables, t, rule, length, in_turn, variables(rule, length), verdict, sizeof verdict);
     printf("%zu ", place);
-    if (RCL2000_REFUSAL(returned) != 0)
-        printf("refused %" PRIu32 "\n", RCL2000_REFUSAL(returned));
-    else
-        print_verdict(verdict);
+    if (RCL2000_REFUSAL(returned) != 0) {
+        printf("%s %" PRIu32 "\n", words[REFUSED], RCL2000_REFUSAL(returned));
+        return REFUSED;
+    }
+    print_verdict(verdict);
+    return verdict[RCL2000_VERDICT_WORD];
+}
+
+/* The line of each rule, and how many carry each word. */
+static void print_sheet(const uint8_t *tables, size_t t, const uint8_t *rules, size_t r) {
+    size_t lines = 0, from = 0, i, carrying[WORDS] = {0};
+    while (from < r) {
+        const uint8_t *end = (const uint8_t *)memchr(rules + from, '\n', r - from);
+        size_t length = end == NULL ? r - from : (size_t)(end - (rules + from));
+        carrying[print_line(tables, t, rules + from, length, ++lines)]++;
+        from += length + 1;
+    }
+    printf("total %zu", lines);
+    for (i = 0; i < WORDS; i++) printf(" %s %zu", words[i], carrying[i]);
+    printf("\n");
 }
 
 /* The refusal of the tables, whatever the rule; 0 where they are accepted. */
@@ -79,21 +97,15 @@ static uint32_t refused_tables(const uint8_t *tables, size_t t) {
 
 int main(int count, char **given) {
     static uint8_t tables[4096], rules[32768];
-    size_t t = 0, r = 0, place = 1, from = 0;
+    size_t t = 0, r = 0;
     if (count != 2 || !read_file(given[1], "tables.bin", tables, sizeof tables, &t) ||
         !read_file(given[1], "rules.txt", rules, sizeof rules, &r)) {
         fprintf(stderr, "closing FOLDER, which has tables.bin and rules.txt\n");
         return 2;
     }
-    if (refused_tables(tables, t) != 0) {
+    if (refused_tables(tables, t) != 0)
         printf("tables refused %" PRIu32 "\n", refused_tables(tables, t));
-        r = 0;
-    }
-    while (from < r) {
-        const uint8_t *end = (const uint8_t *)memchr(rules + from, '\n', r - from);
-        size_t length = end == NULL ? r - from : (size_t)(end - (rules + from));
-        print_line(tables, t, rules + from, length, place++);
-        from += length + 1;
-    }
+    else
+        print_sheet(tables, t, rules, r);
     return fflush(stdout) == 0 && !ferror(stdout) ? 0 : 1;
 }

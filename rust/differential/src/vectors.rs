@@ -1,5 +1,6 @@
 //! Commands with the answers that are expected, line for line.
 
+use rcl2000::Word;
 use reference::protocol::{answer, hex, Command, FILL};
 
 use crate::hold::{reply, Question};
@@ -59,7 +60,7 @@ fn differing(command: &[u8], expected: &[u8]) -> Option<String> {
     Some(format!("{command}\n  expected {expected}\n  {who}: {got}"))
 }
 
-/// The library's answer, to the commands that it has a call for; the reference's to the others.
+/// The library's answer: that of the call, or the day sheet made of its verdicts.
 fn library(command: &Command) -> String {
     let checked = |answer: Result<(), rcl2000::Refusal>| {
         let number = answer.err().map_or(0, |refusal| refusal.number());
@@ -74,9 +75,44 @@ fn library(command: &Command) -> String {
             Question::judge(tables.clone(), rule.clone(), order.clone()),
             *length,
         ),
-        Command::Sheet(..) => return command.plain(),
+        Command::Sheet(tables, rules) => return hex(sheet(tables, rules).as_bytes()),
     };
     let mut out = vec![FILL; length].into_boxed_slice();
     let returned = reply(question.ask(&mut out));
     format!("{returned} {}", hex(&out))
+}
+
+/// The most bytes of rules that are listed.
+const LONGEST_RULES: usize = 32_768;
+
+/// The day sheet by the library's calls: the line of each rule, and what their outcomes come to.
+fn sheet(tables: &[u8], rules: &[u8]) -> String {
+    if let Err(refusal) = rcl2000::check_tables(tables) {
+        return format!("tables refused {}\n", refusal.number());
+    }
+    if rules.len() > LONGEST_RULES {
+        return "rules too long\n".to_string();
+    }
+    let rules = lines(rules);
+    let (mut sheet, mut counts) = (String::new(), [0; 4]);
+    for (place, rule) in rules.iter().enumerate() {
+        let (line, word) = match rcl2000::judge_in_turn(tables, rule) {
+            Ok(verdict) => (verdict.to_string(), word_at(verdict.word)),
+            Err(refusal) => (format!("refused {}", refusal.number()), 3),
+        };
+        sheet += &format!("{} {line}\n", place + 1);
+        counts[word] += 1;
+    }
+    let ([held, idle, broken, refused], all) = (counts, rules.len());
+    sheet + &format!("total {all} held {held} idle {idle} broken {broken} refused {refused}\n")
+}
+
+/// The place of a word among the counts of the total.
+fn word_at(word: Word) -> usize {
+    match word {
+        Word::Held => 0,
+        Word::Idle => 1,
+        Word::Broken => 2,
+        other => panic!("a verdict's word is {other}"),
+    }
 }

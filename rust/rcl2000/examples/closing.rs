@@ -1,4 +1,5 @@
-//! The sample evening: its tables made of plain values, and the verdict on each of its rules.
+//! The sample evening: its tables made of plain values, the verdict on each of its rules, and what
+//! they come to.
 //!
 //! It prints what `bin/day-sheet samples/closing` prints.
 
@@ -19,16 +20,32 @@ fn main() -> Result<(), Box<dyn Error>> {
         return Err("tables.bin has other tables than this evening's".into());
     }
     let rules = fs::read_to_string(folder.join("rules.txt"))?;
+    let mut words = Vec::new();
     for (place, rule) in rules.split_terminator('\n').enumerate() {
         match judge_in_turn(&tables, rule.as_bytes()) {
-            Ok(verdict) => println!("{} {verdict}", place + 1),
+            Ok(verdict) => {
+                println!("{} {verdict}", place + 1);
+                words.push(verdict.word.to_string());
+            }
             Err(refusal) => {
                 println!("{} refused {}", place + 1, refusal.number());
                 eprintln!("{rule}: {refusal}");
+                words.push("refused".to_string());
             }
         }
     }
+    println!("{}", total(&words));
     Ok(())
+}
+
+/// The foot of the sheet: how many lines there are, and how many carry each word.
+fn total(words: &[String]) -> String {
+    let mut total = format!("total {}", words.len());
+    for word in ["held", "idle", "broken", "refused"] {
+        let carrying = words.iter().filter(|carried| *carried == word).count();
+        total += &format!(" {word} {carrying}");
+    }
+    total
 }
 
 /// Who works at the mill, in what, and what is to be kept apart.
