@@ -1,5 +1,8 @@
 -- `sheets::judged_line` writes the line of accepted tables: rules too long, the line of a rule, or what is behind the lines.
 -- Assumes nothing.
+use Prim.Native.Nat.{_<_}
+use native.Mathlib.Omega.{arith}
+use lib.ListN.{length}
 use Rattle.texts.proofs.SpansLaws.{lies}
 use Rattle.sheets.proofs.JudgedLaws.{long-made, zero-made, no-line-at, found-made}
 use borrow.Author.Needs.{needs}
@@ -9,7 +12,8 @@ use Rattle.sheets.proofs.judged_line.Tie as tie
 returns : tie.Need-returns
 returns c =
     let at-start = c .before .before .before .before .before .before .before .before in
-    λ T H. long-made T (at-start .args .rules .now) _ (c .before .before .before .before .if1 .taken) (c .before .before .long-rules .ensures)
+    let long : 32768 < length (at-start .args .rules .now) = omega (arith, c .before .before .before .before .if1 .taken) in
+    λ T H. long-made T (at-start .args .rules .now) _ long (c .before .before .long-rules .ensures)
 
 returns-2 : tie.Need-returns-2
 returns-2 c = λ T H. zero-made T (c .before .before .before .before .before .args .rules .now) _ _ (c .if2 .taken)
