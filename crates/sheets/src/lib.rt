@@ -29,7 +29,8 @@ pub const LINE_ROOM: usize = 512;
 // Longer rules are not read.
 pub const RULES_LIMIT: usize = 32768;
 
-// The line at a place, from 1, without byte 10; no bytes at any other place.
+// The line at a place, from 1, without byte 10; no bytes at any other place. Behind the lines of the rules stands their
+// total: every rule is judged for it. Whoever wants the whole sheet goes by `turns::next_line`.
 pub fn line(tables: &[u8], rules: &[u8], place: usize, out: &mut [u8]) -> Written
     ensures { λ r. ⌜ Lines (now (tables .entry)) (now (rules .entry)) place (now (out .entry)) (now (out .exit)) r ⌝ }
 {
