@@ -10,7 +10,7 @@ use native.Mathlib.Omega.{arith}
 use lib.Dec.{leb}
 use lib.ListN.{length, take, drop, getElem?}
 use lib.Seq.{take-at, drop-at}
-use borrow.Author.Tests.{le-leb, leb-false}
+use borrow.Author.Tests.{le-leb, lt-leb, leb-false}
 use Rattle.answers.specs.Refusal.{numberOf}
 use Rattle.answers.specs.Answer.{refused, ifRoom, lent, outputAfter, answerNumber, answerLength}
 use Rattle.answers.specs.Written.{numberIn, lengthIn}
@@ -22,7 +22,7 @@ use Rattle.syntax.proofs.RuleLaws.{rule-text}
 use Rattle.rules.specs.Accept.{refusal, isNone, accepted}
 use Rattle.rules.proofs.AcceptLaws.{accepted-rule}
 use Rattle.tables.specs.Tables.{Tables}
-use Rattle.tables.specs.Reading.{taken, tablesOf}
+use Rattle.tables.specs.Reading.{rejected, taken, tablesOf}
 use Rattle.texts.specs.Pieces.{lines}
 use Rattle.texts.specs.Decimal.{decimalOf}
 use Rattle.walks.specs.Order.{upFrom, variablesOf}
@@ -34,7 +34,7 @@ use Rattle.verdicts.proofs.VerdictLaws.{turn-order}
 use Rattle.verdicts.proofs.ReportLaws.{verdict-reports}
 use Rattle.sheets.specs.Line.{labelled, saysOf, lineText}
 use Rattle.sheets.specs.Total.{isHeld, isIdle, isBroken, isRefused, totalOf}
-use Rattle.sheets.specs.Sheet.{judgedFrom, listed, sheetBy, sheetOf, sheetLine}
+use Rattle.sheets.specs.Sheet.{judgedFrom, only, listed, sheetBy, sheetOf, sheetLine}
 use Rattle.sheets.specs.Promise.{Lines, Wrote, TooShort, LineReports, TotalReports}
 use Rattle.sheets.proofs.SheetLaws.{judged-length, listed-some, listed-total, listed-none}
 use Rattle.sheets.proofs.TotalLaws.{total-adds-up}
@@ -101,6 +101,16 @@ module _ (tables rules : Bytes) (T : Tables) (t : tablesOf tables ≡ taken T) (
       → sheetLine (sheetOf tables rules) (suc k) ≡ decimalOf (suc k) ++ labelled (ascii " refused ") (numberOf e)
   unfolding turnVerdict acceptedVerdict saysOf
   line-refused e h = line-is ∙ rw h
+
+-- "Refused tables .. and `rules too long` print as before": one line, and no total.
+module _ (tables rules : Bytes) where
+  pub refused-only : (e : Refusal) → tablesOf tables ≡ rejected e → sheetOf tables rules ≡ only (labelled (ascii "tables refused ") (numberOf e))
+  unfolding sheetOf sheetBy
+  refused-only e t = rw t
+
+  pub long-only : (T : Tables) → tablesOf tables ≡ taken T → 32768 < length rules → sheetOf tables rules ≡ only (ascii "rules too long")
+  unfolding sheetOf sheetBy
+  long-only T t long = rw (t, lt-leb (length rules) 32768 long)
 
 -- N1, as the sheet's reader meets it: behind the L lines of the rules stands their total, and nothing further.
 module _ (tables rules : Bytes) (T : Tables) (t : tablesOf tables ≡ taken T) (short : length rules ≤ 32768) where

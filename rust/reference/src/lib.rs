@@ -1,6 +1,7 @@
-//! Document 01 a second time: tables, rules, formulas, verdicts and the day sheet in plain Rust.
+//! Document 01 a second time, with N1 of document 02: tables, rules, formulas, verdicts and the day
+//! sheet in plain Rust.
 //!
-//! It was written from document 01 alone and shares no code with the proved library, so that the
+//! It was written from the documents alone and shares no code with the proved library, so that the
 //! two can be held against each other. The modules follow the document: a tree for rules, sets for
 //! values, and for verdicts every choice tried in turn. [`fast`] answers the same questions as one
 //! would in a program that is used, and is what the benchmark compares with.

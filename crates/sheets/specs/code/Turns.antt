@@ -58,6 +58,7 @@ pub record Sofar (T : Tables) (rules : Bytes) (at : ℕ) (t : Total) : Type 0 wh
   pub adds : Adds T (lines (drop at rules)) t (lines rules)
 
 module _ (ts : List ℕ) (rules : Bytes) where
+  -- The same whatever tables the words hold, of rules that are listed.
   pub record SofarOn (at : ℕ) (t : Total) : Type 0 where
     pub short : length rules ≤ rulesLimit
     pub earlier : Earlier at t
