@@ -13,10 +13,11 @@
  * - Pointers. Each points to as many bytes as its length says, and is not NULL, also where the length is 0.
  * - Aliasing. `out` overlaps no input. Inputs may overlap each other. Nothing else may write to any of them before the
  *   call returns. No pointer is kept after that.
- * - Time. reduce and rebuild take microseconds. judge takes as long as there are full choices, some 20 to 100 ns for each
- *   on a present machine, and there may be as many as 64 to the power of the number of variables: 4,096 with two
- *   variables, 16 million with four, 2.8e14 with eight, which takes months. A call cannot be interrupted. Whoever judges
- *   rules that others wrote counts the variables first (the `[` in the formula that reduce writes).
+ * - Time. reduce and rebuild take microseconds, judge a tenth of a millisecond with two variables and a few milliseconds
+ *   for most rules with more, whatever the order. A rule with one clause over many variables, or with sets inside sets, can
+ *   still take some 20 to 100 ns for each full choice on a present machine, and there may be as many as 64 to the power of
+ *   the number of variables: 16 million with four, 2.8e14 with eight, which takes months. A call cannot be interrupted.
+ *   Whoever judges rules that others wrote counts the variables first (the `[` in the formula that reduce writes).
  * - Stack. All memory comes from the stack of the thread that calls, at the most RCL2000_STACK_REDUCE,
  *   RCL2000_STACK_REBUILD and RCL2000_STACK_JUDGE bytes, whatever the input. (Measured and tested, not proved.)
  * - Threads. No state is kept between calls or shared: any number of threads may call at once.

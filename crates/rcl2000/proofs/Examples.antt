@@ -48,7 +48,7 @@ use Rattle.values.proofs.BoundLaws.{accepted-within}
 use Rattle.verdicts.specs.declared.Verdict.{Verdict}
 use Rattle.verdicts.specs.Verdict.{outcomeOf, firstBreaking, verdictAlong, ifOrdered, orderVerdict, treeVerdict, acceptedVerdict, tablesVerdict}
 use Rattle.verdicts.specs.Verdict.{verdictOf, written, answerBy, answered, judged}
-use Rattle.verdicts.specs.code.Judging.{InSorts}
+use Rattle.judging.specs.code.Lent.{InSorts}
 use Rattle.verdicts.proofs.VerdictLaws.{walk-full, walk-breaking}
 use Rattle.rcl2000.specs.Examples.{bytesT, Line, has, isNone, gives, Right, All, table}
 

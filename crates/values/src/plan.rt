@@ -27,6 +27,15 @@ pub const NODE_COUNT: usize = 848;
 
 pub const CLAUSE_COUNT: usize = 849;
 
+// What the search for an order goes by, which stands behind all that: what each clause names, what each set names, the kinds of the sets.
+pub const SCOPES: usize = 880;
+
+pub const SCOPE_ROOM: usize = 64;
+
+pub const NAMES: usize = 944;
+
+pub const KINDS: usize = 952;
+
 // The parts of a node's word: the node, the kind of its left, its variable, the next node of its level. A clause's: its two tests.
 const NODE_ROOM: u64 = 4294967296;
 

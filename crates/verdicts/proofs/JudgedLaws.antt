@@ -26,7 +26,7 @@ use Rattle.values.proofs.BoundLaws.{accepted-within}
 use Rattle.verdicts.specs.Verdict.{fullCount, breakingCount, firstBreaking, verdictAlong, refusedBy, ifOrdered, orderVerdict, treeVerdict}
 use Rattle.verdicts.specs.Verdict.{acceptedVerdict, tablesVerdict, verdictOf, verdictBytes, unlessRefused, answerBy, judged}
 use Rattle.verdicts.specs.Report.{OrderOf, Admitted, Met, badTables, badRule, badOrder, good}
-use Rattle.verdicts.specs.code.Judging.{InSorts}
+use Rattle.judging.specs.code.Lent.{InSorts}
 use Rattle.verdicts.proofs.OutcomeLaws.{word-accepted}
 use Rattle.verdicts.proofs.VerdictLaws.{first-least}
 use Rattle.verdicts.proofs.SheetLaws.{length-written}

@@ -19,7 +19,8 @@ use Rattle.rules.specs.code.Parsed.{checkedOf, RuleAt, Parses}
 use Rattle.values.proofs.BoundLaws.{accepted-within}
 use Rattle.verdicts.specs.declared.Verdict.{Verdict}
 use Rattle.verdicts.specs.Verdict.{refusedBy, orderVerdict, treeVerdict, acceptedVerdict}
-use Rattle.verdicts.specs.code.Judging.{Case, Lent, TablesAt, Loaded}
+use Rattle.judging.specs.code.Lent.{Case, Lent}
+use Rattle.verdicts.specs.code.Judging.{TablesAt, Loaded}
 
 checked-none : (q : Option Refusal) → checkedOf q ≡ Accepted → q ≡ none
 checked-none none e = refl

@@ -2,39 +2,27 @@
 -- Assumes nothing.
 use mathlib.Core.Path.{_≡_, refl, sym, ap, _∙_}
 use mathlib.Core.Bool.{Bool, true, false}
-use mathlib.Core.List.{List, [], _∷_}
+use mathlib.Core.List.{List, []}
 use Prim.Native.Nat.{ℕ, _≤_, _^_}
 use native.Mathlib.Omega.{arith}
 use lib.ListN.{length}
 use Rattle.answers.specs.declared.Refusal.the-variants.{NotAnOrder}
 use Rattle.tables.specs.Tables.{Tables}
-use Rattle.syntax.specs.Term.{Choices}
 use Rattle.syntax.specs.Rule.{Rule, ruleVars}
-use Rattle.syntax.specs.code.Arena.{HoldsAll}
 use Rattle.walks.specs.Choices.{nothingChosen}
 use Rattle.walks.specs.Order.{variablesOf, isOrder, namedBy}
 use Rattle.walks.specs.Meaning.{Admissible}
 use Rattle.walks.specs.declared.Tally.{Tally}
 use Rattle.walks.specs.code.Tally.{Walked}
-use Rattle.walks.proofs.OrderLaws.{order-admissible, order-after, order-length, order-agree, length-variables-of}
+use Rattle.walks.proofs.OrderLaws.{order-admissible, order-length, length-variables-of}
 use Rattle.values.specs.Sets.{inSet, names, breaks}
-use Rattle.values.specs.code.Nodes.{Variables, Named}
+use Rattle.values.specs.code.Nodes.{Named}
+use Rattle.judging.proofs.WalkingLaws.{named-order, as-many}
 use Rattle.verdicts.specs.declared.Verdict.{Verdict}
 use Rattle.verdicts.specs.Verdict.{fullCount, breakingCount, firstBreaking, verdictAlong, refusedBy, orderVerdict}
-use Rattle.verdicts.specs.code.Judging.{InSorts, Case, InTurn, ruledBy}
+use Rattle.judging.specs.code.Lent.{InSorts, Case}
+use Rattle.verdicts.specs.code.Judging.{ruledBy}
 use Rattle.verdicts.proofs.VerdictLaws.{walk-full, walk-breaking, breaking-le-full, full-fits}
-use Rattle.syntax.proofs.NameLaws.{all-length}
-
--- The words of what the sets name serve the test of an order.
-pub named-order : (n : ℕ) (words vs : List ℕ) (σ : Choices) → n ≤ 8 → Named n words σ → isOrder (namedBy words) n vs ≡ isOrder (names σ) n vs
-unfolding Named
-named-order n words vs σ few h = order-agree (namedBy words) (names σ) n (λ v u l m. h v u l (omega arith)) vs
-
--- What it accepts is in turn.
-pub in-turn : {ns : List ℕ} {n : ℕ} {vs : List ℕ} (words order : List ℕ) → length vs ≤ 8 → ((σ : Choices) → Variables ns n vs σ → Named (length vs) words σ)
-    → isOrder (namedBy words) (length vs) order ≡ true → InTurn ns n vs order
-in-turn {vs = vs} words order few named ok σ w =
-    order-after (names σ) (length vs) order (sym (named-order (length vs) words order σ few (named σ w)) ∙ ok)
 
 module _ (T : Tables) (ρ : Rule) where
   not-ordered : (order : List ℕ) → isOrder (names (ruleVars [] ρ)) (length (ruleVars [] ρ)) (variablesOf order) ≡ false → refusedBy NotAnOrder ≡ orderVerdict T ρ order
@@ -84,19 +72,16 @@ module _ (T : Tables) (ρ : Rule) where
 
 -- What the code's test of the order says, where the slices hold the case.
 module _ {ts ns : List ℕ} {n : ℕ} {ks vs : List ℕ} {root : ℕ} {T : Tables} {ρ : Rule} (C : Case ts ns n ks vs root T ρ) (few : length vs ≤ 8) where
-  pub as-many : length vs ≡ length (ruleVars [] ρ)
-  as-many = sym (all-length ns vs (ruleVars [] ρ) (C .world .variables .holds))
-
   pub few-variables : length (ruleVars [] ρ) ≤ 8
-  few-variables = omega (arith, as-many)
+  few-variables = omega (arith, as-many C few)
 
   pub other-length : (order : List ℕ) → (length order ≡ length vs → ⊥) → refusedBy NotAnOrder ≡ orderVerdict T ρ order
-  other-length order ne = wrong-length T ρ order (λ e. ne (e ∙ sym as-many))
+  other-length order ne = wrong-length T ρ order (λ e. ne (e ∙ sym (as-many C few)))
 
   module _ (words order listed : List ℕ) (f : Bool) (named : Named (length vs) words (ruleVars [] ρ)) (same : listed ≡ variablesOf order)
       (test : f ≡ isOrder (namedBy words) (length vs) listed) where
     told : f ≡ isOrder (names (ruleVars [] ρ)) (length (ruleVars [] ρ)) listed
-    told = test ∙ named-order (length vs) words listed (ruleVars [] ρ) few named ∙ ap (λ (k : ℕ). isOrder (names (ruleVars [] ρ)) k listed) as-many
+    told = test ∙ named-order (length vs) words listed (ruleVars [] ρ) few named ∙ ap (λ (k : ℕ). isOrder (names (ruleVars [] ρ)) k listed) (as-many C few)
 
     pub no-order : f ≡ false → refusedBy NotAnOrder ≡ orderVerdict T ρ order
     no-order h = wrong-order T ρ order (told ∙ ap (isOrder (names (ruleVars [] ρ)) (length (ruleVars [] ρ))) same) h

@@ -26,7 +26,7 @@ use Rattle.values.specs.Sets.{itemsOf, inSet, names, breaks}
 use Rattle.values.proofs.ReadsLaws.{sets-read}
 use Rattle.values.proofs.EarlierLaws.{rule-earlier}
 use Rattle.verdicts.specs.Verdict.{fullCount, breakingCount, firstBreaking}
-use Rattle.verdicts.specs.code.Judging.{InSorts}
+use Rattle.judging.specs.code.Lent.{InSorts}
 
 -- "1, 2, .." is always an order of a rule's variables.
 pub turn-order : (ρ : Rule) → isOrder (names (ruleVars [] ρ)) (length (ruleVars [] ρ)) (variablesOf (upFrom 1 (length (ruleVars [] ρ)))) ≡ true

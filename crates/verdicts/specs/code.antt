@@ -1,7 +1,3 @@
 -- What only the code needs: nobody has to believe these definitions to read what the entry points promise.
 pub mod Judging
-pub mod Planning
-pub mod Counting
-pub mod Orders
-pub mod Walking
 pub mod Writing

@@ -14,12 +14,8 @@ ghost use Rattle.verdicts.specs.code.Judging.{Loaded, SomeRule, JudgesOn
 ghost use Rattle.answers.specs.Written.{Answers};
 ghost use Rattle.verdicts.specs.code.Writing.{PutsVerdict};
 
-mod counting;
-mod orders;
-mod planning;
 mod ruling;
 mod sheet;
-mod walking;
 
 // What judging says: a refusal, or the verdict's word.
 pub enum Outcome {

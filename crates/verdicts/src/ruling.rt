@@ -1,14 +1,15 @@
 // From a walk to a verdict: the order's test, the verdict's word, the share.
 use crate::Outcome;
 use crate::Verdict;
-use crate::walking;
 use answers::Refusal;
+use judging::walking;
 use rules::Parsed;
 use walks::Tally;
 ghost use mathlib.Core.Path.{_≡_};
 ghost use Prim.Native.Nat.{_≤_, _^_};
 ghost use Rattle.verdicts.specs.Verdict.{outcomeOf, refusedBy};
-ghost use Rattle.verdicts.specs.code.Judging.{LentBy, RulesOn, ruledBy};
+ghost use Rattle.judging.specs.code.Lent.{LentBy};
+ghost use Rattle.verdicts.specs.code.Judging.{RulesOn, ruledBy};
 
 // A refusal has counts 0, share 255 and choice all 255.
 pub fn refused(refusal: Refusal) -> Verdict

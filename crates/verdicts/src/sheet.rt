@@ -1,6 +1,5 @@
 // Writing a verdict as 26 bytes: its word, full and breaking as words of 8 bytes, the choice, the share.
 use crate::Verdict;
-ghost use mathlib.Core.Path.{_≡_};
 ghost use Prim.Native.Nat.{_+_, _≤_};
 ghost use lib.ListN.{length};
 ghost use Rattle.tables.specs.Bytes.{lowestFirst};
@@ -20,15 +19,6 @@ fn word_behind(n: usize, w: u64, out: &mut [u8])
         rest = rest / 256;
         i += 1;
     }
-}
-
-// A word as 8 bytes, lowest byte first.
-pub fn bytes(w: u64) -> [u8; 8]
-    ensures { λ r. ⌜ r ≡ lowestFirst 8 w ⌝ }
-{
-    let mut b = [0u8; 8];
-    word_behind(0, w, &mut b);
-    b
 }
 
 // Writes the verdict with that word over the beginning of the lent bytes.

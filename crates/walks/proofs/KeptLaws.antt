@@ -49,13 +49,14 @@ module _ (kept : List ℕ) (k full breaking choice : ℕ) (fits : k < 1024) (lon
       ∙ getD-set-other one (3 * k + 1) (3 * j + i) breaking 0 (λ e. ne (omega arith))
       ∙ getD-set-other kept (3 * k) (3 * j + i) (full + 1) 0 (λ e. ne (omega arith))
 
--- one number more is that of a slot which was not written
-pub unwritten-next : (kept : List ℕ) (i : ℕ) → i < length kept → Unwritten i kept → Unwritten (i + 1) (set kept i unwritten)
-unwritten-next kept i l h j m = go (ℕ-discrete j i)
+-- one number more is what it should be: that of another list, or of a slot which was not written
+pub put-next : (found : List ℕ) (is : ℕ → ℕ) (i : ℕ) → i < length found → ((j : ℕ) → j < i → getD found j 0 ≡ is j) → (x : ℕ) → x ≡ is i
+    → (j : ℕ) → j < i + 1 → getD (set found i x) j 0 ≡ is j
+put-next found is i l h x e j m = go (ℕ-discrete j i)
   where
-    go : Dec (j ≡ i) → getD (set kept i unwritten) j 0 ≡ unwritten
-    go (yes e) = rw e (getD-set-same kept i unwritten 0 l)
-    go (no ne) = getD-set-other kept i j unwritten 0 ne ∙ h j (omega arith)
+    go : Dec (j ≡ i) → getD (set found i x) j 0 ≡ is j
+    go (yes q) = rw q (getD-set-same found i x 0 l ∙ e)
+    go (no ne) = getD-set-other found i j x 0 ne ∙ h j (omega arith)
 
 module _ (s : Sets) (K : Clauses) (levels order contexts : List ℕ) where
   -- nothing was written

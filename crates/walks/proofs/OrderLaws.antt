@@ -1,7 +1,7 @@
 -- The test of an order holds exactly of the lists that have each variable once, after those that its set names.
 -- Assumes nothing.
 use mathlib.Core.Path.{_≡_, refl, sym, ap, ap₂, subst}
-use mathlib.Core.Bool.{and-false, Bool, true, false, not, _&&_, true≢false}
+use mathlib.Core.Bool.{and-false, Bool, true, false, not, _&&_}
 use mathlib.Core.List.{List, [], _∷_}
 use mathlib.Core.Logic.{_↔_}
 use Prim.Native.Nat.{ℕ, zero, suc, _+_, _<_, _≤_}

@@ -4,22 +4,21 @@ use mathlib.Core.Path.{_≡_, sym, ap, _∙_}
 use mathlib.Core.Bool.{Bool, true, not}
 use mathlib.Core.List.{List, [], _∷_}
 use Prim.Native.Nat.{ℕ, zero, suc, _+_, _-_, _<_, _≤_, _^_}
-use native.Mathlib.Decide.{decLt}
 use native.Mathlib.Omega.{arith}
 use lib.Dec.{lit≤}
 use lib.ListN.{length, getD, set, drop, drop-of-length-le, length-drop}
-use Rattle.words.specs.Words.{has, sizeOf, Lowest, itemOf, lessOf}
+use Rattle.words.specs.Words.{has, sizeOf, itemOf, lessOf}
 use Rattle.walks.specs.Choices.{Sets, each, ifBreaks, sumOver}
 use Rattle.walks.specs.Walk.{walk}
 use Rattle.walks.specs.code.Clauses.{Clauses, falseIn, breaksAny, levelIs, levelFrom, Levelled, ModeIs, weightOf, modeOf}
-use Rattle.walks.specs.code.Summed.{Summed, Least, Sought}
+use Rattle.walks.specs.code.Summed.{Summed, Least}
 use Rattle.walks.specs.code.Kept.{Counted}
 use Rattle.walks.specs.code.Turning.{belowAt, Turning}
 use Rattle.walks.proofs.SumLaws.{gate-le}
 use Rattle.walks.proofs.OrderLaws.{at}
 use Rattle.walks.proofs.ClauseLaws.{weight-step, weight-end, weight-mode, mode-stays}
 use Rattle.walks.proofs.SummedLaws.{summed-start, summed-step, summed-end, summed-le, walk-items, last-size, walk-small}
-use Rattle.walks.proofs.SummedLaws.{least-ext, sought-hit, sought-found, sought-past}
+use Rattle.walks.proofs.SummedLaws.{least-ext}
 
 module _ (s : Sets) (K : Clauses) (levels order : List ℕ) where
   -- a weight is at most 1

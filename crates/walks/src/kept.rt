@@ -33,6 +33,19 @@ pub fn byte(choice: u64, v: usize) -> usize
     ((choice >> (BITS * v)) % (BYTE + 1)) as usize
 }
 
+// The items of all variables, as bytes.
+pub fn bytes(choice: u64) -> [u8; 8]
+    ensures { λ r. ⌜ r ≡ choiceOf choice ⌝ }
+{
+    let mut found = [0u8; BITS];
+    let mut v = 0;
+    while v < BITS {
+        found[v] = ((choice >> (BITS * v)) % (BYTE + 1)) as u8;
+        v += 1;
+    }
+    found
+}
+
 // The choice with x put at the variable v.
 pub fn put(choice: u64, v: usize, x: usize) -> u64
     requires { ⌜ (v < 8) × (x < 256) ⌝ }

@@ -5,6 +5,7 @@ use std::hint::black_box;
 use std::time::{Duration, Instant};
 
 use differential::hold::Question;
+use differential::orders;
 use differential::random::Random;
 use differential::rules::{COMMITTEE, PAPER};
 use differential::subjects;
@@ -13,11 +14,20 @@ use differential::tables::{self, Plain};
 /// A round repeats a call until it has lasted this long.
 const ROUND: Duration = Duration::from_millis(40);
 
+/// A round for one of a row's other orders.
+const SHORT_ROUND: Duration = Duration::from_millis(10);
+
+/// How many admissible orders are tried at random for a row.
+const ORDERS: u64 = 12;
+
 /// Rounds of one row end once they have lasted this long.
 const ROW: Duration = Duration::from_secs(2);
 
 /// Where a rule has more full choices than this, the other program's time is computed from cut tables.
 const MANY: u64 = 20_000_000;
+
+/// A verdict's word and its two counts.
+const COUNTS: usize = 17;
 
 const NAMES: [&str; 19] = [
     "I.1", "I.2", "I.3", "I.4", "I.5", "I.6", "II.1", "II.1-1", "II.2", "II.2-1", "C1", "C2", "C3",
@@ -28,8 +38,8 @@ fn main() {
     let rounds = std::env::args()
         .nth(1)
         .map_or(7, |text| text.parse().expect("a number"));
-    println!("| judge | tables | full choices | ours | fast | fast / ours |");
-    println!("|---|---|---|---|---|---|");
+    println!("| judge | tables | full choices | ours | fast | fast / ours | worst order |");
+    println!("|---|---|---|---|---|---|---|");
     let random = tables::full(&mut Random::new(1));
     let office = tables::office(&mut Random::new(1), 64);
     for plain in [&random, &office] {
@@ -100,10 +110,30 @@ fn judged(name: &str, rule: &str, tables: &Plain, rounds: usize) {
         (ours, fast, "~", fast / ours)
     };
     println!(
-        "| {name} | {full} | {} | {mark}{} | {mark}{ratio:.1} |",
+        "| {name} | {full} | {} | {mark}{} | {mark}{ratio:.1} | {} |",
         shown(ours),
         shown(fast),
+        shown(worst_order(rule, tables, &question)),
     );
+}
+
+/// Nanoseconds for a call of ours in the slowest of some admissible orders, which all count the same.
+fn worst_order(rule: &str, tables: &Plain, question: &Question) -> f64 {
+    let read = reference::rule::read(rule.as_bytes()).expect("an accepted rule");
+    let counts = |question: &Question| {
+        let mut out = [0; 26];
+        question.ask(&mut out).expect("an accepted question");
+        out[..COUNTS].to_vec()
+    };
+    let expected = counts(question);
+    let times = (0..ORDERS).map(|seed| {
+        let order = orders::admissible(&mut Random::new(seed), &read);
+        let other = Question::judge(tables.bytes(), rule.as_bytes().to_vec(), order);
+        assert_eq!(counts(&other), expected, "{rule}");
+        let mut out = [0; 26];
+        time(SHORT_ROUND, || black_box(&other).ask(&mut out))
+    });
+    times.fold(0.0, f64::max)
 }
 
 /// The full choices of a verdict.
@@ -132,8 +162,8 @@ fn beside(question: &Question, rounds: usize) -> (f64, f64, f64) {
     let (mut ours, mut fast, mut ratios) = (Vec::new(), Vec::new(), Vec::new());
     let start = Instant::now();
     while ours.len() < rounds && (ours.is_empty() || start.elapsed() < ROW) {
-        let a = time(|| black_box(question).ask(&mut out));
-        let b = time(|| black_box(question).fast());
+        let a = time(ROUND, || black_box(question).ask(&mut out));
+        let b = time(ROUND, || black_box(question).fast());
         ratios.push(a / b);
         ours.push(a);
         fast.push(b);
@@ -144,15 +174,15 @@ fn beside(question: &Question, rounds: usize) -> (f64, f64, f64) {
 /// Nanoseconds for a call of ours, the median of some rounds.
 fn ours(question: &Question, rounds: usize) -> f64 {
     let mut out = [0; 26];
-    let times = (0..rounds).map(|_| time(|| black_box(question).ask(&mut out)));
+    let times = (0..rounds).map(|_| time(ROUND, || black_box(question).ask(&mut out)));
     median(times.collect())
 }
 
-/// Nanoseconds for one call, over as many as fill a round.
-fn time<T>(mut call: impl FnMut() -> T) -> f64 {
+/// Nanoseconds for one call, over as many as fill the round.
+fn time<T>(round: Duration, mut call: impl FnMut() -> T) -> f64 {
     let start = Instant::now();
     let mut calls = 0u32;
-    while start.elapsed() < ROUND {
+    while start.elapsed() < round {
         black_box(call());
         calls += 1;
     }

@@ -154,11 +154,12 @@ pub fn rebuild_into(formula: &[u8], out: &mut [u8]) -> Result<usize, Refusal> {
 /// # Cost
 ///
 /// Two variables take a tenth of a millisecond, and most rules of a committee a few milliseconds,
-/// whatever their full choices: what was counted below a choice is not counted again. A rule with
-/// one clause over many variables, or an order that puts those of a clause far apart, can still
-/// take some 20 to 100 ns for each full choice, and these can be as many as 64 to the power of the
-/// number of variables. A call cannot be interrupted: whoever judges rules that others wrote looks at
-/// [`variables`] first, or judges where it may run on. At most 112 KiB of stack ([`STACK_JUDGE`]).
+/// whatever their full choices and whatever the order: what was counted below a choice is not counted
+/// again, and it is counted along an order that the library looks for. A rule with one clause over
+/// many variables, or with sets inside sets, can still take some 20 to 100 ns for each full choice,
+/// and these can be as many as 64 to the power of the number of variables. A call cannot be
+/// interrupted: whoever judges rules that others wrote looks at [`variables`] first, or judges where
+/// it may run on. At most 112 KiB of stack ([`STACK_JUDGE`]).
 pub fn judge(tables: &[u8], rule: &[u8], order: &[u8]) -> Result<Verdict, Refusal> {
     let mut out = [0; Verdict::BYTES];
     judge_into(tables, rule, order, &mut out)?;

@@ -36,9 +36,10 @@
 //!
 //! # What a call may cost
 //!
-//! - **Time.** All calls take microseconds but one: [`judge`] walks the full choices, and these
-//!   grow as 64 to the power of the number of variables. It cannot be interrupted. Each call says
-//!   what it may cost.
+//! - **Time.** All calls take microseconds but one: [`judge`] takes from microseconds to
+//!   milliseconds for most rules, but there are rules of many variables for which it has to walk the
+//!   full choices, and these grow as 64 to the power of the number of variables. It cannot be
+//!   interrupted. Each call says what it may cost.
 //! - **Stack.** The library takes its memory from the stack of the thread that calls it:
 //!   at the most 16 KiB for [`reduce`], 48 KiB for [`rebuild`] and 112 KiB for [`judge`],
 //!   whatever the input ([`STACK_REDUCE`], [`STACK_REBUILD`], [`STACK_JUDGE`]; measured, not

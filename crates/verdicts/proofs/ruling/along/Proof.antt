@@ -9,7 +9,7 @@ use Rattle.syntax.specs.Rule.{ruleVars}
 use Rattle.walks.specs.Order.{variablesOf}
 use Rattle.walks.proofs.OrderLaws.{length-variables-of}
 use Rattle.verdicts.proofs.RulingLaws.{other-length, no-order, counts-fit, order-ruled}
-use Rattle.verdicts.proofs.WalkingLaws.{vars-long, tested}
+use Rattle.judging.proofs.WalkingLaws.{vars-long, tested}
 use Rattle.verdicts.proofs.ruling.along.Statement.{statement}
 use Rattle.verdicts.proofs.ruling.along.Tie as tie
 

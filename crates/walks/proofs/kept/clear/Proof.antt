@@ -5,8 +5,8 @@ use Prim.Native.Nat.{_-_, _≤_}
 use native.Mathlib.Omega.{arith}
 use borrow.Author.Needs.{needs}
 use lib.ListN.{length, length-set}
-use Rattle.walks.specs.code.Kept.{Unwritten}
-use Rattle.walks.proofs.KeptLaws.{unwritten-next}
+use Rattle.walks.specs.code.Kept.{unwritten, Unwritten}
+use Rattle.walks.proofs.KeptLaws.{put-next}
 use Rattle.walks.proofs.kept.clear.Statement.{statement}
 use Rattle.walks.proofs.kept.clear.Tie as tie
 
@@ -22,7 +22,7 @@ loop-holds c = (omega arith, refl, λ j l. absurd (omega arith))
 loop-again : tie.Need-loop-again Inv-loop μ-loop
 loop-again c =
     let at-loop = c .before in
-    (omega (arith, c .loop-test .taken, at-loop .loop .inv .1), simp length-set (at-loop .loop .inv .1), unwritten-next (at-loop .loop .kept) (at-loop .loop .i) (c .loop-test .taken) (at-loop .loop .inv .2))
+    (omega (arith, c .loop-test .taken, at-loop .loop .inv .1), simp length-set (at-loop .loop .inv .1), put-next (at-loop .loop .kept) (λ j. unwritten) (at-loop .loop .i) (c .loop-test .taken) (at-loop .loop .inv .2) unwritten refl)
 
 same-length : tie.Need-same-length Inv-loop μ-loop
 same-length c = c .before .loop .inv .1

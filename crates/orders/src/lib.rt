@@ -1,0 +1,273 @@
+// An order of our own for counting: the search for a cheap one. Nothing is shown of it but that it ends, since what it finds is tested
+// before it is used.
+use rules::CHOICES_LIMIT;
+use rules::kinds::FIRST_COLLECTION;
+use rules::kinds::FIRST_SET;
+use rules::kinds::NO_KIND;
+use values::items;
+use values::plan::CLAUSE_COUNT;
+use values::plan::KINDS;
+use values::plan::NAMES;
+use values::plan::SCOPE_ROOM;
+use values::plan::SCOPES;
+ghost use mathlib.Core.Path.{_≡_};
+ghost use Prim.Native.Nat.{_<_, _≤_};
+ghost use lib.ListN.{length};
+ghost use Rattle.tables.specs.code.Layout.{Whole};
+ghost use Rattle.rules.specs.Accept.{choicesLimit};
+ghost use Rattle.values.specs.code.Plan.{planLength};
+ghost use Rattle.orders.specs.code.Desk.{deskLength, most};
+
+// The desk of a search: the variables tried, how often the loop over the items of each runs, the cheapest order so far, how many items each
+// variable has; what that order costs, and how many tries are left.
+const AT: usize = 0;
+
+const RUNS: usize = 8;
+
+const FOUND: usize = 16;
+
+const SIZES: usize = 24;
+
+const COST: usize = 32;
+
+const TRIES: usize = 33;
+
+const DESK: usize = 34;
+
+// A cost as high as this is as bad as any other; so is a number of runs.
+const MOST: u64 = 1099511627776;
+
+// No order costs as much.
+const WORST: u64 = 17592186044416;
+
+// No variable has more items.
+const WIDEST: u64 = 64;
+
+// An order that costs no more is not worth a search. A search has one try for so many steps of the caller's order, and so many at most.
+const CHEAP: u64 = 4096;
+
+const STEPS: u64 = 64;
+
+const TRIES_LIMIT: u64 = 1000;
+
+// The smaller of two numbers.
+fn capped(x: u64, top: u64) -> u64
+    ensures { λ r. ⌜ r ≤ top ⌝ }
+{
+    if x < top { x } else { top }
+}
+
+// As many runs of a loop over as many items.
+fn times(runs: u64, items: u64) -> u64
+    ensures { λ r. ⌜ r ≤ most ⌝ }
+{
+    capped(capped(runs, MOST) * capped(items, WIDEST), MOST)
+}
+
+// What is left names where those variables are chosen: the sets of the others, and the clauses that name one of them.
+fn context(plan: &[u64], n: usize, chosen: u64) -> u64
+    requires { ⌜ (length (now plan) ≡ planLength) × (n ≤ choicesLimit) ⌝ }
+{
+    let mut found = 0;
+    let mut v = 0;
+    while v < n {
+        if !words::contains(chosen, v) {
+            found = words::join(found, plan[NAMES + v]);
+        }
+        v += 1;
+    }
+    let many = words::least(plan[CLAUSE_COUNT] as usize, SCOPE_ROOM);
+    let mut i = 0;
+    while i < many {
+        if words::less(plan[SCOPES + i], chosen) != 0 {
+            found = words::join(found, plan[SCOPES + i]);
+        }
+        i += 1;
+    }
+    words::meet(found, chosen)
+}
+
+// One more than the last of the first d places whose variable is in the word, or 0.
+fn latest(desk: &[u64], d: usize, word: u64) -> usize
+    requires { ⌜ (length (now desk) ≡ deskLength) × (d ≤ choicesLimit) ⌝ }
+    ensures { λ r. ⌜ r ≤ d ⌝ }
+{
+    let mut j = d;
+    while 0 < j {
+        if words::contains(word, (desk[AT + j - 1] % 8) as usize) {
+            return j;
+        }
+        j -= 1;
+    }
+    0
+}
+
+// How many items the variable at the place j has.
+fn width(desk: &[u64], j: usize) -> u64
+    requires { ⌜ (length (now desk) ≡ deskLength) × (j < choicesLimit) ⌝ }
+{
+    let v = (desk[AT + j] % 8) as usize;
+    desk[SIZES + v]
+}
+
+// How often the items of the variable at the place j are tried.
+fn tried(desk: &[u64], j: usize) -> u64
+    requires { ⌜ (length (now desk) ≡ deskLength) × (j < choicesLimit) ⌝ }
+    ensures { λ r. ⌜ r ≤ most ⌝ }
+{
+    times(desk[RUNS + j], width(desk, j))
+}
+
+// How often the loop at depth d runs: once for each item of the latest variable of the context, again whenever an earlier one of it changes,
+// and no more often than the items of the place before are tried.
+fn runs(desk: &[u64], d: usize, word: u64) -> u64
+    requires { ⌜ (length (now desk) ≡ deskLength) × (d ≤ choicesLimit) ⌝ }
+{
+    let a = latest(desk, d, word);
+    if a == 0 {
+        return 1;
+    }
+    let size = width(desk, a - 1);
+    let b = latest(desk, a - 1, word);
+    if b == 0 {
+        return size;
+    }
+    capped(times(tried(desk, b - 1), size), tried(desk, d - 1))
+}
+
+// The order that was tried is the cheapest so far.
+fn prefer(desk: &mut [u64], cost: u64)
+    requires { ⌜ length (now desk) ≡ deskLength ⌝ }
+    ensures { λ _. ⌜ length (now (desk .exit)) ≡ deskLength ⌝ }
+{
+    desk[COST] = cost;
+    let mut i = 0;
+    while i < CHOICES_LIMIT {
+        desk[FOUND + i] = desk[AT + i];
+        i += 1;
+    }
+}
+
+// Whether the variable v may stand at depth d: it is not chosen, its set names chosen ones alone, and an order that has begun goes on so.
+fn admits(plan: &[u64], desk: &[u64], begun: usize, d: usize, v: usize, chosen: u64) -> bool
+    requires { ⌜ (length (now plan) ≡ planLength) × (length (now desk) ≡ deskLength) × (d < choicesLimit) × (v < choicesLimit) ⌝ }
+{
+    if words::contains(chosen, v) {
+        return false;
+    }
+    if words::less(plan[NAMES + v], chosen) != 0 {
+        return false;
+    }
+    if begun <= d {
+        return true;
+    }
+    desk[AT + d] == v as u64
+}
+
+// Tries each way to go on from the d variables that are chosen, as long as it costs less than the cheapest order so far.
+fn seek(plan: &[u64], desk: &mut [u64], n: usize, begun: usize, d: usize, chosen: u64, cost: u64)
+    requires { ⌜ (length (now plan) ≡ planLength) × (length (now desk) ≡ deskLength) × (n ≤ choicesLimit) × (d ≤ n) ⌝ }
+    ensures { λ _. ⌜ length (now (desk .exit)) ≡ deskLength ⌝ }
+{
+    if desk[TRIES] == 0 {
+        return;
+    }
+    desk[TRIES] = desk[TRIES] - 1;
+    if d == n {
+        prefer(desk, cost);
+        return;
+    }
+    let here = runs(&desk[..], d, context(plan, n, chosen));
+    desk[RUNS + d] = here;
+    let mut v = 0;
+    while v < n {
+        if admits(plan, &desk[..], begun, d, v, chosen) {
+            let next = capped(cost, MOST) + times(here, desk[SIZES + v]);
+            if next < desk[COST] {
+                desk[AT + d] = v as u64;
+                seek(
+                    plan,
+                    desk,
+                    n,
+                    begun,
+                    d + 1,
+                    words::join(chosen, words::item(v)),
+                    next,
+                );
+            }
+        }
+        v += 1;
+    }
+}
+
+// How many items a variable may have whose set has that kind: those of its sort, or the words of its collection.
+fn items_of(t: &[u64], kind: u64) -> u64
+    requires { ⌜ Whole (now t) ⌝ }
+{
+    if kind < FIRST_COLLECTION as u64 {
+        return words::size(items::base(t, (kind % (FIRST_SET as u64)) as usize)) as u64;
+    }
+    if kind < NO_KIND as u64 {
+        return words::size(items::base(t, (kind - FIRST_SET as u64) as usize)) as u64;
+    }
+    0
+}
+
+// The caller's order on the desk, with how many items its variables have. All but the last of those it has begun with are chosen already.
+fn lay_out(t: &[u64], plan: &[u64], order: &[u8], begun: usize, desk: &mut [u64])
+    requires { ⌜ Whole (now t) × (length (now plan) ≡ planLength) × (length (now order) ≤ choicesLimit) × (begun ≤ choicesLimit) × (length (now desk) ≡ deskLength) ⌝ }
+    ensures { λ _. ⌜ length (now (desk .exit)) ≡ deskLength ⌝ }
+{
+    let mut i = 0;
+    while i < order.len() {
+        let v = (order[i] % 8) as usize;
+        desk[AT + i] = v as u64;
+        let size = items_of(t, plan[KINDS + v]);
+        desk[SIZES + v] = if i + 1 < begun { 1 } else { size };
+        i += 1;
+    }
+}
+
+// The cheapest order that was found, as bytes.
+fn cheapest(desk: &[u64]) -> [u8; 8]
+    requires { ⌜ length (now desk) ≡ deskLength ⌝ }
+{
+    let mut own = [0u8; CHOICES_LIMIT];
+    let mut i = 0;
+    while i < CHOICES_LIMIT {
+        own[i] = (desk[FOUND + i] % 8) as u8;
+        i += 1;
+    }
+    own
+}
+
+// The caller's order on the desk, and what it costs.
+fn reckon(t: &[u64], plan: &[u64], order: &[u8], begun: usize, desk: &mut [u64]) -> u64
+    requires { ⌜ Whole (now t) × (length (now plan) ≡ planLength) × (length (now order) ≤ choicesLimit) × (begun ≤ choicesLimit) × (length (now desk) ≡ deskLength) ⌝ }
+    ensures { λ _. ⌜ length (now (desk .exit)) ≡ deskLength ⌝ }
+{
+    lay_out(t, plan, order, begun, desk);
+    desk[COST] = WORST;
+    desk[TRIES] = TRIES_LIMIT;
+    seek(plan, desk, order.len(), order.len(), 0, 0, 0);
+    desk[COST]
+}
+
+// Whether the caller's order costs enough that a search for another may pay.
+pub fn worth(t: &[u64], plan: &[u64], order: &[u8]) -> bool
+    requires { ⌜ Whole (now t) × (length (now plan) ≡ planLength) × (length (now order) ≤ choicesLimit) ⌝ }
+{
+    let mut desk = [0u64; DESK];
+    CHEAP < reckon(t, plan, order, 0, &mut desk)
+}
+
+// An order that begins with the first `begun` variables of the caller's, and costs no more than it does as far as the search can tell.
+pub fn own(t: &[u64], plan: &[u64], order: &[u8], begun: usize) -> [u8; 8]
+    requires { ⌜ Whole (now t) × (length (now plan) ≡ planLength) × (length (now order) ≤ choicesLimit) × (begun ≤ choicesLimit) ⌝ }
+{
+    let mut desk = [0u64; DESK];
+    let cost = reckon(t, plan, order, begun, &mut desk);
+    desk[TRIES] = capped(cost / STEPS, TRIES_LIMIT);
+    seek(plan, &mut desk, order.len(), begun, 0, 0, 0);
+    cheapest(&desk)
+}
