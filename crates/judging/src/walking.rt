@@ -42,7 +42,7 @@ fn lay(t: &[u64], parsed: Parsed, order: &[u8], begun: usize, plan: &mut [u64])
     planning::plan(&nodes, n, &kinds, vars, root, order, plan);
 }
 
-// The plan for the counts: along the caller's order, where that is cheap, and two variables always are.
+// The plan for the counts: along the caller's order, unless another is worth it.
 fn lay_first(t: &[u64], parsed: Parsed, order: &[u8], plan: &mut [u64])
     requires { ⌜ LentBy (now t) parsed × Ordered parsed (now order) × (length (now plan) ≡ planLength) ⌝ }
     ensures { λ _. ⌜ Lays (now (t .entry)) parsed (now (order .entry)) 0 (now (plan .exit)) ⌝ }
@@ -60,7 +60,7 @@ fn lay_first(t: &[u64], parsed: Parsed, order: &[u8], plan: &mut [u64])
         order,
         plan,
     );
-    if count < 3 {
+    if count < 2 {
         return;
     }
     if !orders::worth(t, &plan[..], order) {

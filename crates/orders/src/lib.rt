@@ -1,25 +1,35 @@
 // An order of our own for counting: the search for a cheap one. Nothing is shown of it but that it ends, since what it finds is tested
 // before it is used.
 use rules::CHOICES_LIMIT;
+use rules::RULE_LIMIT;
 use rules::kinds::FIRST_COLLECTION;
 use rules::kinds::FIRST_SET;
 use rules::kinds::NO_KIND;
+use syntax::nodes;
+use syntax::nodes::AO;
+use syntax::nodes::FIRST_CALL;
+use syntax::nodes::MEMBER;
+use syntax::nodes::OE;
 use values::items;
 use values::plan::CLAUSE_COUNT;
 use values::plan::KINDS;
 use values::plan::NAMES;
+use values::plan::NODE_COUNT;
+use values::plan::NODE_ROOM;
 use values::plan::SCOPE_ROOM;
 use values::plan::SCOPES;
+use values::plan::VARIABLE_ROOM;
+use values::plan::VARIABLE_UNIT;
 ghost use mathlib.Core.Path.{_≡_};
 ghost use Prim.Native.Nat.{_<_, _≤_};
 ghost use lib.ListN.{length};
 ghost use Rattle.tables.specs.code.Layout.{Whole};
 ghost use Rattle.rules.specs.Accept.{choicesLimit};
-ghost use Rattle.values.specs.code.Plan.{planLength};
+ghost use Rattle.values.specs.code.Plan.{planLength, planRoom};
 ghost use Rattle.orders.specs.code.Desk.{deskLength, most};
 
 // The desk of a search: the variables tried, how often the loop over the items of each runs, the cheapest order so far, how many items each
-// variable has; what that order costs, and how many tries are left.
+// variable has, how much evaluating an item of each costs; what that order costs, and how many tries are left.
 const AT: usize = 0;
 
 const RUNS: usize = 8;
@@ -28,11 +38,20 @@ const FOUND: usize = 16;
 
 const SIZES: usize = 24;
 
-const COST: usize = 32;
+const WEIGHTS: usize = 32;
 
-const TRIES: usize = 33;
+const COST: usize = 40;
 
-const DESK: usize = 34;
+const TRIES: usize = 41;
+
+const DESK: usize = 42;
+
+// How much evaluating a call, evaluating another node, and looking for what is kept weigh.
+const CALL: u64 = 8;
+
+const NODE: u64 = 1;
+
+const LOOK: u64 = 4;
 
 // A cost as high as this is as bad as any other; so is a number of runs.
 const MOST: u64 = 1099511627776;
@@ -87,6 +106,21 @@ fn context(plan: &[u64], n: usize, chosen: u64) -> u64
     words::meet(found, chosen)
 }
 
+// Whether a clause is settled where those variables are chosen: on tables that break it, little is left to count.
+fn settled(plan: &[u64], chosen: u64) -> bool
+    requires { ⌜ length (now plan) ≡ planLength ⌝ }
+{
+    let many = words::least(plan[CLAUSE_COUNT] as usize, SCOPE_ROOM);
+    let mut i = 0;
+    while i < many {
+        if words::less(plan[SCOPES + i], chosen) == 0 {
+            return true;
+        }
+        i += 1;
+    }
+    false
+}
+
 // One more than the last of the first d places whose variable is in the word, or 0.
 fn latest(desk: &[u64], d: usize, word: u64) -> usize
     requires { ⌜ (length (now desk) ≡ deskLength) × (d ≤ choicesLimit) ⌝ }
@@ -135,6 +169,28 @@ fn runs(desk: &[u64], d: usize, word: u64) -> u64
     capped(times(tried(desk, b - 1), size), tried(desk, d - 1))
 }
 
+// What an item of the variable v costs: evaluating it and, unless it is the last variable's, looking for what is kept below it.
+fn item_price(desk: &[u64], v: usize, last: bool) -> u64
+    requires { ⌜ (length (now desk) ≡ deskLength) × (v < choicesLimit) ⌝ }
+{
+    let weight = capped(desk[WEIGHTS + v], MOST);
+    if last {
+        return weight;
+    }
+    weight + LOOK
+}
+
+// What so many items cost; less once a clause is settled.
+fn price(items: u64, each: u64, settled: bool) -> u64
+    ensures { λ r. ⌜ r ≤ most ⌝ }
+{
+    let whole = times(items, each);
+    if settled {
+        return whole - whole / 8;
+    }
+    whole
+}
+
 // The order that was tried is the cheapest so far.
 fn prefer(desk: &mut [u64], cost: u64)
     requires { ⌜ length (now desk) ≡ deskLength ⌝ }
@@ -178,11 +234,13 @@ fn seek(plan: &[u64], desk: &mut [u64], n: usize, begun: usize, d: usize, chosen
         return;
     }
     let here = runs(&desk[..], d, context(plan, n, chosen));
+    let less = settled(plan, chosen);
     desk[RUNS + d] = here;
     let mut v = 0;
     while v < n {
         if admits(plan, &desk[..], begun, d, v, chosen) {
-            let next = capped(cost, MOST) + times(here, desk[SIZES + v]);
+            let each = item_price(&desk[..], v, d + 1 == n);
+            let next = capped(cost, MOST) + price(times(here, desk[SIZES + v]), each, less);
             if next < desk[COST] {
                 desk[AT + d] = v as u64;
                 seek(
@@ -241,6 +299,76 @@ fn cheapest(desk: &[u64]) -> [u8; 8]
     own
 }
 
+// How much evaluating a node weighs.
+fn weight(word: u64) -> u64
+    ensures { λ r. ⌜ r ≤ most ⌝ }
+{
+    let op = nodes::operation((word % NODE_ROOM) as u32);
+    if op < FIRST_CALL {
+        return NODE;
+    }
+    if op < OE {
+        return CALL;
+    }
+    NODE
+}
+
+// Adds a weight to those of the variables of a word.
+fn add(desk: &mut [u64], word: u64, weight: u64)
+    requires { ⌜ (length (now desk) ≡ deskLength) × (weight ≤ most) ⌝ }
+    ensures { λ _. ⌜ length (now (desk .exit)) ≡ deskLength ⌝ }
+{
+    let mut v = 0;
+    while v < CHOICES_LIMIT {
+        if words::contains(word, v) {
+            desk[WEIGHTS + v] = capped(desk[WEIGHTS + v], MOST) + weight;
+        }
+        v += 1;
+    }
+}
+
+// The variables that the term of a node names, from what those below it name.
+fn named(word: u64, names: &[u64]) -> u64
+    requires { ⌜ length (now names) ≡ planRoom ⌝ }
+{
+    let node = (word % NODE_ROOM) as u32;
+    let op = nodes::operation(node);
+    if op < FIRST_CALL {
+        return 0;
+    }
+    if MEMBER <= op {
+        return 0;
+    }
+    let left = words::row(names, nodes::left(node) as usize);
+    if op < OE {
+        return left;
+    }
+    let own = words::item((word / VARIABLE_UNIT % VARIABLE_ROOM) as usize);
+    if op == OE {
+        return own;
+    }
+    if op == AO {
+        return words::join(own, left);
+    }
+    words::join(left, words::row(names, nodes::right(node) as usize))
+}
+
+// How much evaluating the items of each variable costs: the nodes that name it.
+fn weigh(plan: &[u64], desk: &mut [u64])
+    requires { ⌜ (length (now plan) ≡ planLength) × (length (now desk) ≡ deskLength) ⌝ }
+    ensures { λ _. ⌜ length (now (desk .exit)) ≡ deskLength ⌝ }
+{
+    let mut names = [0u64; RULE_LIMIT];
+    let many = words::least(plan[NODE_COUNT] as usize, RULE_LIMIT);
+    let mut k = 0;
+    while k < many {
+        let word = plan[k];
+        names[k] = named(word, &names);
+        add(desk, names[k], weight(word));
+        k += 1;
+    }
+}
+
 // The caller's order on the desk, and what it costs.
 fn reckon(t: &[u64], plan: &[u64], order: &[u8], begun: usize, desk: &mut [u64]) -> u64
     requires { ⌜ Whole (now t) × (length (now plan) ≡ planLength) × (length (now order) ≤ choicesLimit) × (begun ≤ choicesLimit) × (length (now desk) ≡ deskLength) ⌝ }
@@ -253,21 +381,26 @@ fn reckon(t: &[u64], plan: &[u64], order: &[u8], begun: usize, desk: &mut [u64])
     desk[COST]
 }
 
-// Whether the caller's order costs enough that a search for another may pay.
-pub fn worth(t: &[u64], plan: &[u64], order: &[u8]) -> bool
-    requires { ⌜ Whole (now t) × (length (now plan) ≡ planLength) × (length (now order) ≤ choicesLimit) ⌝ }
-{
-    let mut desk = [0u64; DESK];
-    CHEAP < reckon(t, plan, order, 0, &mut desk)
-}
-
 // An order that begins with the first `begun` variables of the caller's, and costs no more than it does as far as the search can tell.
 pub fn own(t: &[u64], plan: &[u64], order: &[u8], begun: usize) -> [u8; 8]
     requires { ⌜ Whole (now t) × (length (now plan) ≡ planLength) × (length (now order) ≤ choicesLimit) × (begun ≤ choicesLimit) ⌝ }
 {
-    let mut desk = [0u64; DESK];
+    let mut desk = [NODE; DESK];
+    weigh(plan, &mut desk);
     let cost = reckon(t, plan, order, begun, &mut desk);
     desk[TRIES] = capped(cost / STEPS, TRIES_LIMIT);
     seek(plan, &mut desk, order.len(), begun, 0, 0, 0);
     cheapest(&desk)
+}
+
+// Whether another order is worth another plan: the caller's is not cheap, and the search finds a cheaper one.
+pub fn worth(t: &[u64], plan: &[u64], order: &[u8]) -> bool
+    requires { ⌜ Whole (now t) × (length (now plan) ≡ planLength) × (length (now order) ≤ choicesLimit) ⌝ }
+{
+    let mut desk = [NODE; DESK];
+    if reckon(t, plan, order, 0, &mut desk) <= CHEAP {
+        return false;
+    }
+    let found = own(t, plan, order, 0);
+    !walks::begins_alike(&found, order, order.len())
 }

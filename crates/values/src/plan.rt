@@ -37,13 +37,13 @@ pub const NAMES: usize = 944;
 pub const KINDS: usize = 952;
 
 // The parts of a node's word: the node, the kind of its left, its variable, the next node of its level. A clause's: its two tests.
-const NODE_ROOM: u64 = 4294967296;
+pub const NODE_ROOM: u64 = 4294967296;
 
 const KIND_ROOM: u64 = 256;
 
-const VARIABLE_UNIT: u64 = 1099511627776;
+pub const VARIABLE_UNIT: u64 = 1099511627776;
 
-const VARIABLE_ROOM: u64 = 16;
+pub const VARIABLE_ROOM: u64 = 16;
 
 const NEXT_UNIT: u64 = 17592186044416;
 

@@ -12,11 +12,14 @@ use borrow.Fn.PlainCycle.{Measures, is, falls, and}
 use Rattle.orders.proofs.seek.Reads as seek
 use Rattle.orders.proofs.seek.Kinds as seek-kinds
 use Rattle.orders.proofs.+seek.Lts-seek as seek-lts
+use Rattle.orders.proofs.admits.Reads as admits-reads
 use Rattle.orders.proofs.capped.Reads as capped-reads
 use Rattle.orders.proofs.context.Reads as context-reads
-use Rattle.orders.proofs.admits.Reads as admits-reads
+use Rattle.orders.proofs.item_price.Reads as item-price-reads
 use Rattle.orders.proofs.prefer.Reads as prefer-reads
+use Rattle.orders.proofs.price.Reads as price-reads
 use Rattle.orders.proofs.runs.Reads as runs-reads
+use Rattle.orders.proofs.settled.Reads as settled-reads
 use Rattle.orders.proofs.times.Reads as times-reads
 use Rattle.words.proofs.item.Reads as item-reads
 use Rattle.words.proofs.join.Reads as join-reads
@@ -41,12 +44,18 @@ called t = (
   context-reads.Learnt,
   runs-reads.Asked,
   runs-reads.Learnt,
+  settled-reads.Asked,
+  settled-reads.Learnt,
   admits-reads.Asked,
   admits-reads.Learnt,
+  item-price-reads.Asked,
+  item-price-reads.Learnt,
   capped-reads.Asked,
   capped-reads.Learnt,
   times-reads.Asked,
   times-reads.Learnt,
+  price-reads.Asked,
+  price-reads.Learnt,
   item-reads.Asked,
   item-reads.Learnt,
   join-reads.Asked,
@@ -56,21 +65,21 @@ called t = (
 )
 
 abbrev seek-Inv-loop : seek-lts.InvT-loop
-seek-Inv-loop plan desk₀ n begun d chosen cost here v₀ desk v = (v ≤ n) × (length desk ≡ deskLength)
+seek-Inv-loop plan desk₀ n begun d chosen cost here less v₀ desk v = (v ≤ n) × (length desk ≡ deskLength)
 
 abbrev seek-μ-loop : seek-lts.MeasureT-loop
-seek-μ-loop plan desk₀ n begun d chosen cost here v₀ desk v = n - v
+seek-μ-loop plan desk₀ n begun d chosen cost here less v₀ desk v = n - v
 
 seek-slice-write-desk-2 : (t : ℕ) → seek-lts.Need-slice-write-desk-2 (called t) (seek-at t) seek.Post seek-Inv-loop seek-μ-loop
 seek-slice-write-desk-2 t c =
-    let at-if2 = c .before .before .before in
+    let at-if2 = c .before .before .before .before in
     let at-start = at-if2 .before .before .before .before .before .before in
     simp length-set (omega (arith, at-start .pre .1 .1, at-start .pre .1 .2, at-start .pre .1 .3, at-if2 .if2 .left))
 
 seek-seek-requires : (t : ℕ) → seek-lts.Need-seek-requires (called t) (seek-at t) seek.Post seek-Inv-loop seek-μ-loop
 seek-seek-requires t c κs =
-    let at-loop = c .before .before .before .before .before .before .before .before .before .before .before .before in
-    let at-if2 = at-loop .before .before .before .before in
+    let at-loop = c .before .before .before .before .before .before .before .before .before .before .before .before .before .before .before in
+    let at-if2 = at-loop .before .before .before .before .before in
     let at-start = at-if2 .before .before .before .before .before .before in
     (omega (arith, at-start .pre .0, at-start .pre .1 .3, at-if2 .if2 .left), (at-start .pre .1 .0, simp length-set (at-loop .loop .inv .1), at-start .pre .1 .2, omega (arith, at-start .pre .1 .3, at-if2 .if2 .left)))
 
@@ -78,7 +87,7 @@ seek-loop-again : (t : ℕ) → seek-lts.Need-loop-again (called t) (seek-at t) 
 seek-loop-again t c =
     let at-loop-test = c .before .before .before in
     let at-loop = at-loop-test .before in
-    let long : length (c .if3 .desk) ≡ deskLength = ⊎-elim (λ w. rw (w .12) (w .9 .ensures)) (λ w. ⊎-elim (λ z. rw (z .6) (at-loop .loop .inv .1)) (λ z. rw (z .1) (at-loop .loop .inv .1)) w) (c .if3 .came) in (omega (arith, at-loop-test .loop-test .taken), long)
+    let long : length (c .if3 .desk) ≡ deskLength = ⊎-elim (λ w. rw (w .15) (w .12 .ensures)) (λ w. ⊎-elim (λ z. rw (z .9) (at-loop .loop .inv .1)) (λ z. rw (z .1) (at-loop .loop .inv .1)) w) (c .if3 .came) in (omega (arith, at-loop-test .loop-test .taken), long)
 
 pub +seek-spec : {M : Type 1} → statement M
 +seek-spec = close μ-seek λ t. seek-lts.spec (called t)
@@ -96,15 +105,19 @@ pub +seek-spec : {M : Type 1} → statement M
     (λ c. search needs)
     (λ c κs. search needs)
     (λ c κs. search needs)
+    (λ c κs. search needs)
     (λ c. search needs)
     (λ c. search needs)
     (seek-slice-write-desk-2 t)
     (λ c. search needs)
     (λ c κs. search needs)
+    (λ c. search needs)
+    (λ c κs. search needs)
     (λ c κs. search needs)
     (λ c. search needs)
     (λ c. search needs)
     (λ c. search needs)
+    (λ c κs. search needs)
     (λ c κs. search needs)
     (λ c. search needs)
     (λ c. search needs)

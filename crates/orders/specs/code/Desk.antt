@@ -4,7 +4,7 @@ use Prim.Native.Nat.{ℕ}
 
 -- How long its desk is, and the highest number that it reckons with.
 abbrev pub deskLength : ℕ
-deskLength = 34
+deskLength = 42
 
 abbrev pub most : ℕ
 most = 1099511627776
