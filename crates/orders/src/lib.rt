@@ -62,10 +62,10 @@ const WORST: u64 = 17592186044416;
 // No variable has more items.
 const WIDEST: u64 = 64;
 
-// An order that costs no more is not worth a search. A search has one try for so many steps of the caller's order, and so many at most.
-const CHEAP: u64 = 4096;
+// Fewer choices are not worth a search. A search has one try for so much that the caller's order costs, and so many at most.
+const FEW: u64 = 4096;
 
-const STEPS: u64 = 64;
+const SHARE: u64 = 1024;
 
 const TRIES_LIMIT: u64 = 1000;
 
@@ -388,17 +388,30 @@ pub fn own(t: &[u64], plan: &[u64], order: &[u8], begun: usize) -> [u8; 8]
     let mut desk = [NODE; DESK];
     weigh(plan, &mut desk);
     let cost = reckon(t, plan, order, begun, &mut desk);
-    desk[TRIES] = capped(cost / STEPS, TRIES_LIMIT);
+    desk[TRIES] = capped(cost / SHARE, TRIES_LIMIT);
     seek(plan, &mut desk, order.len(), begun, 0, 0, 0);
     cheapest(&desk)
 }
 
-// Whether another order is worth another plan: the caller's is not cheap, and the search finds a cheaper one.
+// How many choices there are at the most: the product of how many items the variables may have.
+fn choices(t: &[u64], plan: &[u64], order: &[u8]) -> u64
+    requires { ⌜ Whole (now t) × (length (now plan) ≡ planLength) × (length (now order) ≤ choicesLimit) ⌝ }
+{
+    let mut found = 1;
+    let mut i = 0;
+    while i < order.len() {
+        let v = (order[i] % 8) as usize;
+        found = times(found, items_of(t, plan[KINDS + v]));
+        i += 1;
+    }
+    found
+}
+
+// Whether another order is worth another plan: there are many choices, and the search finds a cheaper one.
 pub fn worth(t: &[u64], plan: &[u64], order: &[u8]) -> bool
     requires { ⌜ Whole (now t) × (length (now plan) ≡ planLength) × (length (now order) ≤ choicesLimit) ⌝ }
 {
-    let mut desk = [NODE; DESK];
-    if reckon(t, plan, order, 0, &mut desk) <= CHEAP {
+    if choices(t, plan, order) < FEW {
         return false;
     }
     let found = own(t, plan, order, 0);
