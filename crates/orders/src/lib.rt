@@ -46,12 +46,20 @@ const TRIES: usize = 41;
 
 const DESK: usize = 42;
 
+// Whatever stands for a variable in an order, or on the desk, is one of so many.
+const LIMIT: u8 = CHOICES_LIMIT as u8;
+
+const VARIABLES: u64 = CHOICES_LIMIT as u64;
+
 // How much evaluating a call, evaluating another node, and looking for what is kept weigh.
 const CALL: u64 = 8;
 
 const NODE: u64 = 1;
 
 const LOOK: u64 = 4;
+
+// The part that is taken off once a clause is settled.
+const OFF: u64 = 8;
 
 // A cost as high as this is as bad as any other; so is a number of runs.
 const MOST: u64 = 1099511627776;
@@ -128,7 +136,7 @@ fn latest(desk: &[u64], d: usize, word: u64) -> usize
 {
     let mut j = d;
     while 0 < j {
-        if words::contains(word, (desk[AT + j - 1] % 8) as usize) {
+        if words::contains(word, (desk[AT + j - 1] % VARIABLES) as usize) {
             return j;
         }
         j -= 1;
@@ -140,7 +148,7 @@ fn latest(desk: &[u64], d: usize, word: u64) -> usize
 fn width(desk: &[u64], j: usize) -> u64
     requires { ⌜ (length (now desk) ≡ deskLength) × (j < choicesLimit) ⌝ }
 {
-    let v = (desk[AT + j] % 8) as usize;
+    let v = (desk[AT + j] % VARIABLES) as usize;
     desk[SIZES + v]
 }
 
@@ -186,7 +194,7 @@ fn price(items: u64, each: u64, settled: bool) -> u64
 {
     let whole = times(items, each);
     if settled {
-        return whole - whole / 8;
+        return whole - whole / OFF;
     }
     whole
 }
@@ -278,7 +286,7 @@ fn lay_out(t: &[u64], plan: &[u64], order: &[u8], begun: usize, desk: &mut [u64]
 {
     let mut i = 0;
     while i < order.len() {
-        let v = (order[i] % 8) as usize;
+        let v = (order[i] % LIMIT) as usize;
         desk[AT + i] = v as u64;
         let size = items_of(t, plan[KINDS + v]);
         desk[SIZES + v] = if i + 1 < begun { 1 } else { size };
@@ -287,13 +295,13 @@ fn lay_out(t: &[u64], plan: &[u64], order: &[u8], begun: usize, desk: &mut [u64]
 }
 
 // The cheapest order that was found, as bytes.
-fn cheapest(desk: &[u64]) -> [u8; 8]
+fn cheapest(desk: &[u64]) -> [u8; CHOICES_LIMIT]
     requires { ⌜ length (now desk) ≡ deskLength ⌝ }
 {
     let mut own = [0u8; CHOICES_LIMIT];
     let mut i = 0;
     while i < CHOICES_LIMIT {
-        own[i] = (desk[FOUND + i] % 8) as u8;
+        own[i] = (desk[FOUND + i] % VARIABLES) as u8;
         i += 1;
     }
     own
@@ -382,7 +390,7 @@ fn reckon(t: &[u64], plan: &[u64], order: &[u8], begun: usize, desk: &mut [u64])
 }
 
 // An order that begins with the first `begun` variables of the caller's, and costs no more than it does as far as the search can tell.
-pub fn own(t: &[u64], plan: &[u64], order: &[u8], begun: usize) -> [u8; 8]
+pub fn own(t: &[u64], plan: &[u64], order: &[u8], begun: usize) -> [u8; CHOICES_LIMIT]
     requires { ⌜ Whole (now t) × (length (now plan) ≡ planLength) × (length (now order) ≤ choicesLimit) × (begun ≤ choicesLimit) ⌝ }
 {
     let mut desk = [NODE; DESK];
@@ -400,7 +408,7 @@ fn choices(t: &[u64], plan: &[u64], order: &[u8]) -> u64
     let mut found = 1;
     let mut i = 0;
     while i < order.len() {
-        let v = (order[i] % 8) as usize;
+        let v = (order[i] % LIMIT) as usize;
         found = times(found, items_of(t, plan[KINDS + v]));
         i += 1;
     }
