@@ -12,9 +12,9 @@ use Rattle.tables.specs.Tables.{Tables}
 use Rattle.syntax.specs.Rule.{Rule, ruleVars}
 use Rattle.walks.specs.code.Clauses.{falseTo, falseIn, levelIs, modeOf}
 use Rattle.walks.specs.code.Context.{Alike}
-use Rattle.walks.specs.code.Kept.{choiceOf, Counted, unwritten, written}
+use Rattle.walks.specs.code.Kept.{choiceOf, Counted, unwritten, Keeping}
 use Rattle.walks.proofs.BytesLaws.{bytes-length, alike-key}
-use Rattle.walks.proofs.KeptLaws.{kept-hit, kept-write}
+use Rattle.walks.proofs.KeptLaws.{kept-hit, kept-on}
 use Rattle.walks.proofs.TurningLaws.{turning-start, turning-step, turning-end, turning-room, turning-last, counted-small, counted-whole}
 use Rattle.values.specs.Values.{value}
 use Rattle.values.specs.Sets.{setOf, inSet, names, namesIn}
@@ -133,21 +133,20 @@ module _ {ts plan : List ℕ} {y : Layout} {T : Tables} {ρ : Rule} (P : Planned
         rw (e, getD-drop contextsFrom plan j 0) (alike-key (getD plan (contextsFrom + j) 0) (getD plan (masksFrom + j) 0) (P .masks j (omega arith)) choice)
 
     -- what is kept under that key
-    pub below-hit : {kept : List ℕ} → Keeps plan y T ρ kept → (getD kept (3 * place) 0 ≡ unwritten → ⊥) → getD kept (3 * place + 2) 0 ≡ key
+    pub below-hit : {kept : List ℕ} → Keeps plan y T ρ kept → 3 * place + 2 < length kept → (getD kept (3 * place) 0 ≡ unwritten → ⊥) → getD kept (3 * place + 2) 0 ≡ key
         → CountedAt plan y T ρ mode d choice (getD kept (3 * place) 0 - 1) (getD kept (3 * place + 1) 0)
-    below-hit {kept} K w q =
+    below-hit {kept} K fits w q =
         let small = P .turns .short in
-        let here = kept-hit (inSet T (ruleVars [] ρ)) (clausesOf T ρ) (drop levelsFrom plan) (y .order) (drop contextsFrom plan) K mode d (s .item) m (omega arith) (s .small) in
+        let here = kept-hit (inSet T (ruleVars [] ρ)) (clausesOf T ρ) (drop levelsFrom plan) (y .order) (drop contextsFrom plan) K mode d (s .item) m (omega arith) (rw (s .is) at fits) in
         rw (s .is) (here (rw (s .is) at w) (choiceOf choice) (bytes-length 8 choice) (rw (rw (s .is) at q) alike))
 
     -- and what is written
     pub below-write : {kept new : List ℕ} {full breaking : ℕ} → Keeps plan y T ρ kept → CountedAt plan y T ρ mode d choice full breaking
-        → new ≡ written kept place full breaking key → Keeps plan y T ρ new
+        → Keeping kept new place full breaking key → Keeps plan y T ρ new
     below-write {kept} {new} {full} {breaking} K C q =
         let small = P .turns .short in
-        rw (q, s .is)
-        (kept-write (inSet T (ruleVars [] ρ)) (clausesOf T ρ) (drop levelsFrom plan) (y .order) (drop contextsFrom plan) (names (ruleVars [] ρ)) (sets-read T (ruleVars [] ρ))
-        (P .after) (P .contexts) K mode d (s .item) m (omega arith) l (s .small) full breaking key (choiceOf choice) (bytes-length 8 choice) alike C)
+        kept-on (inSet T (ruleVars [] ρ)) (clausesOf T ρ) (drop levelsFrom plan) (y .order) (drop contextsFrom plan) (names (ruleVars [] ρ)) (sets-read T (ruleVars [] ρ))
+        (P .after) (P .contexts) K mode d (s .item) m (omega arith) l full breaking key (choiceOf choice) (bytes-length 8 choice) alike C (rw (s .is) at q)
 
   -- ---- the loop over the items of the variable at depth d
 

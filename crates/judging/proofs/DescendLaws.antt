@@ -5,11 +5,12 @@ use mathlib.Core.Bool.{Bool, true}
 use mathlib.Core.List.{List, []}
 use Prim.Native.Nat.{ℕ, zero, suc, _+_, _-_, _<_, _^_}
 use native.Mathlib.Omega.{arith}
-use lib.ListN.{length, getD, set, drop}
+use lib.ListN.{length, getD, set, drop, replicate, length-replicate, getD-replicate}
 use lib.Seq.{getD-take}
 use Rattle.words.specs.Words.{has, Lowest, lessOf, itemOf}
 use Rattle.tables.specs.Tables.{Tables}
 use Rattle.syntax.specs.Rule.{Rule, ruleVars}
+use Rattle.rules.specs.declared.Parsed.{Parsed}
 use Rattle.walks.specs.Choices.{sumOver, ifBreaks, nothingChosen}
 use Rattle.walks.specs.Meaning.{Once, After}
 use Rattle.walks.specs.Walk.{walk}
@@ -32,8 +33,8 @@ use Rattle.values.specs.code.Plan.{planRoom, levelsFrom}
 use Rattle.values.proofs.ClausesLaws.{clausesOf, rule-breaks}
 use Rattle.values.proofs.ReadsLaws.{sets-read}
 use Rattle.judging.specs.code.Planning.{orderFrom, setsFrom, contextsFrom, Layout, Planned, Caches, Keeps}
-use Rattle.judging.specs.code.Counting.{depthOf, CountedAt, Entered, Enters, Standing, Stays, LeastAt, noChoice}
-use Rattle.judging.specs.code.Walking.{Along, Ready}
+use Rattle.judging.specs.code.Counting.{depthOf, CountedAt, Entered, Enters, EntersTo, Standing, Stays, LeastAt, noChoice}
+use Rattle.judging.specs.code.Walking.{Along, Lays, Ready, Stands}
 use Rattle.judging.proofs.CountingLaws.{set-in, caches-on, below-whole}
 
 -- No item of w but those of rest counts.
@@ -82,8 +83,8 @@ module _ {ts plan : List ℕ} {y : Layout} {T : Tables} {ρ : Rule} (P : Planned
   pub caches-none : (choice : ℕ) {cache : List ℕ} → length cache ≡ planRoom → Caches ts y choice cache 0
   caches-none choice l = record { long = omega (arith, P .small); holds = λ k h low. absurd (omega arith) }
 
-  pub keeps-none : {kept : List ℕ} → length kept ≡ 3072 → Unwritten 3072 kept → Keeps plan y T ρ kept
-  keeps-none {kept} l h = kept-none (inSet T (ruleVars [] ρ)) (clausesOf T ρ) (drop levelsFrom plan) (y .order) (drop contextsFrom plan) kept l h
+  pub keeps-none : (kept : List ℕ) → Unwritten (length kept) kept → Keeps plan y T ρ kept
+  keeps-none kept h = kept-none (inSet T (ruleVars [] ρ)) (clausesOf T ρ) (drop levelsFrom plan) (y .order) (drop contextsFrom plan) kept h
 
   -- One level more.
   pub mode-next : {mode e choice next : ℕ} → Entered plan T ρ mode e choice next → ModeIs (clausesOf T ρ) (drop levelsFrom plan) mode e (choiceOf choice)
@@ -91,6 +92,25 @@ module _ {ts plan : List ℕ} {y : Layout} {T : Tables} {ρ : Rule} (P : Planned
   mode-next {mode} {e} {choice} E m = rw (E .is) (mode-step (clausesOf T ρ) (drop levelsFrom plan) mode e (choiceOf choice) (E .ok) m (E .test))
 
 -- ---- along the caller's order
+
+-- A plan was laid and its first level entered; so many slots are zeros.
+pub stands-first : (many : ℕ) {ts : List ℕ} {p : Parsed} {order : List ℕ} {e mode : ℕ} {plan cache cache′ : List ℕ} → Lays ts p order e plan
+    → EntersTo ts plan 0 noChoice cache cache′ mode → length cache ≡ planRoom → Stands ts p order e 0 mode noChoice plan cache′ (replicate many 0) (length {A = ℕ} (replicate many 0))
+stands-first many L E room = record {
+  small = E .modes;
+  long = L .long;
+  room = E .room ∙ room;
+  slots = refl;
+  ready = λ T ρ C.
+      let A = L .along T ρ C in
+      let e = E .goes (A .layout) T ρ (A .planned) in
+      record { along = A; stored = e .0; keeps = keeps-none (A .planned) (replicate many 0) (λ j l. getD-replicate {A = ℕ} many j 0 0 (omega (arith, length-replicate {A = ℕ} many 0))); modes = e .1 };
+}
+
+-- As many slots as there are.
+pub stands-here : {ts : List ℕ} {p : Parsed} {order : List ℕ} {e d mode choice : ℕ} {plan cache kept : List ℕ} {many : ℕ}
+    → Stands ts p order e d mode choice plan cache kept many → Stands ts p order e d mode choice plan cache kept (length kept)
+stands-here s = record { small = s .small; long = s .long; room = s .room; slots = refl; ready = s .ready }
 
 module _ {ts plan : List ℕ} {T : Tables} {ρ : Rule} {order : List ℕ} (once : Once (length (ruleVars [] ρ)) order) (after : After (names (ruleVars [] ρ)) order) where
   pub own-long : {e : ℕ} (A : Along ts plan T ρ order e) → length (A .layout .order) ≡ length order

@@ -16,16 +16,16 @@ ghost use Rattle.tables.specs.code.Layout.{Whole};
 ghost use Rattle.values.specs.code.Plan.{planRoom, planLength, Runs};
 ghost use Rattle.judging.specs.code.Counting.{SlotOf, Enters, EntersTo, Standing, Counts as Counted, Finds};
 
-// The slot of a choice: 64 for each mode and depth, by the item of the latest variable of the context.
+// The slot of a choice: one for each mode and depth, by the item of the latest variable of the context.
 fn slot(plan: &[u64], at: usize, choice: u64) -> usize
     requires { ⌜ (length (now plan) ≡ planLength) × (at < 16) ⌝ }
     ensures { λ r. ⌜ SlotOf at r ⌝ }
 {
     let u = plan[PICKS + at] as usize;
     if u < 8 {
-        return 64 * at + kept::byte(choice, u) % 64;
+        return kept::PLACES * (kept::byte(choice, u) % 64) + at;
     }
-    64 * at
+    at
 }
 
 // One level more: its nodes are evaluated and, where no clause is false yet, its clauses looked at. The mode is 0 from the first false one on.

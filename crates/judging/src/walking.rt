@@ -15,58 +15,74 @@ ghost use Prim.Native.Nat.{_+_, _<_, _≤_};
 ghost use lib.ListN.{length};
 ghost use Rattle.values.specs.code.Plan.{planLength};
 ghost use Rattle.judging.specs.code.Counting.{noChoice};
-ghost use Rattle.judging.specs.code.Walking.{Ordered, Lays, Stands, nothingKept, Descends, WalksBy};
+ghost use Rattle.judging.specs.code.Walking.{Ordered, Lays, Stands, Descends, WalksBy};
 ghost use Rattle.judging.specs.code.Lent.{LentBy};
+
+// So few choices do with few slots.
+const FEW: u64 = 128;
 
 // Lays the plan along an order of our own that begins with the first `begun` variables of the caller's, where one was found, or along the caller's.
 fn lay(t: &[u64], parsed: Parsed, order: &[u8], begun: usize, plan: &mut [u64])
     requires { ⌜ LentBy (now t) parsed × Ordered parsed (now order) × (begun ≤ length (now order)) × (length (now plan) ≡ planLength) ⌝ }
     ensures { λ _. ⌜ Lays (now (t .entry)) parsed (now (order .entry)) begun (now (plan .exit)) ⌝ }
 {
-    let nodes = parsed.nodes;
     let kinds = parsed.kinds;
     let all = parsed.vars;
-    let n = parsed.n;
-    let root = parsed.root;
     let count = parsed.count;
     let vars = &all[..count];
     let found = orders::own(t, &plan[..], order, begun);
     let own = &found[..count];
-    let names = values::names::names(&nodes, n, vars);
+    let names = values::names::names(&parsed.nodes, parsed.n, vars);
     if walks::ordered(&names, own, count) {
         if walks::begins_alike(own, order, begun) {
-            planning::plan(&nodes, n, &kinds, vars, root, own, plan);
+            planning::plan(
+                &parsed.nodes,
+                parsed.n,
+                &kinds,
+                vars,
+                parsed.root,
+                own,
+                plan,
+            );
             return;
         }
     }
-    planning::plan(&nodes, n, &kinds, vars, root, order, plan);
-}
-
-// The plan for the counts: along the caller's order, unless another is worth it.
-fn lay_first(t: &[u64], parsed: Parsed, order: &[u8], plan: &mut [u64])
-    requires { ⌜ LentBy (now t) parsed × Ordered parsed (now order) × (length (now plan) ≡ planLength) ⌝ }
-    ensures { λ _. ⌜ Lays (now (t .entry)) parsed (now (order .entry)) 0 (now (plan .exit)) ⌝ }
-{
-    let nodes = parsed.nodes;
-    let kinds = parsed.kinds;
-    let vars = parsed.vars;
-    let count = parsed.count;
     planning::plan(
-        &nodes,
+        &parsed.nodes,
         parsed.n,
         &kinds,
-        &vars[..count],
+        vars,
         parsed.root,
         order,
         plan,
     );
-    if count < 2 {
-        return;
+}
+
+// The plan for the counts: along the caller's order, unless another is worth it. How many choices there are at the most, of which nothing is shown.
+fn lay_first(t: &[u64], parsed: Parsed, order: &[u8], plan: &mut [u64]) -> u64
+    requires { ⌜ LentBy (now t) parsed × Ordered parsed (now order) × (length (now plan) ≡ planLength) ⌝ }
+    ensures { λ _. ⌜ Lays (now (t .entry)) parsed (now (order .entry)) 0 (now (plan .exit)) ⌝ }
+{
+    let kinds = parsed.kinds;
+    let all = parsed.vars;
+    planning::plan(
+        &parsed.nodes,
+        parsed.n,
+        &kinds,
+        &all[..parsed.count],
+        parsed.root,
+        order,
+        plan,
+    );
+    let many = orders::choices(t, &plan[..], order);
+    if many < orders::FEW {
+        return many;
     }
     if !orders::worth(t, &plan[..], order) {
-        return;
+        return many;
     }
     lay(t, parsed, order, 0, plan);
+    many
 }
 
 // Where the descent is: the first variables of the caller's order have their items, and the mode goes with them.
@@ -86,8 +102,8 @@ fn turn(
     cache: &mut [u64],
     kept: &mut [u64],
 ) -> usize
-    requires { ⌜ LentBy (now t) parsed × Ordered parsed (now order) × (place .depth < length (now order)) × Stands (now t) parsed (now order) (place .depth) (place .depth) (place .mode) (place .choice) (now plan) (now cache) (now kept) ⌝ }
-    ensures { λ r. ⌜ Stands (now (t .entry)) parsed (now (order .entry)) (place .depth + 1) (place .depth) r (place .choice) (now (plan .exit)) (now (cache .exit)) (now (kept .exit)) ⌝ }
+    requires { ⌜ LentBy (now t) parsed × Ordered parsed (now order) × (place .depth < length (now order)) × Stands (now t) parsed (now order) (place .depth) (place .depth) (place .mode) (place .choice) (now plan) (now cache) (now kept) (length (now kept)) ⌝ }
+    ensures { λ r. ⌜ Stands (now (t .entry)) parsed (now (order .entry)) (place .depth + 1) (place .depth) r (place .choice) (now (plan .exit)) (now (cache .exit)) (now (kept .exit)) (length (now (kept .entry))) ⌝ }
 {
     let d = place.depth;
     if plan[ORDER + d] == order[d] as u64 {
@@ -108,7 +124,7 @@ fn descend(
     cache: &mut [u64],
     kept: &mut [u64],
 ) -> u64
-    requires { ⌜ LentBy (now t) parsed × Ordered parsed (now order) × Stands (now t) parsed (now order) 0 0 mode noChoice (now plan) (now cache) (now kept) ⌝ }
+    requires { ⌜ LentBy (now t) parsed × Ordered parsed (now order) × Stands (now t) parsed (now order) 0 0 mode noChoice (now plan) (now cache) (now kept) (length (now kept)) ⌝ }
     ensures { λ r. ⌜ Descends (now (t .entry)) parsed (now (order .entry)) (length (now (order .entry))) r ⌝ }
 {
     let mut choice = kept::NOTHING;
@@ -144,20 +160,12 @@ fn counted(
     mode: usize,
     plan: &mut [u64],
     cache: &mut [u64],
+    kept: &mut [u64],
 ) -> Tally
-    requires { ⌜ LentBy (now t) parsed × Ordered parsed (now order) × Stands (now t) parsed (now order) 0 0 mode noChoice (now plan) (now cache) nothingKept ⌝ }
+    requires { ⌜ LentBy (now t) parsed × Ordered parsed (now order) × Stands (now t) parsed (now order) 0 0 mode noChoice (now plan) (now cache) (now kept) (length (now kept)) ⌝ }
     ensures { λ r. ⌜ WalksBy (now (t .entry)) parsed (now (order .entry)) r ⌝ }
 {
-    let mut kept = [0u64; kept::ROOM];
-    let sum = below(
-        t,
-        &plan[..],
-        mode,
-        order.len(),
-        kept::NOTHING,
-        cache,
-        &mut kept,
-    );
+    let sum = below(t, &plan[..], mode, order.len(), kept::NOTHING, cache, kept);
     if sum.breaking == 0 {
         return Tally {
             full: sum.full,
@@ -165,7 +173,7 @@ fn counted(
             first: [255u8; 8],
         };
     }
-    let first = kept::bytes(descend(t, parsed, order, mode, plan, cache, &mut kept));
+    let first = kept::bytes(descend(t, parsed, order, mode, plan, cache, kept));
     Tally {
         full: sum.full,
         breaking: sum.breaking,
@@ -180,7 +188,7 @@ pub fn whole(t: &[u64], parsed: Parsed, order: &[u8]) -> Tally
 {
     let mut plan = [0u64; planning::LENGTH];
     let mut cache = [0u64; RULE_LIMIT];
-    lay_first(t, parsed, order, &mut plan);
+    let many = lay_first(t, parsed, order, &mut plan);
     let mode = entered(t, &plan, 0, kept::NOTHING, &mut cache);
     if order.len() == 0 {
         return Tally {
@@ -189,5 +197,10 @@ pub fn whole(t: &[u64], parsed: Parsed, order: &[u8]) -> Tally
             first: [255u8; 8],
         };
     }
-    counted(t, parsed, order, mode, &mut plan, &mut cache)
+    if many < FEW {
+        let mut few = [0u64; kept::FEW_ROOM];
+        return counted(t, parsed, order, mode, &mut plan, &mut cache, &mut few);
+    }
+    let mut kept = [0u64; kept::ROOM];
+    counted(t, parsed, order, mode, &mut plan, &mut cache, &mut kept)
 }

@@ -70,8 +70,8 @@ const WORST: u64 = 17592186044416;
 // No variable has more items.
 const WIDEST: u64 = 64;
 
-// Fewer choices are not worth a search. A search has one try for so much that the caller's order costs, and so many at most.
-const FEW: u64 = 4096;
+// Fewer choices are not worth a search, which has one try for so much that the caller's order costs, and so many at most.
+pub const FEW: u64 = 4096;
 
 const SHARE: u64 = 1024;
 
@@ -402,7 +402,7 @@ pub fn own(t: &[u64], plan: &[u64], order: &[u8], begun: usize) -> [u8; CHOICES_
 }
 
 // How many choices there are at the most: the product of how many items the variables may have.
-fn choices(t: &[u64], plan: &[u64], order: &[u8]) -> u64
+pub fn choices(t: &[u64], plan: &[u64], order: &[u8]) -> u64
     requires { ⌜ Whole (now t) × (length (now plan) ≡ planLength) × (length (now order) ≤ choicesLimit) ⌝ }
 {
     let mut found = 1;
@@ -415,13 +415,10 @@ fn choices(t: &[u64], plan: &[u64], order: &[u8]) -> u64
     found
 }
 
-// Whether another order is worth another plan: there are many choices, and the search finds a cheaper one.
+// Whether another order is worth another plan: the search finds a cheaper one.
 pub fn worth(t: &[u64], plan: &[u64], order: &[u8]) -> bool
     requires { ⌜ Whole (now t) × (length (now plan) ≡ planLength) × (length (now order) ≤ choicesLimit) ⌝ }
 {
-    if choices(t, plan, order) < FEW {
-        return false;
-    }
     let found = own(t, plan, order, 0);
     !walks::begins_alike(&found, order, order.len())
 }

@@ -38,8 +38,8 @@ pub enum Step {
     Took { value: u64, next: usize },
 }
 
-// Reads the tables into words that are all 0.
-fn load(bytes: &[u8], words: &mut [u64]) -> Outcome
+// Reads the tables into words that are all 0. Where they are refused, what the words then have means nothing.
+pub fn load(bytes: &[u8], words: &mut [u64]) -> Outcome
     requires { ⌜ now words ≡ replicate wholeLength 0 ⌝ }
     ensures { λ r. ⌜ r ≡ readingOutcome (tablesOf (now (bytes .entry))) ⌝ }
     ensures { λ r. ⌜ (r ≡ AcceptedOutcome → now (words .exit) ≡ wordsOf (tablesOf (now (bytes .entry)))) ⌝ }

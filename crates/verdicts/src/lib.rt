@@ -5,6 +5,7 @@ use answers::Written;
 use rules::Checked;
 use rules::Parsed;
 use tables::Outcome as Read;
+use tables::layout::WHOLE;
 ghost use mathlib.Core.Path.{_≡_};
 ghost use lib.ListN.{length};
 ghost use Rattle.rules.specs.declared.Checked.the-variants.{Accepted as AcceptedRule};
@@ -79,14 +80,10 @@ pub fn in_turn(words: &[u64], rule: &[u8]) -> Verdict
 pub fn decide(tables: &[u8], rule: &[u8], order: &[u8]) -> Verdict
     ensures { λ r. ⌜ Gives (verdictOf (now (tables .entry)) (now (rule .entry)) (now (order .entry))) r ⌝ }
 {
-    let loaded = tables::read(tables);
-    let outcome = loaded.outcome;
-    match outcome {
+    let mut words = [0u64; WHOLE];
+    match tables::load(tables, &mut words) {
         Read::Refused(e) => ruling::refused(e),
-        Read::Accepted => {
-            let words = loaded.words;
-            on_tables(&words, rule, order)
-        }
+        Read::Accepted => on_tables(&words, rule, order),
     }
 }
 

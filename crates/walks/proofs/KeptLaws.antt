@@ -1,8 +1,9 @@
 -- Kept counts: none is kept at first, a hit is right, and writing what was counted keeps them right.
 -- Assumes nothing.
-use mathlib.Core.Path.{_≡_, sym, ap, _∙_}
+use mathlib.Core.Path.{_≡_, refl, sym, ap, _∙_}
 use mathlib.Core.Bool.{Bool}
 use mathlib.Core.List.{List}
+use mathlib.Core.Logic.{⊎-elim}
 use Prim.Native.Nat.{ℕ, _+_, _-_, _*_, _/_, _%_, _<_}
 use native.Mathlib.Decide.{ℕ-discrete}
 use native.Mathlib.Omega.{arith}
@@ -12,21 +13,21 @@ use Rattle.walks.specs.Choices.{Sets}
 use Rattle.walks.specs.Meaning.{After, Reads}
 use Rattle.walks.specs.code.Clauses.{Clauses}
 use Rattle.walks.specs.code.Context.{Alike, Contexts}
-use Rattle.walks.specs.code.Kept.{choiceOf, Counted, unwritten, slotAt, KeptRight, written, Unwritten}
+use Rattle.walks.specs.code.Kept.{choiceOf, Counted, unwritten, slotAt, KeptRight, written, Keeping, Unwritten}
 use Rattle.walks.proofs.ContextLaws.{full-alike, weight-alike}
 use Rattle.walks.proofs.ReorderLaws.{after-drop}
 
 -- ---- entries after a write
 
-module _ (kept : List ℕ) (k full breaking choice : ℕ) (fits : k < 1024) (long : length kept ≡ 3072) where
+module _ (kept : List ℕ) (k full breaking choice : ℕ) (fits : 3 * k + 2 < length kept) where
   abbrev one : List ℕ
   one = set kept (3 * k) (full + 1)
 
   abbrev two : List ℕ
   two = set one (3 * k + 1) breaking
 
-  written-length : length (written kept k full breaking choice) ≡ 3072
-  written-length = simp length-set long
+  written-length : length (written kept k full breaking choice) ≡ length kept
+  written-length = simp length-set refl
 
   full-there : getD (written kept k full breaking choice) (3 * k) 0 ≡ full + 1
   full-there =
@@ -60,20 +61,20 @@ put-next found is i l h x e j m = go (ℕ-discrete j i)
 
 module _ (s : Sets) (K : Clauses) (levels order contexts : List ℕ) where
   -- nothing was written
-  pub kept-none : (kept : List ℕ) → length kept ≡ 3072 → Unwritten 3072 kept → KeptRight s K levels order contexts kept
-  kept-none kept l h = record { long = l; right = λ k b ne c lc a. absurd (ne (h (3 * k) (omega arith))) }
+  pub kept-none : (kept : List ℕ) → Unwritten (length kept) kept → KeptRight s K levels order contexts kept
+  kept-none kept h = record { right = λ k b ne c lc a. absurd (ne (h (3 * k) (omega arith))) }
 
   -- a hit is right
-  pub kept-hit : {kept : List ℕ} → KeptRight s K levels order contexts kept → (mode d i : ℕ) → mode < 2 → d < 8 → i < 64
+  pub kept-hit : {kept : List ℕ} → KeptRight s K levels order contexts kept → (mode d i : ℕ) → mode < 2 → d < 8 → 3 * slotAt mode d i + 2 < length kept
       → (getD kept (3 * slotAt mode d i) 0 ≡ unwritten → ⊥) → (c : List ℕ) → length c ≡ 8
       → Alike (getD contexts (8 * mode + d) 0) (choiceOf (getD kept (3 * slotAt mode d i + 2) 0)) c
       → Counted s K levels order mode d c (getD kept (3 * slotAt mode d i) 0 - 1) (getD kept (3 * slotAt mode d i + 1) 0)
-  kept-hit {kept} r mode d i lm ld li ne c lc a =
+  kept-hit {kept} r mode d i lm ld fits ne c lc a =
       let k : ℕ = slotAt mode d i in
-      let em : k / 512 ≡ mode = omega arith in
-      let ed : k / 64 % 8 ≡ d = omega arith in
-      let ec : k / 64 ≡ 8 * mode + d = omega arith in
-      rw em at (rw ed at (r .right k (omega arith) ne c lc (rw ec a)))
+      let em : k % 16 / 8 ≡ mode = omega arith in
+      let ed : k % 8 ≡ d = omega arith in
+      let ec : k % 16 ≡ 8 * mode + d = omega arith in
+      rw em at (rw ed at (r .right k fits ne c lc (rw ec a)))
 
   -- writing what was counted under a choice
   module _ (names : ℕ → ℕ → Bool) (law : Reads s names) (after : After names order) (right : Contexts names K levels order contexts) where
@@ -88,19 +89,14 @@ module _ (s : Sets) (K : Clauses) (levels order contexts : List ℕ) where
           breakings = p .breakings ∙ weight-alike 64 s names law K levels (drop d order) af (getD contexts (8 * mode + d) 0) mode (d + 1) x a b l h;
         }
 
-    pub kept-write : {kept : List ℕ} → KeptRight s K levels order contexts kept → (mode d i : ℕ) → mode < 2 → d < 8 → d < length order → i < 64
+    pub kept-write : {kept : List ℕ} → KeptRight s K levels order contexts kept → (mode d i : ℕ) → mode < 2 → d < 8 → d < length order
         → (full breaking choice : ℕ) (a : List ℕ) → length a ≡ 8 → Alike (getD contexts (8 * mode + d) 0) (choiceOf choice) a
-        → Counted s K levels order mode d a full breaking → KeptRight s K levels order contexts (written kept (slotAt mode d i) full breaking choice)
-    kept-write {kept} r mode d i lm ld lo li full breaking choice a la same p = record {
-      long = written-length kept k full breaking choice fits (r .long);
-      right = λ j b ne c lc h. go j b ne c lc h (ℕ-discrete j k);
-    }
+        → Counted s K levels order mode d a full breaking → 3 * slotAt mode d i + 2 < length kept
+        → KeptRight s K levels order contexts (written kept (slotAt mode d i) full breaking choice)
+    kept-write {kept} r mode d i lm ld lo full breaking choice a la same p fits = record { right = λ j b ne c lc h. go j b ne c lc h (ℕ-discrete j k) }
       where
         k : ℕ
         k = slotAt mode d i
-
-        fits : k < 1024
-        fits = omega arith
 
         new : List ℕ
         new = written kept k full breaking choice
@@ -108,22 +104,33 @@ module _ (s : Sets) (K : Clauses) (levels order contexts : List ℕ) where
         here : (c : List ℕ) → length c ≡ 8 → Alike (getD contexts (8 * mode + d) 0) (choiceOf choice) c → Counted s K levels order mode d c full breaking
         here c lc h = alike-counted mode d lm lo a c (la ∙ sym lc) (λ u e. sym (same u e) ∙ h u e) full breaking p
 
-        go : (j : ℕ) → j < 1024 → (getD new (3 * j) 0 ≡ unwritten → ⊥) → (c : List ℕ) → length c ≡ 8
-            → Alike (getD contexts (j / 64) 0) (choiceOf (getD new (3 * j + 2) 0)) c → Dec (j ≡ k)
-            → Counted s K levels order (j / 512) (j / 64 % 8) c (getD new (3 * j) 0 - 1) (getD new (3 * j + 1) 0)
+        go : (j : ℕ) → 3 * j + 2 < length new → (getD new (3 * j) 0 ≡ unwritten → ⊥) → (c : List ℕ) → length c ≡ 8
+            → Alike (getD contexts (j % 16) 0) (choiceOf (getD new (3 * j + 2) 0)) c → Dec (j ≡ k)
+            → Counted s K levels order (j % 16 / 8) (j % 8) c (getD new (3 * j) 0 - 1) (getD new (3 * j + 1) 0)
         go j b ne c lc h (yes e) =
-            let em : k / 512 ≡ mode = omega arith in
-            let ed : k / 64 % 8 ≡ d = omega arith in
-            let ec : k / 64 ≡ 8 * mode + d = omega arith in
-            let ef = full-there kept k full breaking choice fits (r .long) in
-            let eb = breaking-there kept k full breaking choice fits (r .long) in
-            let eh = choice-there kept k full breaking choice fits (r .long) in
+            let em : k % 16 / 8 ≡ mode = omega arith in
+            let ed : k % 8 ≡ d = omega arith in
+            let ec : k % 16 ≡ 8 * mode + d = omega arith in
+            let ef = full-there kept k full breaking choice fits in
+            let eb = breaking-there kept k full breaking choice fits in
+            let eh = choice-there kept k full breaking choice fits in
             let less : full + 1 - 1 ≡ full = omega arith in
             rw (e, em, ed, ef, eb, less) (here c lc (rw ec at (rw eh at (rw e at h))))
         go j b ne c lc h (no q) =
             let zero-place : 3 * j ≡ 3 * j + 0 = omega arith in
             let ef : getD new (3 * j) 0 ≡ getD kept (3 * j) 0 =
-            ap (λ (t : ℕ). getD new t 0) zero-place ∙ other-stays kept k full breaking choice fits (r .long) j 0 (omega arith) q ∙ ap (λ (t : ℕ). getD kept t 0) (sym zero-place) in
-            let eb = other-stays kept k full breaking choice fits (r .long) j 1 (omega arith) q in
-            let eh = other-stays kept k full breaking choice fits (r .long) j 2 (omega arith) q in
-            rw (ef, eb) (r .right j b (λ z. ne (ef ∙ z)) c lc (rw eh at h))
+            ap (λ (t : ℕ). getD new t 0) zero-place ∙ other-stays kept k full breaking choice fits j 0 (omega arith) q ∙ ap (λ (t : ℕ). getD kept t 0) (sym zero-place) in
+            let eb = other-stays kept k full breaking choice fits j 1 (omega arith) q in
+            let eh = other-stays kept k full breaking choice fits j 2 (omega arith) q in
+            rw (ef, eb) (r .right j (omega (arith, written-length kept k full breaking choice fits)) (λ z. ne (ef ∙ z)) c lc (rw eh at h))
+
+    -- or left out
+    pub kept-on : {kept new : List ℕ} → KeptRight s K levels order contexts kept → (mode d i : ℕ) → mode < 2 → d < 8 → d < length order
+        → (full breaking choice : ℕ) (a : List ℕ) → length a ≡ 8 → Alike (getD contexts (8 * mode + d) 0) (choiceOf choice) a
+        → Counted s K levels order mode d a full breaking → Keeping kept new (slotAt mode d i) full breaking choice → KeptRight s K levels order contexts new
+    kept-on {kept} {new} r mode d i lm ld lo full breaking choice a la same p k =
+        ⊎-elim (λ e. rw e r) (λ q. rw (q .1) (kept-write r mode d i lm ld lo full breaking choice a la same p (q .0))) k
+
+-- the slots are as many as before
+pub keeping-length : {kept new : List ℕ} (k full breaking choice : ℕ) → Keeping kept new k full breaking choice → length new ≡ length kept
+keeping-length {kept} {new} k full breaking choice = ⊎-elim (λ e. ap length e) (λ q. ap length (q .1) ∙ written-length kept k full breaking choice (q .0))

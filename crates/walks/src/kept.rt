@@ -2,7 +2,7 @@
 ghost use mathlib.Core.Path.{_≡_};
 ghost use Prim.Native.Nat.{_+_, _-_, _*_, _^_, _<_, _≤_};
 ghost use lib.ListN.{length, getD, set};
-ghost use Rattle.walks.specs.code.Kept.{choiceOf, Masks, written, Hit, Unwritten};
+ghost use Rattle.walks.specs.code.Kept.{choiceOf, Masks, Hit, Keeping, Unwritten};
 
 // The word of no choice: each byte is 255.
 pub const NOTHING: u64 = 18446744073709551615;
@@ -10,8 +10,12 @@ pub const NOTHING: u64 = 18446744073709551615;
 // What is kept of a full count is one more than it, so that a slot of zeros is one that was not written.
 const UNWRITTEN: u64 = 0;
 
-// How many numbers the slots have: 64 slots for each of 8 depths and 2 modes.
+// A slot for each of 8 depths and 2 modes, and as many for each item. How many numbers the slots of all 64 items have, and those of the first 8.
+pub const PLACES: usize = 16;
+
 pub const ROOM: usize = 3072;
+
+pub const FEW_ROOM: usize = 384;
 
 const BITS: usize = 8;
 
@@ -70,12 +74,15 @@ pub fn spread(word: u64) -> u64
     mask
 }
 
-// Whether the slot was written, under that key.
+// Whether there is such a slot, and it was written, under that key.
 pub fn hit(kept: &[u64], slot: usize, key: u64) -> bool
-    requires { ⌜ (slot < 1024) × (length (now kept) ≡ 3072) ⌝ }
+    requires { ⌜ slot < 1024 ⌝ }
     ensures { λ r. ⌜ Hit (now (kept .entry)) slot key r ⌝ }
 {
     let at = ENTRY * slot;
+    if kept.len() <= at + 2 {
+        return false;
+    }
     if kept[at] == UNWRITTEN {
         return false;
     }
@@ -84,7 +91,7 @@ pub fn hit(kept: &[u64], slot: usize, key: u64) -> bool
 
 // What the slot has, which was written.
 pub fn taken(kept: &[u64], slot: usize) -> Counts
-    requires { ⌜ (slot < 1024) × (length (now kept) ≡ 3072) × (0 < getD (now kept) (3 * slot) 0) ⌝ }
+    requires { ⌜ (slot < 1024) × (3 * slot + 2 < length (now kept)) × (0 < getD (now kept) (3 * slot) 0) ⌝ }
     ensures { λ r. ⌜ (r .full ≡ getD (now (kept .entry)) (3 * slot) 0 - 1) × (r .breaking ≡ getD (now (kept .entry)) (3 * slot + 1) 0) ⌝ }
 {
     let at = ENTRY * slot;
@@ -93,12 +100,15 @@ pub fn taken(kept: &[u64], slot: usize) -> Counts
     Counts { full, breaking }
 }
 
-// An entry is written.
+// An entry is written, where there is such a slot.
 pub fn keep(kept: &mut [u64], slot: usize, counts: Counts, key: u64)
-    requires { ⌜ (slot < 1024) × (length (now kept) ≡ 3072) × (counts .full ≤ 64 ^ 8) ⌝ }
-    ensures { λ _. ⌜ now (kept .exit) ≡ written (now (kept .entry)) slot (counts .full) (counts .breaking) key ⌝ }
+    requires { ⌜ (slot < 1024) × (counts .full ≤ 64 ^ 8) ⌝ }
+    ensures { λ _. ⌜ Keeping (now (kept .entry)) (now (kept .exit)) slot (counts .full) (counts .breaking) key ⌝ }
 {
     let at = ENTRY * slot;
+    if kept.len() <= at + 2 {
+        return;
+    }
     kept[at] = counts.full + 1;
     kept[at + 1] = counts.breaking;
     kept[at + 2] = key;

@@ -21,7 +21,7 @@ use Rattle.judging.specs.code.Planning.{variablesAt, setsFrom, Layout, P
 pub record SlotOf (at r : ℕ) : Type 0 where
   pub item : ℕ
   pub small : item < 64
-  pub is : r ≡ 64 * at + item
+  pub is : r ≡ 16 * item + at
 
 -- How many variables are chosen where `left` are still to be.
 abbrev pub depthOf : List ℕ → ℕ → ℕ

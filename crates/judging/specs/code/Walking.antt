@@ -3,7 +3,7 @@
 use mathlib.Core.Path.{_≡_}
 use mathlib.Core.List.{List, []}
 use Prim.Native.Nat.{ℕ, _+_, _<_}
-use lib.ListN.{length, take, drop, replicate}
+use lib.ListN.{length, take, drop}
 use Rattle.tables.specs.Tables.{Tables}
 use Rattle.syntax.specs.Rule.{Rule, ruleVars}
 use Rattle.rules.specs.declared.Parsed.{Parsed}
@@ -47,16 +47,13 @@ pub record Ready (ts plan : List ℕ) (T : Tables) (ρ : Rule) (order : List ℕ
   pub keeps : Keeps plan (along .layout) T ρ kept
   pub modes : ModeIs (clausesOf T ρ) (drop levelsFrom plan) mode (d + 1) (choiceOf choice)
 
-pub record Stands (ts : List ℕ) (p : Parsed) (order : List ℕ) (e d mode choice : ℕ) (plan cache kept : List ℕ) : Type 0 where
+-- So it is, with so many slots.
+pub record Stands (ts : List ℕ) (p : Parsed) (order : List ℕ) (e d mode choice : ℕ) (plan cache kept : List ℕ) (many : ℕ) : Type 0 where
   pub small : mode < 2
   pub long : length plan ≡ planLength
   pub room : length cache ≡ planRoom
-  pub slots : length kept ≡ 3072
+  pub slots : length kept ≡ many
   pub ready : (T : Tables) (ρ : Rule) → CaseBy ts p T ρ → Ready ts plan T ρ order e d mode choice cache kept
-
--- Slots of zeros.
-abbrev pub nothingKept : List ℕ
-nothingKept = replicate 3072 0
 
 -- The first breaking choice along the caller's order, where there is one, has its first d items in the choice r.
 abbrev pub Descends : List ℕ → Parsed → List ℕ → ℕ → ℕ → Type 0

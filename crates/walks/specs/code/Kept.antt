@@ -3,6 +3,7 @@
 use mathlib.Core.Path.{_≡_}
 use mathlib.Core.Bool.{Bool, true}
 use mathlib.Core.List.{List, [], _∷_}
+use mathlib.Core.Logic.{_⊎_}
 use Prim.Native.Nat.{ℕ, zero, suc, _+_, _-_, _*_, _/_, _%_, _^_, _<_}
 use lib.ListN.{length, getD, set, drop}
 use Rattle.words.specs.Words.{has, joinOf, lessOf}
@@ -39,17 +40,16 @@ pub record Counted (s : Sets) (K : Clauses) (levels order : List ℕ) (mode d : 
 abbrev pub unwritten : ℕ
 unwritten = 0
 
--- 64 slots for each of 8 depths and 2 modes.
+-- A slot for each of 8 depths and 2 modes, and as many for each item.
 abbrev pub slotAt : ℕ → ℕ → ℕ → ℕ
-slotAt mode d i = 64 * (8 * mode + d) + i
+slotAt mode d i = 16 * i + (8 * mode + d)
 
 -- Three numbers for each slot: full and 1, breaking, and the choice as one word. What is written is right for every choice that agrees with the
 -- slot's own at the context.
 pub record KeptRight (s : Sets) (K : Clauses) (levels order contexts kept : List ℕ) : Type 0 where
-  pub long : length kept ≡ 3072
-  pub right : (k : ℕ) → k < 1024 → (getD kept (3 * k) 0 ≡ unwritten → ⊥)
-      → (c : List ℕ) → length c ≡ 8 → Alike (getD contexts (k / 64) 0) (choiceOf (getD kept (3 * k + 2) 0)) c
-      → Counted s K levels order (k / 512) (k / 64 % 8) c (getD kept (3 * k) 0 - 1) (getD kept (3 * k + 1) 0)
+  pub right : (k : ℕ) → 3 * k + 2 < length kept → (getD kept (3 * k) 0 ≡ unwritten → ⊥)
+      → (c : List ℕ) → length c ≡ 8 → Alike (getD contexts (k % 16) 0) (choiceOf (getD kept (3 * k + 2) 0)) c
+      → Counted s K levels order (k % 16 / 8) (k % 8) c (getD kept (3 * k) 0 - 1) (getD kept (3 * k + 1) 0)
 
 -- The first n numbers are those of slots that were not written.
 abbrev pub Unwritten : ℕ → List ℕ → Type 0
@@ -57,8 +57,12 @@ Unwritten n kept = (j : ℕ) → j < n → getD kept j 0 ≡ unwritten
 
 -- r says only of a written entry, with that key, that there is one.
 abbrev pub Hit : List ℕ → ℕ → ℕ → Bool → Type 0
-Hit kept k key r = r ≡ true → (getD kept (3 * k) 0 ≡ unwritten → ⊥) × (getD kept (3 * k + 2) 0 ≡ key)
+Hit kept k key r = r ≡ true → (3 * k + 2 < length kept) × (getD kept (3 * k) 0 ≡ unwritten → ⊥) × (getD kept (3 * k + 2) 0 ≡ key)
 
 -- An entry is written.
 abbrev pub written : List ℕ → ℕ → ℕ → ℕ → ℕ → List ℕ
 written kept k full breaking choice = set (set (set kept (3 * k) (full + 1)) (3 * k + 1) breaking) (3 * k + 2) choice
+
+-- So it is, where the slot is one of those that there are; otherwise nothing is.
+abbrev pub Keeping : List ℕ → List ℕ → ℕ → ℕ → ℕ → ℕ → Type 0
+Keeping old new k full breaking choice = (new ≡ old) ⊎ ((3 * k + 2 < length old) × (new ≡ written old k full breaking choice))

@@ -8,6 +8,7 @@ use Rattle.tables.specs.Tables.{Tables}
 use Rattle.syntax.specs.Rule.{Rule}
 use Rattle.words.proofs.LoopLaws.{lowest-item, less-smaller}
 use Rattle.walks.specs.code.Kept.{choiceOf}
+use Rattle.walks.proofs.KeptLaws.{keeping-length}
 use Rattle.judging.specs.code.Planning.{setsFrom, Layout, Planned, Caches, Keeps}
 use Rattle.judging.specs.code.Counting.{depthOf, TurningAt}
 use Rattle.judging.proofs.CountingLaws.{plan-runs, set-small, set-in, caches-on, counted-fits, below-whole, below-last, below-hit, below-write, items-start, items-next, items-room, items-end, turned}
@@ -189,14 +190,14 @@ below-hit-requires : (t : ℕ) → below-lts.Need-hit-requires (called-below t) 
 below-hit-requires t c κs =
     let at-if1 = c .before .before .before .before .before .before in
     let at-start = at-if1 .before .before .before .before .before in
-    (omega (arith, c .before .before .before .slot .ensures .is, c .before .before .before .slot .ensures .small, at-start .pre .1 .modes, at-start .pre .1 .planned .turns .many, at-start .pre .1 .planned .turns .short, at-start .pre .1 .within, at-if1 .if1 .left), at-start .pre .1 .keeps .long)
+    omega (arith, c .before .before .before .slot .ensures .is, c .before .before .before .slot .ensures .small, at-start .pre .1 .modes, at-start .pre .1 .planned .turns .many, at-start .pre .1 .planned .turns .short, at-start .pre .1 .within, at-if1 .if1 .left)
 
 below-taken-requires : (t : ℕ) → below-lts.Need-taken-requires (called-below t) (below-at t) below.Post
 below-taken-requires t c κs =
     let at-slot = c .before .before .before .before .before .before in
     let at-if1 = at-slot .before .before .before in
     let at-start = at-if1 .before .before .before .before .before in
-    (omega (arith, at-slot .slot .ensures .is, at-slot .slot .ensures .small, at-start .pre .1 .modes, at-start .pre .1 .planned .turns .many, at-start .pre .1 .planned .turns .short, at-start .pre .1 .within, at-if1 .if1 .left), at-start .pre .1 .keeps .long, omega (arith, c .before .before .hit .ensures (c .before .if3 .taken) .0))
+    (omega (arith, at-slot .slot .ensures .is, at-slot .slot .ensures .small, at-start .pre .1 .modes, at-start .pre .1 .planned .turns .many, at-start .pre .1 .planned .turns .short, at-start .pre .1 .within, at-if1 .if1 .left), c .before .before .hit .ensures (c .before .if3 .taken) .0, omega (arith, c .before .before .hit .ensures (c .before .if3 .taken) .1))
 
 below-same-length : (t : ℕ) → below-lts.Need-same-length (called-below t) (below-at t) below.Post
 below-same-length t c = refl
@@ -213,7 +214,7 @@ below-returns-3 t c =
       room = refl;
       slots = refl;
       goes = λ y T ρ P st ke. (
-        rw (c .taken .ensures .0, c .taken .ensures .1) (below-hit P (at-start .args .mode) d (Q .modes) (omega (arith, P .turns .many, Q .within, at-if1 .if1 .left)) (at-slot .slot .ensures) (at-start .args .choice) (c .before .before .before .before .before .meet .ensures) ke (h .0) (h .1)),
+        rw (c .taken .ensures .0, c .taken .ensures .1) (below-hit P (at-start .args .mode) d (Q .modes) (omega (arith, P .turns .many, Q .within, at-if1 .if1 .left)) (at-slot .slot .ensures) (at-start .args .choice) (c .before .before .before .before .before .meet .ensures) ke (h .0) (h .1) (h .2)),
         st,
         ke,
       );
@@ -231,7 +232,7 @@ below-keep-requires t c κs =
     let at-if1 = at-slot .before .before .before in
     let at-start = at-if1 .before .before .before .before .before in
     let Q = at-start .pre .1 in
-    (omega (arith, at-slot .slot .ensures .is, at-slot .slot .ensures .small, at-start .pre .1 .modes, at-start .pre .1 .planned .turns .many, at-start .pre .1 .planned .turns .short, at-start .pre .1 .within, at-if1 .if1 .left), c .before .before .before .before .before .items .ensures .slots ∙ at-start .pre .1 .keeps .long, counted-fits (Q .planned) (at-start .args .choice) (c .before .before .before .before .before .items .ensures .goes (Q .layout) (Q .tables) (Q .rule) (Q .planned) (Q .stored) (Q .keeps) .0))
+    (omega (arith, at-slot .slot .ensures .is, at-slot .slot .ensures .small, at-start .pre .1 .modes, at-start .pre .1 .planned .turns .many, at-start .pre .1 .planned .turns .short, at-start .pre .1 .within, at-if1 .if1 .left), counted-fits (Q .planned) (at-start .args .choice) (c .before .before .before .before .before .items .ensures .goes (Q .layout) (Q .tables) (Q .rule) (Q .planned) (Q .stored) (Q .keeps) .0))
 
 below-same-length-2 : (t : ℕ) → below-lts.Need-same-length-2 (called-below t) (below-at t) below.Post
 below-same-length-2 t c =
@@ -241,7 +242,8 @@ below-same-length-2 t c =
 below-same-length-3 : (t : ℕ) → below-lts.Need-same-length-3 (called-below t) (below-at t) below.Post
 below-same-length-3 t c =
     let at-items = c .before .before .before .before .before .before .before .before in
-    ap length (c .before .before .keep .ensures) ∙ simp length-set (at-items .items .ensures .slots)
+    let at-meet = at-items .before .before .before .before .before .before in
+    keeping-length (at-meet .before .before .slot .result) (at-items .items .result .full) (at-items .items .result .breaking) (at-meet .meet .result) (c .before .before .keep .ensures) ∙ at-items .items .ensures .slots
 
 below-returns-4 : (t : ℕ) → below-lts.Need-returns-4 (called-below t) (below-at t) below.Post
 below-returns-4 t c =
@@ -254,7 +256,7 @@ below-returns-4 t c =
     let d : ℕ = depthOf (at-start .args .plan .now) (at-start .args .left) in
     record {
       room = at-items .items .ensures .room;
-      slots = ap length (c .before .before .keep .ensures) ∙ simp length-set (at-items .items .ensures .slots);
+      slots = keeping-length (at-slot .slot .result) (at-items .items .result .full) (at-items .items .result .breaking) (at-meet .meet .result) (c .before .before .keep .ensures) ∙ at-items .items .ensures .slots;
       goes = λ y T ρ P st ke.
           let r = at-items .items .ensures .goes y T ρ P st ke in
           (r .0, r .1, below-write P (at-start .args .mode) d (Q .modes) (omega (arith, P .turns .many, Q .within, at-if1 .if1 .left)) (at-slot .slot .ensures) (at-start .args .choice) (at-meet .meet .ensures) (r .2) (r .0) (c .before .before .keep .ensures));

@@ -7,13 +7,13 @@ use lib.ListN.{length}
 use Rattle.judging.specs.code.Walking.{Stands, Descends}
 use Rattle.judging.proofs.WalkingLaws.{once-for, after-for}
 use Rattle.judging.proofs.CountingLaws.{plan-runs}
-use Rattle.judging.proofs.DescendLaws.{standing-at, ready-next, descending-next}
+use Rattle.judging.proofs.DescendLaws.{stands-here, standing-at, ready-next, descending-next}
 use Rattle.judging.proofs.walking.descend.Statement.{statement}
 use Rattle.judging.proofs.walking.descend.Tie as tie
 
 abbrev Inv-loop : tie.InvT-loop
 Inv-loop t parsed order mode plan₀ cache₀ kept₀ choice₀ at₀ depth₀ plan cache kept choice at depth =
-    (depth ≤ length order) × Stands t parsed order depth depth at choice plan cache kept × Descends t parsed order depth choice
+    (depth ≤ length order) × Stands t parsed order depth depth at choice plan cache kept (length kept₀) × Descends t parsed order depth choice
 
 abbrev μ-loop : tie.MeasureT-loop
 μ-loop t parsed order mode plan₀ cache₀ kept₀ choice₀ at₀ depth₀ plan cache kept choice at depth = length order - depth
@@ -28,7 +28,7 @@ turn-requires c κs =
     let at-loop-test = c .before .before .before in
     let at-loop = at-loop-test .before in
     let at-start = at-loop .before .before .before .before .before .before in
-    (at-start .pre .0, at-start .pre .1, at-loop-test .loop-test .taken, at-loop .loop .inv .1)
+    (at-start .pre .0, at-start .pre .1, at-loop-test .loop-test .taken, stands-here (at-loop .loop .inv .1))
 
 sub-least : tie.Need-sub-least Inv-loop μ-loop
 sub-least c =
@@ -102,7 +102,7 @@ loop-again c =
         small = at-enter .enter .ensures .modes;
         long = at-turn .turn .ensures .long;
         room = at-enter .enter .ensures .room ∙ at-least .least .ensures .1 .room ∙ at-turn .turn .ensures .room;
-        slots = at-least .least .ensures .1 .slots ∙ at-turn .turn .ensures .slots;
+        slots = at-least .least .ensures .1 .slots ∙ at-turn .turn .ensures .slots ∙ at-loop .loop .inv .1 .slots;
         ready = λ T ρ C. ready-next (once-for (at-start .pre .0) (at-start .pre .1) C) (after-for (at-start .pre .0) (at-start .pre .1) C) (at-put .put .result) (at-least .least .result) (at-loop-test .loop-test .taken) (at-turn .turn .ensures .ready T ρ C) (at-put .put .ensures) _ left (at-least .least .ensures .1) (at-enter .enter .ensures);
       },
       λ T ρ C some. descending-next (once-for (at-start .pre .0) (at-start .pre .1) C) (after-for (at-start .pre .0) (at-start .pre .1) C) (at-put .put .result) (at-least .least .result) (at-loop-test .loop-test .taken) (at-turn .turn .ensures .ready T ρ C) (at-put .put .ensures) _ left (at-least .least .ensures .1) (at-enter .enter .ensures) (at-loop .loop .inv .2 T ρ C some),
@@ -119,9 +119,7 @@ same-length-2 c =
     c .before .loop .inv .1 .room ∙ sym (at-start .pre .2 .room)
 
 same-length-3 : tie.Need-same-length-3 Inv-loop μ-loop
-same-length-3 c =
-    let at-start = c .before .before .before .before .before .before .before in
-    c .before .loop .inv .1 .slots ∙ sym (at-start .pre .2 .slots)
+same-length-3 c = c .before .loop .inv .1 .slots
 
 returns : tie.Need-returns Inv-loop μ-loop
 returns c =

@@ -35,11 +35,11 @@ returns-2 c =
       small = at-entered .entered .ensures .modes;
       long = at-lay .lay .ensures .long;
       room = at-entered .entered .ensures .room ∙ at-start .pre .3 .room;
-      slots = at-clear .clear .ensures .0 ∙ at-start .pre .3 .slots;
+      slots = at-clear .clear .ensures .0;
       ready = λ T ρ C.
           let A = at-lay .lay .ensures .along T ρ C in
           let e = at-entered .entered .ensures .goes (A .layout) T ρ (A .planned) in
-          record { along = A; stored = e .0; keeps = keeps-none (A .planned) (at-clear .clear .ensures .0 ∙ at-start .pre .3 .slots) (rw (at-start .pre .3 .slots) at (at-clear .clear .ensures .1)); modes = e .1 };
+          record { along = A; stored = e .0; keeps = keeps-none (A .planned) _ (λ j l. at-clear .clear .ensures .1 j (omega (arith, at-clear .clear .ensures .0))); modes = e .1 };
     }
 
 pub turn-spec : {M : Type 1} → statement M
