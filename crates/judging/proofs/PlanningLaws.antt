@@ -18,9 +18,10 @@ use Rattle.walks.specs.code.Context.{Covers}
 use Rattle.walks.proofs.ContextLaws.{covers-left, covers-right}
 use Rattle.rules.specs.code.Variables.{placeIn}
 use Rattle.values.specs.code.Clauses.{clauseCount, clauseAt, TestsAt}
+use Rattle.values.specs.code.Levels.{Level}
 use Rattle.values.specs.code.Plan.{planRoom, levelsFrom, stepOf, nodeIn, kindIn, variableIn, nextIn, firstIn, secondIn, Step}
 use Rattle.values.proofs.TruthLaws.{test-range}
-use Rattle.judging.specs.code.Planning.{contextsFrom, scopesFrom, Filled, Noted, ClauseWord, SetsNamed, ClausesNamed, ContextWord}
+use Rattle.judging.specs.code.Planning.{orderFrom, setsFrom, contextsFrom, scopesFrom, Filled, Noted, LevelsWithin, ClauseWord, SetsNamed, ClausesNamed, ContextWord}
 
 -- ---- one number more
 
@@ -165,6 +166,12 @@ pub levels-same : (old new : List ℕ) (many k : ℕ) (P : ℕ → ℕ → Type 
     → (i : ℕ) → i < many → getD (drop levelsFrom new) i 0 ≡ getD (drop levelsFrom old) i 0
 levels-same old new many k P l F i m =
     getD-drop levelsFrom new i 0 ∙ F .outside (levelsFrom + i) (λ h. absurd (omega arith)) ∙ sym (getD-drop levelsFrom old i 0)
+
+-- They are still where they were put, none above that of the last variable.
+pub levels-in : {a b c d order : List ℕ} (scopes : List ℕ) {many m k : ℕ} {P Q : ℕ → ℕ → Type 0} → many ≤ planRoom → Filled a b levelsFrom many (λ i w. Level order (has (getD scopes i 0)) w)
+    → Filled b c orderFrom m P → Filled c d setsFrom k Q → LevelsWithin d many (length order)
+levels-in scopes l F G H i m =
+    rw (H .outside (levelsFrom + i) (λ h. absurd (omega arith)) ∙ G .outside (levelsFrom + i) (λ h. absurd (omega arith))) (F .inside i m .within)
 
 -- ---- what is noted for the search
 

@@ -1,4 +1,5 @@
 // The plan of a call: what evaluating and counting go by, worked out once, in one flat slice.
+use rules::RULE_LIMIT;
 use syntax::nodes;
 use syntax::nodes::ALSO;
 use syntax::nodes::FIRST_CALL;
@@ -19,11 +20,11 @@ ghost use mathlib.Core.Path.{_≡_};
 ghost use Prim.Native.Nat.{ℕ, _+_, _<_, _≤_, _^_};
 ghost use lib.ListN.{length, getD, drop};
 ghost use Rattle.words.specs.Words.{has};
-ghost use Rattle.syntax.specs.code.Arena.{Low, Tidy};
+ghost use Rattle.syntax.specs.code.Arena.{Tidy};
 ghost use Rattle.walks.specs.code.Kept.{Masks};
 ghost use Rattle.values.specs.code.Levels.{Level};
-ghost use Rattle.values.specs.code.Plan.{planLength, planRoom, clausesFrom, levelsFrom, startsFrom, firstIn, secondIn, Step};
-ghost use Rattle.judging.specs.code.Planning.{orderFrom, setsFrom, contextsFrom, masksFrom, picksFrom, scopesFrom, Filled, Noted, Plannable, ClauseWords, Scopes, SetsNamed, ClausesNamed, ContextWord, Laid, Plans};
+ghost use Rattle.values.specs.code.Plan.{planLength, planRoom, levelsFrom, startsFrom, Step};
+ghost use Rattle.judging.specs.code.Planning.{orderFrom, setsFrom, contextsFrom, masksFrom, picksFrom, scopesFrom, Filled, Noted, Plannable, ClauseWords, ClausesLow, LevelsWithin, Scoped, SetsNamed, ClausesNamed, ContextWord, Laid, Plans};
 
 // How long a plan is.
 pub const LENGTH: usize = 1024;
@@ -104,25 +105,17 @@ fn clauses(plan: &mut [u64], nodes: &[u32], n: usize, root: usize) -> usize
     i + 1
 }
 
-// What each clause names.
-fn scopes(plan: &[u64], nodes: &[u32], n: usize, vars: &[u32], many: usize) -> [u64; 256]
-    requires { ⌜ Tidy (now nodes) n × (length (now plan) ≡ planLength) × (many ≤ planRoom) × ((i : ℕ) → i < many → Low (firstIn (getD (now plan) (clausesFrom + i) 0)) n) × ((i : ℕ) → i < many → Low (secondIn (getD (now plan) (clausesFrom + i) 0)) n) ⌝ }
-    ensures { λ r. ⌜ Scopes (now (nodes .entry)) n (now (vars .entry)) (now (plan .entry)) many r ⌝ }
+// What each clause names, from what the terms name, into lent words.
+fn scopes(plan: &[u64], names: &[u64], many: usize, found: &mut [u64])
+    requires { ⌜ (length (now plan) ≡ planLength) × (many ≤ planRoom) × (length (now found) ≡ planRoom) × ClausesLow (now plan) many (length (now names)) ⌝ }
+    ensures { λ _. ⌜ Scoped (now (plan .entry)) (now (names .entry)) many (now (found .exit)) ⌝ }
 {
-    let mut found = [0u64; 256];
     let mut i = 0;
     while i < many {
         let w = plan[CLAUSES + i];
-        found[i] = values::scopes::clause(
-            nodes,
-            n,
-            vars,
-            (w % TEST_ROOM) as u32,
-            (w / TEST_ROOM) as u32,
-        );
+        found[i] = values::scopes::clause(names, (w % TEST_ROOM) as u32, (w / TEST_ROOM) as u32);
         i += 1;
     }
-    found
 }
 
 // The levels of the clauses.
@@ -191,11 +184,14 @@ fn by_clauses(plan: &[u64], scopes: &[u64], many: usize, d: usize) -> u64
     found
 }
 
-// What is left names at a mode and depth, 8 × mode + depth: the sets and, while no clause is false, the clauses.
+// What is left names at a mode and depth, 8 × mode + depth: the sets and, while no clause is false, the clauses. Nothing where no variable is left.
 fn context(names: &[u64], plan: &[u64], scopes: &[u64], many: usize, order: &[u8], at: usize) -> u64
-    requires { ⌜ (length (now names) ≡ 8) × (length (now plan) ≡ planLength) × (length (now scopes) ≡ planRoom) × (many ≤ planRoom) × (length (now order) ≤ 8) × ((i : ℕ) → i < length (now order) → getD (now order) i 0 < 8) ⌝ }
+    requires { ⌜ (length (now names) ≡ 8) × (length (now plan) ≡ planLength) × (length (now scopes) ≡ planRoom) × (many ≤ planRoom) × (length (now order) ≤ 8) × ((i : ℕ) → i < length (now order) → getD (now order) i 0 < 8) × LevelsWithin (now plan) many (length (now order)) ⌝ }
     ensures { λ r. ⌜ ContextWord (now (names .entry)) (drop levelsFrom (now (plan .entry))) (now (scopes .entry)) (now (order .entry)) many at r ⌝ }
 {
+    if order.len() <= at % 8 {
+        return 0;
+    }
     let found = by_sets(names, order, at % 8);
     if at < 8 {
         return found;
@@ -205,7 +201,7 @@ fn context(names: &[u64], plan: &[u64], scopes: &[u64], many: usize, order: &[u8
 
 // The contexts.
 fn contexts(plan: &mut [u64], names: &[u64], scopes: &[u64], many: usize, order: &[u8])
-    requires { ⌜ (length (now names) ≡ 8) × (length (now plan) ≡ planLength) × (length (now scopes) ≡ planRoom) × (many ≤ planRoom) × (length (now order) ≤ 8) × ((i : ℕ) → i < length (now order) → getD (now order) i 0 < 8) ⌝ }
+    requires { ⌜ (length (now names) ≡ 8) × (length (now plan) ≡ planLength) × (length (now scopes) ≡ planRoom) × (many ≤ planRoom) × (length (now order) ≤ 8) × ((i : ℕ) → i < length (now order) → getD (now order) i 0 < 8) × LevelsWithin (now plan) many (length (now order)) ⌝ }
     ensures { λ _. ⌜ Filled (now (plan .entry)) (now (plan .exit)) contextsFrom 16 (λ at w. ContextWord (now (names .entry)) (drop levelsFrom (now (plan .entry))) (now (scopes .entry)) (now (order .entry)) many at w) ⌝ }
 {
     let mut at = 0;
@@ -234,6 +230,9 @@ fn pick(word: u64, order: &[u8], d: usize) -> u64
     requires { ⌜ ((i : ℕ) → i < length (now order) → getD (now order) i 0 < 8) ⌝ }
 {
     let mut found = 8;
+    if word == 0 {
+        return found;
+    }
     let mut j = 0;
     while j < order.len() {
         if j < d {
@@ -296,18 +295,20 @@ pub fn plan(
     requires { ⌜ Laid (now nodes) n (now kinds) (now vars) root (now order) × (length (now plan) ≡ planLength) ⌝ }
     ensures { λ _. ⌜ Plans (now (nodes .entry)) n (now (kinds .entry)) (now (vars .entry)) root (now (order .entry)) (now (plan .exit)) ⌝ }
 {
-    let node_levels = values::levels::levels(nodes, n, vars, order);
-    let chains = values::levels::chain(&node_levels, n);
-    let first = chains.first;
-    let next = chains.next;
+    let mut terms = [0u64; RULE_LIMIT];
+    values::names::terms(nodes, n, vars, &mut terms);
+    let node_levels = values::levels::levels(&terms, n, order);
+    let mut next = [0u32; RULE_LIMIT];
+    let first = values::levels::chain(&node_levels, n, &mut next);
     steps(plan, nodes, n, kinds, vars, &next);
     starts(plan, &first);
     let many = clauses(plan, nodes, n, root);
-    let named = scopes(&plan[..], nodes, n, vars, many);
+    let mut named = [0u64; RULE_LIMIT];
+    scopes(&plan[..], &terms, many, &mut named);
     clause_levels(plan, &named, many, order);
     places(plan, order);
     sets(plan, vars, order);
-    let names = values::names::names(nodes, n, vars);
+    let names = values::names::sets(&terms, vars);
     contexts(plan, &names, &named, many, order);
     masks(plan);
     picks(plan, order);

@@ -8,6 +8,7 @@ use native.Mathlib.Omega.{arith}
 use borrow.Author.Tests.{eq-eqb, ne-eqb}
 use lib.ListN.{length, getD}
 use Rattle.words.specs.Words.{itemOf, lessOf}
+use Rattle.words.proofs.WordsLaws.{and-both, any-here}
 use Rattle.tables.specs.Tables.{Tables}
 use Rattle.syntax.specs.Term.{Term, Choices}
 use Rattle.syntax.specs.Rule.{Clause, plain, when, Rule, ruleVars}
@@ -75,29 +76,20 @@ module _ (T : Tables) (ρ : Rule) (levels : List ℕ) (d : ℕ) (c : List ℕ) w
   unfolding falseTo
   holds-start = test-start (clausesOf T ρ) (levelIs levels d) c
 
-  -- a clause of the level, which holds or not; and one of another level
-  module _ (i : ℕ) (all : Bool) (q : falseAt T ρ levels d c i ≡ not all) where
-    one-more : (t : Bool) → getD levels i 0 ≡ d → t ≡ clauseTrue T (ruleVars [] ρ) c (clauseAt ρ i) → falseAt T ρ levels d c (i + 1) ≡ not (all && t)
+  -- a clause of the level, which holds; and one of another level
+  module _ (i : ℕ) (q : falseAt T ρ levels d c i ≡ not true) where
+    pub holds-true : (t : Bool) → getD levels i 0 ≡ d → t ≡ clauseTrue T (ruleVars [] ρ) c (clauseAt ρ i) → t ≡ true → falseAt T ρ levels d c (i + 1) ≡ not true
     unfolding falseTo
-    one-more t e f = test-in (clausesOf T ρ) (levelIs levels d) c i all t (eq-eqb (getD levels i 0) d e) f q
+    holds-true t e f s = test-in (clausesOf T ρ) (levelIs levels d) c i true t (eq-eqb (getD levels i 0) d e) f q ∙ ap not s
 
-    pub holds-true : (t : Bool) → getD levels i 0 ≡ d → t ≡ clauseTrue T (ruleVars [] ρ) c (clauseAt ρ i) → t ≡ true → falseAt T ρ levels d c (i + 1) ≡ not all
-    holds-true t e f s = one-more t e f ∙ ap not (ap (λ (b : Bool). all && b) s ∙ and-yes all)
-      where
-        and-yes : (a : Bool) → (a && true) ≡ a
-        and-yes true = refl
-        and-yes false = refl
-
-    pub holds-false : (t : Bool) → getD levels i 0 ≡ d → t ≡ clauseTrue T (ruleVars [] ρ) c (clauseAt ρ i) → t ≡ false → falseAt T ρ levels d c (i + 1) ≡ not false
-    holds-false t e f s = one-more t e f ∙ ap not (ap (λ (b : Bool). all && b) s ∙ and-no all)
-      where
-        and-no : (a : Bool) → (a && false) ≡ false
-        and-no true = refl
-        and-no false = refl
-
-    pub holds-out : (getD levels i 0 ≡ d → ⊥) → falseAt T ρ levels d c (i + 1) ≡ not all
+    pub holds-out : (getD levels i 0 ≡ d → ⊥) → falseAt T ρ levels d c (i + 1) ≡ not true
     unfolding falseTo
-    holds-out e = test-out (clausesOf T ρ) (levelIs levels d) c i all (ne-eqb (getD levels i 0) d e) q
+    holds-out e = test-out (clausesOf T ρ) (levelIs levels d) c i true (ne-eqb (getD levels i 0) d e) q
+
+  -- one that does not
+  pub holds-false : (m i : ℕ) → i < m → (t : Bool) → getD levels i 0 ≡ d → t ≡ clauseTrue T (ruleVars [] ρ) c (clauseAt ρ i) → t ≡ false → falseAt T ρ levels d c m ≡ not false
+  holds-false m i l t e f s =
+      any-here m (λ j. levelIs levels d j && not (clauseTrue T (ruleVars [] ρ) c (clauseAt ρ j))) i l (and-both (eq-eqb (getD levels i 0) d e) (ap not (sym f ∙ s)))
 
 -- ---- what is in a plan keeps evaluating within its slices
 

@@ -109,13 +109,12 @@ pub fn settle(t: &[u64], plan: &[u64], choice: u64, cache: &mut [u64], level: us
     }
 }
 
-// Whether the clauses of a level hold, where the cache has the values of that level. It looks at all of them: a return from inside costs more.
+// Whether the clauses of a level hold, where the cache has the values of that level.
 pub fn holds(plan: &[u64], cache: &[u64], level: usize) -> bool
     requires { ⌜ Runs (now plan) × (length (now cache) ≡ planRoom) ⌝ }
     ensures { λ r. ⌜ HoldsOf (now (plan .entry)) (now (cache .entry)) level r ⌝ }
 {
     let many = plan[CLAUSE_COUNT] as usize;
-    let mut all = true;
     let mut i = 0;
     while i < many {
         if plan[LEVELS + i] as usize == level {
@@ -123,10 +122,10 @@ pub fn holds(plan: &[u64], cache: &[u64], level: usize) -> bool
             let first = (word % NODE_ROOM) as u32;
             let second = (word / NODE_ROOM) as u32;
             if !truth::clause(first, second, cache) {
-                all = false;
+                return false;
             }
         }
         i += 1;
     }
-    all
+    true
 }

@@ -63,6 +63,9 @@ pub fn put(choice: u64, v: usize, x: usize) -> u64
 pub fn spread(word: u64) -> u64
     ensures { λ r. ⌜ Masks word r ⌝ }
 {
+    if word == 0 {
+        return 0;
+    }
     let mut mask = 0;
     let mut u = 0;
     while u < 8 {

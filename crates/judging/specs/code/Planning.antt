@@ -14,7 +14,7 @@ use Rattle.walks.specs.code.Clauses.{Levelled}
 use Rattle.walks.specs.code.Context.{Covers, Contexts}
 use Rattle.walks.specs.code.Kept.{Masks, choiceOf, KeptRight}
 use Rattle.values.specs.Sets.{inSet, names}
-use Rattle.values.specs.code.Nodes.{World}
+use Rattle.values.specs.code.Nodes.{World, NamesTo}
 use Rattle.values.specs.code.Levels.{Levels}
 use Rattle.values.specs.code.Cache.{Stored}
 use Rattle.values.specs.code.Clauses.{clauseCount, clauseAt, ClauseNodes, ClauseNamesOf}
@@ -125,6 +125,19 @@ pub record ClauseWords (ns : List ℕ) (n root : ℕ) (old new : List ℕ) (r : 
 abbrev pub Scopes : List ℕ → ℕ → List ℕ → List ℕ → ℕ → List ℕ → Type 0
 Scopes ns n vs plan many scopes =
     (i : ℕ) → i < many → ClauseNamesOf ns n vs (firstIn (getD plan (clausesFrom + i) 0)) (secondIn (getD plan (clausesFrom + i) 0)) (getD scopes i 0)
+
+-- The tests of the first clauses stand on nodes below n.
+pub record ClausesLow (plan : List ℕ) (many n : ℕ) : Type 0 where
+  pub firsts : (i : ℕ) → i < many → Low (firstIn (getD plan (clausesFrom + i) 0)) n
+  pub seconds : (i : ℕ) → i < many → Low (secondIn (getD plan (clausesFrom + i) 0)) n
+
+-- So they are, where the names are those of the terms.
+abbrev pub Scoped : List ℕ → List ℕ → ℕ → List ℕ → Type 0
+Scoped plan names many scopes = (ns : List ℕ) (n : ℕ) (vs : List ℕ) → NamesTo ns n vs names n → ClausesLow plan many n → Scopes ns n vs plan many scopes
+
+-- No clause has a level above that of the last variable.
+abbrev pub LevelsWithin : List ℕ → ℕ → ℕ → Type 0
+LevelsWithin plan many n = (i : ℕ) → i < many → getD plan (levelsFrom + i) 0 ≤ n
 
 -- The word r has what the sets of the order's variables from depth d on name; what the clauses above level d name.
 abbrev pub SetsNamed : List ℕ → List ℕ → ℕ → ℕ → Type 0

@@ -64,9 +64,18 @@ ValueAt ts ns n ks vs c k r = (T : Tables) (σ : Choices) → World ts ns n ks v
 abbrev pub NamesAt : List ℕ → ℕ → List ℕ → ℕ → ℕ → Type 0
 NamesAt ns n vs k r = (σ : Choices) → Variables ns n vs σ → (t : Term) → Holds ns k t → (u : ℕ) → u < 64 → has r u ≡ namesIn σ t u
 
+-- So have the words of the first m nodes.
+abbrev pub NamesTo : List ℕ → ℕ → List ℕ → List ℕ → ℕ → Type 0
+NamesTo ns n vs found m = (k : ℕ) → k < m → NamesAt ns n vs k (getD found k 0)
+
 -- The word of each of the first n variables has the variables that its set names.
 unfoldable pub Named : ℕ → List ℕ → Choices → Type 0
 Named n words σ = (v u : ℕ) → v < n → u < 64 → has (getD words v 0) u ≡ names σ v u
+
+-- So have all of them, where the words found are those of the nodes.
+abbrev pub SetsNamed : List ℕ → List ℕ → List ℕ → Type 0
+SetsNamed found vs words =
+    (ns : List ℕ) (n : ℕ) → NamesTo ns n vs found n → ((i : ℕ) → i < length vs → getD vs i 0 < n) → (σ : Choices) → Variables ns n vs σ → Named (length vs) words σ
 
 -- The tests of two values, `@`, `=`, `!=`; and those of one, `={}` and `!={}`.
 unfoldable pub relatedAt : ℕ → ℕ → ℕ → Bool

@@ -1,7 +1,7 @@
 -- `judging::planning::contexts` meets its contract. The invariant: the first ones are filled in.
 -- Assumes nothing.
 use mathlib.Core.Path.{_∙_}
-use Prim.Native.Nat.{_-_, _≤_}
+use Prim.Native.Nat.{_+_, _-_, _≤_}
 use native.Mathlib.Omega.{arith}
 use lib.ListN.{drop}
 use Rattle.values.specs.code.Plan.{levelsFrom}
@@ -22,7 +22,7 @@ loop-holds c = (omega arith, filled-none _ contextsFrom)
 context-requires : tie.Need-context-requires Inv-loop μ-loop
 context-requires c κs =
     let at-start = c .before .before .before .before .before .before .before in
-    (at-start .pre .0, c .before .before .loop .inv .1 .long ∙ at-start .pre .1, at-start .pre .2, at-start .pre .3, at-start .pre .4, at-start .pre .5)
+    (at-start .pre .0, c .before .before .loop .inv .1 .long ∙ at-start .pre .1, at-start .pre .2, at-start .pre .3, at-start .pre .4, at-start .pre .5, λ i l. omega (arith, at-start .pre .6 i l, c .before .before .loop .inv .1 .outside (levelsFrom + i) (λ h. absurd (omega (arith, at-start .pre .3)))))
 
 add-plan : tie.Need-add-plan Inv-loop μ-loop
 add-plan c = omega (arith, c .before .before .loop-test .taken)

@@ -17,16 +17,26 @@ loop-holds : tie.Need-loop-holds Inv-loop μ-loop
 loop-holds c = omega arith
 
 shared-slice-read-u : tie.Need-shared-slice-read-u Inv-loop μ-loop
-shared-slice-read-u c = omega (arith, c .before .before .loop-test .taken)
+shared-slice-read-u c =
+    let at-loop-test = c .before .before in
+    omega (arith, at-loop-test .loop-test .taken)
 
 cast-u : tie.Need-cast-u Inv-loop μ-loop
-cast-u c = omega (arith, c .shared-slice-known2 .given (c .before .before .before .loop .j))
+cast-u c =
+    let at-loop = c .before .before .before in
+    omega (arith, c .shared-slice-known2 .given (at-loop .loop .j))
 
 contains-requires : tie.Need-contains-requires Inv-loop μ-loop
-contains-requires c κs = omega (arith, c .before .before .before .before .before .pre (c .before .before .before .loop .j) (c .before .before .loop-test .taken))
+contains-requires c κs =
+    let at-loop-test = c .before .before in
+    let at-loop = at-loop-test .before in
+    let at-start = at-loop .before .before .before in
+    omega (arith, at-start .pre (at-loop .loop .j) (at-loop-test .loop-test .taken))
 
 shared-slice-read-found : tie.Need-shared-slice-read-found Inv-loop μ-loop
-shared-slice-read-found c = omega (arith, c .before .before .before .before .before .loop-test .taken)
+shared-slice-read-found c =
+    let at-loop-test = c .before .before .before .before .before in
+    omega (arith, at-loop-test .loop-test .taken)
 
 cast-found : tie.Need-cast-found Inv-loop μ-loop
 cast-found c =
@@ -48,6 +58,7 @@ pick-spec =
     (tie.spec
     Inv-loop
     μ-loop
+    (λ c. search needs)
     loop-holds
     shared-slice-read-u
     cast-u

@@ -1,10 +1,12 @@
 -- `walks::kept::spread` meets its contract. The invariant: the mask has the bytes of the variables below u.
 -- Assumes nothing.
-use mathlib.Core.Path.{sym, _∙_}
+use mathlib.Core.Path.{sym, ap, _∙_}
+use mathlib.Core.Bool.{true≢false}
 use mathlib.Core.Logic.{⊎-elim}
-use Prim.Native.Nat.{_-_, _≤_}
+use Prim.Native.Nat.{ℕ, _-_, _≤_}
 use native.Mathlib.Omega.{arith}
-use borrow.Author.Needs.{needs}
+use Rattle.words.specs.Words.{has}
+use Rattle.words.proofs.WordsLaws.{has-zero}
 use Rattle.walks.specs.code.Kept.{MasksTo}
 use Rattle.walks.proofs.BytesLaws.{masks-start, masks-next, masks-out}
 use borrow.Author.Needs.{needs}
@@ -16,6 +18,9 @@ Inv-loop word mask₀ u₀ mask u = (u ≤ 8) × MasksTo u word mask
 
 abbrev μ-loop : tie.MeasureT-loop
 μ-loop word mask₀ u₀ mask u = 8 - u
+
+returns : tie.Need-returns Inv-loop μ-loop
+returns c = λ u i l m h. absurd (true≢false (sym h ∙ ap (λ (w : ℕ). has w u) (c .if1 .taken) ∙ has-zero u))
 
 loop-holds : tie.Need-loop-holds Inv-loop μ-loop
 loop-holds c = (omega arith, masks-start _)
@@ -41,11 +46,11 @@ loop-again c = (
   ⊎-elim
       (λ w. masks-next _ _ _ _ (c .before .before .loop-test .taken) (c .before .before .before .loop .inv .1) (w .2 ∙ w .1 .ensures))
       (λ w. rw (w .1) (masks-out _ _ _ (sym (c .before .contains .ensures) ∙ w .0 .left) (c .before .before .before .loop .inv .1)))
-      (c .if1 .came),
+      (c .if2 .came),
 )
 
-returns : tie.Need-returns Inv-loop μ-loop
-returns c = λ u i l. c .before .loop .inv .1 u i (omega arith)
+returns-2 : tie.Need-returns-2 Inv-loop μ-loop
+returns-2 c = λ u i l. c .before .loop .inv .1 u i (omega arith)
 
 pub spread-spec : {M : Type 1} → statement M
 spread-spec =
@@ -53,6 +58,7 @@ spread-spec =
     (tie.spec
     Inv-loop
     μ-loop
+    returns
     loop-holds
     contains-requires
     mul-join
@@ -61,4 +67,4 @@ spread-spec =
     add-u
     loop-less
     loop-again
-    returns)
+    returns-2)
