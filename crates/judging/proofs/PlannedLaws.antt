@@ -25,34 +25,31 @@ use Rattle.values.specs.code.Nodes.{World, Named, Variables}
 use Rattle.values.specs.code.Levels.{Level, Levels, Chained}
 use Rattle.values.specs.code.Plan.{planLength, planRoom, clausesFrom, levelsFrom, startsFrom, nodesAt, clausesAt, Step}
 use Rattle.values.proofs.ClausesLaws.{clausesOf, names-small, clause-small}
-use Rattle.judging.specs.code.Planning.{orderFrom, setsFrom, contextsFrom, masksFrom, picksFrom, variablesAt, Planned, Filled, Noted, ClauseWords, Scopes, ContextWord, Laid}
+use Rattle.judging.specs.code.Planning.{orderFrom, setsFrom, contextsFrom, masksFrom, variablesAt, Planned, Filled, Noted, ClauseWords, Scopes, ContextWord, Laid}
 
 module _ {ns : List ℕ} {n : ℕ} {ks vs : List ℕ} {root : ℕ} {order : List ℕ} (L : Laid ns n ks vs root order) {heights first next words scopes : List ℕ}
     (levels : Levels ns n vs order heights) (chained : Chained n heights first next) (named : (σ : Choices) → Variables ns n vs σ → Named (length vs) words σ)
-    {p0 p1 p2 p3 p4 p5 p6 p7 p8 p9 p10 : List ℕ} {many : ℕ} (long : length p0 ≡ planLength) (f1 : Filled p0 p1 0 n (Step ns ks vs next))
+    {p0 p1 p2 p3 p4 p5 p6 p7 p8 p9 : List ℕ} {many : ℕ} (long : length p0 ≡ planLength) (f1 : Filled p0 p1 0 n (Step ns ks vs next))
     (f2 : Filled p1 p2 startsFrom 9 (λ d w. w ≡ getD first d 0)) (f3 : ClauseWords ns n root p2 p3 many) (scoped : Scopes ns n vs p3 many scopes)
     (f4 : Filled p3 p4 levelsFrom many (λ i w. Level order (has (getD scopes i 0)) w)) (f5 : Filled p4 p5 orderFrom (length order) (λ d w. w ≡ getD order d 0))
     (f6 : Filled p5 p6 setsFrom (length order) (λ d w. w ≡ getD vs (getD order d 0) 0))
     (f7 : Filled p6 p7 contextsFrom 16 (λ at w. ContextWord words (drop levelsFrom p6) scopes order many at w))
-    (f8 : Filled p7 p8 masksFrom 16 (λ j w. Masks (getD p7 (contextsFrom + j) 0) w)) (f9 : Filled p8 p9 picksFrom 16 (λ j w. w ≡ w)) (f10 : Noted p9 p10) where
+    (f8 : Filled p7 p8 masksFrom 16 (λ j w. Masks (getD p7 (contextsFrom + j) 0) w)) (f9 : Noted p8 p9) where
   -- The plan with its three counts.
   abbrev pub whole : List ℕ
-  whole = set (set (set p10 nodesAt n) clausesAt many) variablesAt (length order)
+  whole = set (set (set p9 nodesAt n) clausesAt many) variablesAt (length order)
 
-  long10 : length p10 ≡ planLength
-  long10 = f10 .long ∙ f9 .long ∙ f8 .long ∙ f7 .long ∙ f6 .long ∙ f5 .long ∙ f4 .long ∙ f3 .filled .long ∙ f2 .long ∙ f1 .long ∙ long
+  long9 : length p9 ≡ planLength
+  long9 = f9 .long ∙ f8 .long ∙ f7 .long ∙ f6 .long ∙ f5 .long ∙ f4 .long ∙ f3 .filled .long ∙ f2 .long ∙ f1 .long ∙ long
 
   whole-long : length whole ≡ planLength
-  whole-long = simp length-set long10
+  whole-long = simp length-set long9
 
   -- What was filled in is there still.
-  b9 : (j : ℕ) → j < nodesAt → getD whole j 0 ≡ getD p9 j 0
-  b9 j l =
-      getD-set-other (set (set p10 nodesAt n) clausesAt many) variablesAt j (length order) 0 (λ e. omega arith)
-      ∙ getD-set-other (set p10 nodesAt n) clausesAt j many 0 (λ e. omega arith) ∙ getD-set-other p10 nodesAt j n 0 (λ e. omega arith) ∙ f10 .below j (omega arith)
-
-  b8 : (j : ℕ) → j < picksFrom → getD whole j 0 ≡ getD p8 j 0
-  b8 j l = b9 j (omega arith) ∙ f9 .outside j (λ h. absurd (omega arith))
+  b8 : (j : ℕ) → j < nodesAt → getD whole j 0 ≡ getD p8 j 0
+  b8 j l =
+      getD-set-other (set (set p9 nodesAt n) clausesAt many) variablesAt j (length order) 0 (λ e. omega arith)
+      ∙ getD-set-other (set p9 nodesAt n) clausesAt j many 0 (λ e. omega arith) ∙ getD-set-other p9 nodesAt j n 0 (λ e. omega arith) ∙ f9 .below j (omega arith)
 
   b7 : (j : ℕ) → j < masksFrom → getD whole j 0 ≡ getD p7 j 0
   b7 j l = b8 j (omega arith) ∙ f8 .outside j (λ h. absurd (omega arith))
@@ -77,16 +74,16 @@ module _ {ns : List ℕ} {n : ℕ} {ks vs : List ℕ} {root : ℕ} {order : List
 
   node-count : getD whole nodesAt 0 ≡ n
   node-count =
-      getD-set-other (set (set p10 nodesAt n) clausesAt many) variablesAt nodesAt (length order) 0 (λ e. omega arith)
-      ∙ getD-set-other (set p10 nodesAt n) clausesAt nodesAt many 0 (λ e. omega arith) ∙ getD-set-same p10 nodesAt n 0 (omega (arith, long10))
+      getD-set-other (set (set p9 nodesAt n) clausesAt many) variablesAt nodesAt (length order) 0 (λ e. omega arith)
+      ∙ getD-set-other (set p9 nodesAt n) clausesAt nodesAt many 0 (λ e. omega arith) ∙ getD-set-same p9 nodesAt n 0 (omega (arith, long9))
 
   clause-count : getD whole clausesAt 0 ≡ many
   clause-count =
-      getD-set-other (set (set p10 nodesAt n) clausesAt many) variablesAt clausesAt (length order) 0 (λ e. omega arith)
-      ∙ getD-set-same (set p10 nodesAt n) clausesAt many 0 (simp length-set (omega (arith, long10)))
+      getD-set-other (set (set p9 nodesAt n) clausesAt many) variablesAt clausesAt (length order) 0 (λ e. omega arith)
+      ∙ getD-set-same (set p9 nodesAt n) clausesAt many 0 (simp length-set (omega (arith, long9)))
 
   variable-count : getD whole variablesAt 0 ≡ length order
-  variable-count = getD-set-same (set (set p10 nodesAt n) clausesAt many) variablesAt (length order) 0 (simp length-set (omega (arith, long10)))
+  variable-count = getD-set-same (set (set p9 nodesAt n) clausesAt many) variablesAt (length order) 0 (simp length-set (omega (arith, long9)))
 
   level-word : (i : ℕ) → i < planRoom → getD (drop levelsFrom whole) i 0 ≡ getD p4 (levelsFrom + i) 0
   level-word i l = getD-drop levelsFrom whole i 0 ∙ b4 (levelsFrom + i) (omega arith)

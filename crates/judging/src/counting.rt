@@ -2,7 +2,6 @@
 // Judging calls itself for the next variable, with a falling number of variables left, adding full and breaking counts.
 use crate::planning::MASKS;
 use crate::planning::ORDER;
-use crate::planning::PICKS;
 use crate::planning::SETS;
 use crate::planning::VARIABLE_COUNT;
 use values::plan::holds;
@@ -16,16 +15,17 @@ ghost use Rattle.tables.specs.code.Layout.{Whole};
 ghost use Rattle.values.specs.code.Plan.{planRoom, planLength, Runs};
 ghost use Rattle.judging.specs.code.Counting.{SlotOf, Enters, EntersTo, Standing, Counts as Counted, Finds};
 
-// The slot of a choice: one for each mode and depth, by the item of the latest variable of the context.
-fn slot(plan: &[u64], at: usize, choice: u64) -> usize
-    requires { ⌜ (length (now plan) ≡ planLength) × (at < 16) ⌝ }
+// How many items there may be, and the byte of a variable that has none yet.
+const ITEMS: u64 = 64;
+
+const NO_ITEM: u64 = 255;
+
+// The slot of a key: one for each mode and depth, by the sum of the key's items. A byte of 255 has no item, and adds nothing.
+fn slot(at: usize, key: u64) -> usize
+    requires { ⌜ at < 16 ⌝ }
     ensures { λ r. ⌜ SlotOf at r ⌝ }
 {
-    let u = plan[PICKS + at] as usize;
-    if u < 8 {
-        return kept::PLACES * (kept::byte(choice, u) % 64) + at;
-    }
-    at
+    kept::PLACES * ((key % NO_ITEM % ITEMS) as usize) + at
 }
 
 // One level more: its nodes are evaluated and, where no clause is false yet, its clauses looked at. The mode is 0 from the first false one on.
@@ -79,8 +79,8 @@ pub fn below(
         };
     }
     let at = 8 * mode + d;
-    let place = slot(plan, at, choice);
     let key = words::meet(choice, plan[MASKS + at]);
+    let place = slot(at, key);
     if kept::hit(&kept[..], place, key) {
         return kept::taken(&kept[..], place);
     }

@@ -24,13 +24,13 @@ ghost use Rattle.syntax.specs.code.Arena.{Tidy};
 ghost use Rattle.walks.specs.code.Kept.{Masks};
 ghost use Rattle.values.specs.code.Levels.{Level};
 ghost use Rattle.values.specs.code.Plan.{planLength, planRoom, levelsFrom, startsFrom, Step};
-ghost use Rattle.judging.specs.code.Planning.{orderFrom, setsFrom, contextsFrom, masksFrom, picksFrom, scopesFrom, Filled, Noted, Plannable, ClauseWords, ClausesLow, LevelsWithin, Scoped, SetsNamed, ClausesNamed, ContextWord, Laid, Plans};
+ghost use Rattle.judging.specs.code.Planning.{orderFrom, setsFrom, contextsFrom, masksFrom, scopesFrom, Filled, Noted, Plannable, ClauseWords, ClausesLow, LevelsWithin, Scoped, SetsNamed, ClausesNamed, ContextWord, Laid, Plans};
 
 // How long a plan is.
 pub const LENGTH: usize = 1024;
 
-// Where the order's variables stand, the nodes of their sets, the contexts (8 depths for each of 2 modes), their masks, the variables that
-// pick a slot, and how many variables there are. values::plan has the other parts.
+// Where the order's variables stand, the nodes of their sets, the contexts (8 depths for each of 2 modes), their masks, and how many variables
+// there are. values::plan has the other parts.
 pub const ORDER: usize = 784;
 
 pub const SETS: usize = 792;
@@ -38,8 +38,6 @@ pub const SETS: usize = 792;
 const CONTEXTS: usize = 800;
 
 pub const MASKS: usize = 816;
-
-pub const PICKS: usize = 832;
 
 pub const VARIABLE_COUNT: usize = 850;
 
@@ -225,39 +223,6 @@ fn masks(plan: &mut [u64])
     }
 }
 
-// The latest variable of a context, of the first d of the order, or 8. Which slot a choice takes needs no proof: a slot has its own choice.
-fn pick(word: u64, order: &[u8], d: usize) -> u64
-    requires { ⌜ ((i : ℕ) → i < length (now order) → getD (now order) i 0 < 8) ⌝ }
-{
-    let mut found = 8;
-    if word == 0 {
-        return found;
-    }
-    let mut j = 0;
-    while j < order.len() {
-        if j < d {
-            let u = order[j] as usize;
-            if words::contains(word, u) {
-                found = order[j] as u64;
-            }
-        }
-        j += 1;
-    }
-    found
-}
-
-fn picks(plan: &mut [u64], order: &[u8])
-    requires { ⌜ (length (now plan) ≡ planLength) × ((i : ℕ) → i < length (now order) → getD (now order) i 0 < 8) ⌝ }
-    ensures { λ _. ⌜ Filled (now (plan .entry)) (now (plan .exit)) picksFrom 16 (λ j w. w ≡ w) ⌝ }
-{
-    let mut at = 0;
-    while at < 16 {
-        let found = pick(plan[CONTEXTS + at], order, at % 8);
-        plan[PICKS + at] = found;
-        at += 1;
-    }
-}
-
 // Writes words where the search for an order looks for them.
 fn note(plan: &mut [u64], at: usize, found: &[u64])
     requires { ⌜ (length (now plan) ≡ planLength) × (scopesFrom ≤ at) × (at + length (now found) ≤ planLength) ⌝ }
@@ -311,7 +276,6 @@ pub fn plan(
     let names = values::names::sets(&terms, vars);
     contexts(plan, &names, &named, many, order);
     masks(plan);
-    picks(plan, order);
     note(plan, SCOPES, &named[..SCOPE_ROOM]);
     note(plan, NAMES, &names);
     sorts(plan, kinds, vars);

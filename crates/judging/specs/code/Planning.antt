@@ -35,9 +35,6 @@ contextsFrom = 800
 abbrev pub masksFrom : ℕ
 masksFrom = 816
 
-abbrev pub picksFrom : ℕ
-picksFrom = 832
-
 abbrev pub variablesAt : ℕ
 variablesAt = 850
 

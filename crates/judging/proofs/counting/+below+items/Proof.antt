@@ -58,10 +58,10 @@ abbrev called-below : ℕ → below-lts.Claims
 called-below t = (
   size-reads.Asked,
   size-reads.Learnt,
-  slot-reads.Asked,
-  slot-reads.Learnt,
   meet-reads.Asked,
   meet-reads.Learnt,
+  slot-reads.Asked,
+  slot-reads.Learnt,
   hit-reads.Asked,
   hit-reads.Learnt,
   taken-reads.Asked,
@@ -168,34 +168,34 @@ below-add-at t c =
 
 below-slot-requires : (t : ℕ) → below-lts.Need-slot-requires (called-below t) (below-at t) below.Post
 below-slot-requires t c κs =
-    let at-start = c .before .before .before .before .before .before .before in
-    (at-start .pre .1 .planned .long, omega (arith, at-start .pre .1 .modes, at-start .pre .1 .planned .turns .many, at-start .pre .1 .planned .turns .short, at-start .pre .1 .within, c .before .before .if1 .left))
+    let at-start = c .before .before .before .before .before .before .before .before .before in
+    omega (arith, at-start .pre .1 .modes, at-start .pre .1 .planned .turns .many, at-start .pre .1 .planned .turns .short, at-start .pre .1 .within, c .before .before .before .before .if1 .left)
 
 below-add-meet : (t : ℕ) → below-lts.Need-add-meet (called-below t) (below-at t) below.Post
 below-add-meet t c =
-    let at-start = c .before .before .before .before .before .before .before .before in
+    let at-start = c .before .before .before .before .before .before .before in
     omega (arith, at-start .pre .1 .modes, at-start .pre .1 .planned .turns .many, at-start .pre .1 .planned .turns .short)
 
 below-mul-meet : (t : ℕ) → below-lts.Need-mul-meet (called-below t) (below-at t) below.Post
 below-mul-meet t c =
-    let at-start = c .before .before .before .before .before .before .before .before in
+    let at-start = c .before .before .before .before .before .before .before in
     omega (arith, at-start .pre .1 .modes, at-start .pre .1 .planned .turns .many, at-start .pre .1 .planned .turns .short)
 
 below-shared-slice-read-meet : (t : ℕ) → below-lts.Need-shared-slice-read-meet (called-below t) (below-at t) below.Post
 below-shared-slice-read-meet t c =
-    let at-start = c .before .before .before .before .before .before .before .before .before in
-    omega (arith, at-start .pre .1 .modes, at-start .pre .1 .planned .turns .many, at-start .pre .1 .planned .turns .short, at-start .pre .1 .planned .long, at-start .pre .1 .within, c .before .before .before .before .if1 .left)
+    let at-start = c .before .before .before .before .before .before .before .before in
+    omega (arith, at-start .pre .1 .modes, at-start .pre .1 .planned .turns .many, at-start .pre .1 .planned .turns .short, at-start .pre .1 .planned .long, at-start .pre .1 .within, c .before .before .before .if1 .left)
 
 below-hit-requires : (t : ℕ) → below-lts.Need-hit-requires (called-below t) (below-at t) below.Post
 below-hit-requires t c κs =
     let at-if1 = c .before .before .before .before .before .before in
     let at-start = at-if1 .before .before .before .before .before in
-    omega (arith, c .before .before .before .slot .ensures .is, c .before .before .before .slot .ensures .small, at-start .pre .1 .modes, at-start .pre .1 .planned .turns .many, at-start .pre .1 .planned .turns .short, at-start .pre .1 .within, at-if1 .if1 .left)
+    omega (arith, c .before .slot .ensures .is, c .before .slot .ensures .small, at-start .pre .1 .modes, at-start .pre .1 .planned .turns .many, at-start .pre .1 .planned .turns .short, at-start .pre .1 .within, at-if1 .if1 .left)
 
 below-taken-requires : (t : ℕ) → below-lts.Need-taken-requires (called-below t) (below-at t) below.Post
 below-taken-requires t c κs =
-    let at-slot = c .before .before .before .before .before .before in
-    let at-if1 = at-slot .before .before .before in
+    let at-slot = c .before .before .before .before in
+    let at-if1 = at-slot .before .before .before .before .before in
     let at-start = at-if1 .before .before .before .before .before in
     (omega (arith, at-slot .slot .ensures .is, at-slot .slot .ensures .small, at-start .pre .1 .modes, at-start .pre .1 .planned .turns .many, at-start .pre .1 .planned .turns .short, at-start .pre .1 .within, at-if1 .if1 .left), c .before .before .hit .ensures (c .before .if3 .taken) .0, omega (arith, c .before .before .hit .ensures (c .before .if3 .taken) .1))
 
@@ -204,8 +204,8 @@ below-same-length t c = refl
 
 below-returns-3 : (t : ℕ) → below-lts.Need-returns-3 (called-below t) (below-at t) below.Post
 below-returns-3 t c =
-    let at-slot = c .before .before .before .before .before .before .before in
-    let at-if1 = at-slot .before .before .before in
+    let at-slot = c .before .before .before .before .before in
+    let at-if1 = at-slot .before .before .before .before .before in
     let at-start = at-if1 .before .before .before .before .before in
     let Q = c .before .before .before .before .before .before .before .before .before .before .before .before .before .before .before .pre .1 in
     let d : ℕ = depthOf (at-start .args .plan .now) (at-start .args .left) in
@@ -214,7 +214,7 @@ below-returns-3 t c =
       room = refl;
       slots = refl;
       goes = λ y T ρ P st ke. (
-        rw (c .taken .ensures .0, c .taken .ensures .1) (below-hit P (at-start .args .mode) d (Q .modes) (omega (arith, P .turns .many, Q .within, at-if1 .if1 .left)) (at-slot .slot .ensures) (at-start .args .choice) (c .before .before .before .before .before .meet .ensures) ke (h .0) (h .1) (h .2)),
+        rw (c .taken .ensures .0, c .taken .ensures .1) (below-hit P (at-start .args .mode) d (Q .modes) (omega (arith, P .turns .many, Q .within, at-if1 .if1 .left)) (at-slot .slot .ensures) (at-start .args .choice) (at-slot .before .meet .ensures) ke (h .0) (h .1) (h .2)),
         st,
         ke,
       );
@@ -228,8 +228,8 @@ below-items-requires t c κs =
 
 below-keep-requires : (t : ℕ) → below-lts.Need-keep-requires (called-below t) (below-at t) below.Post
 below-keep-requires t c κs =
-    let at-slot = c .before .before .before .before .before .before .before .before .before .before .before .before .before in
-    let at-if1 = at-slot .before .before .before in
+    let at-slot = c .before .before .before .before .before .before .before .before .before .before .before in
+    let at-if1 = at-slot .before .before .before .before .before in
     let at-start = at-if1 .before .before .before .before .before in
     let Q = at-start .pre .1 in
     (omega (arith, at-slot .slot .ensures .is, at-slot .slot .ensures .small, at-start .pre .1 .modes, at-start .pre .1 .planned .turns .many, at-start .pre .1 .planned .turns .short, at-start .pre .1 .within, at-if1 .if1 .left), counted-fits (Q .planned) (at-start .args .choice) (c .before .before .before .before .before .items .ensures .goes (Q .layout) (Q .tables) (Q .rule) (Q .planned) (Q .stored) (Q .keeps) .0))
@@ -242,15 +242,15 @@ below-same-length-2 t c =
 below-same-length-3 : (t : ℕ) → below-lts.Need-same-length-3 (called-below t) (below-at t) below.Post
 below-same-length-3 t c =
     let at-items = c .before .before .before .before .before .before .before .before in
-    let at-meet = at-items .before .before .before .before .before .before in
-    keeping-length (at-meet .before .before .slot .result) (at-items .items .result .full) (at-items .items .result .breaking) (at-meet .meet .result) (c .before .before .keep .ensures) ∙ at-items .items .ensures .slots
+    let at-slot = at-items .before .before .before .before .before .before in
+    keeping-length (at-slot .slot .result) (at-items .items .result .full) (at-items .items .result .breaking) (at-slot .before .meet .result) (c .before .before .keep .ensures) ∙ at-items .items .ensures .slots
 
 below-returns-4 : (t : ℕ) → below-lts.Need-returns-4 (called-below t) (below-at t) below.Post
 below-returns-4 t c =
     let at-items = c .before .before .before .before .before .before .before .before in
-    let at-meet = at-items .before .before .before .before .before .before in
-    let at-slot = at-meet .before .before in
-    let at-if1 = at-slot .before .before .before in
+    let at-slot = at-items .before .before .before .before .before .before in
+    let at-meet = at-slot .before in
+    let at-if1 = at-meet .before .before .before .before in
     let at-start = at-if1 .before .before .before .before .before in
     let Q = c .before .before .before .before .before .before .before .before .before .before .before .before .before .before .before .before .before .before .before .before .before .before .before .before .pre .1 in
     let d : ℕ = depthOf (at-start .args .plan .now) (at-start .args .left) in
@@ -483,11 +483,11 @@ pub +below+items-spec : {M : Type 1} → statement M
     (below-returns-2 t)
     (below-mul-at t)
     (below-add-at t)
-    (below-slot-requires t)
     (below-add-meet t)
     (below-mul-meet t)
     (below-shared-slice-read-meet t)
     (λ c κs. search needs)
+    (below-slot-requires t)
     (below-hit-requires t)
     (below-taken-requires t)
     (below-same-length t)

@@ -152,27 +152,14 @@ masks-requires c κs =
     let at-start = at-steps .before .before .before .before .before .before .before .before .before .before .before .before .before .before .before .before .before in
     at-contexts .contexts .ensures .long ∙ at-sets .sets .ensures .long ∙ at-places .places .ensures .long ∙ at-clause-levels .clause-levels .ensures .long ∙ at-clauses .clauses .ensures .filled .long ∙ at-starts .starts .ensures .long ∙ at-steps .steps .ensures .long ∙ at-start .pre .1
 
-picks-requires : tie.Need-picks-requires
-picks-requires c κs =
-    let at-masks = c .before .before .before in
-    let at-contexts = at-masks .before .before .before .before in
-    let at-sets = at-contexts .before .before .before .before .before .before .before .before in
-    let at-places = at-sets .before .before .before .before in
-    let at-clause-levels = at-places .before .before .before .before in
-    let at-clauses = at-clause-levels .before .before .before .before .before .before .before .before .before .before in
-    let at-starts = at-clauses .before .before .before .before in
-    let at-steps = at-starts .before .before .before .before .before in
-    let at-start = at-steps .before .before .before .before .before .before .before .before .before .before .before .before .before .before .before .before .before in
-    (at-masks .masks .ensures .long ∙ at-contexts .contexts .ensures .long ∙ at-sets .sets .ensures .long ∙ at-places .places .ensures .long ∙ at-clause-levels .clause-levels .ensures .long ∙ at-clauses .clauses .ensures .filled .long ∙ at-starts .starts .ensures .long ∙ at-steps .steps .ensures .long ∙ at-start .pre .1, λ i l. omega (arith, at-start .pre .0 .known i l, at-start .pre .0 .few))
-
 array-share-prefix-named : tie.Need-array-share-prefix-named
 array-share-prefix-named c =
-    let at-named2 = c .before .before .before .before .before .before .before .before .before .before .before .before .before .before .before .before .before .before .before .before .before .before .before .before .before .before .before .before .before .before in
+    let at-named2 = c .before .before .before .before .before .before .before .before .before .before .before .before .before .before .before .before .before .before .before .before .before .before .before .before .before .before in
     omega (arith, named-room at-named2)
 
 slice-aggregate-note : tie.Need-slice-aggregate-note
 slice-aggregate-note c =
-    let at-named2 = c .before .before .before .before .before .before .before .before .before .before .before .before .before .before .before .before .before .before .before .before .before .before .before .before .before .before .before .before .before .before .before in
+    let at-named2 = c .before .before .before .before .before .before .before .before .before .before .before .before .before .before .before .before .before .before .before .before .before .before .before .before .before .before .before in
     let at-scopes = at-named2 .before in
     sym (length-take-le 64 (at-scopes .scopes .last .1 .1 .1 .0) (omega (arith, named-room at-named2)))
 
@@ -188,8 +175,7 @@ slice-aggregate-scopes c =
 
 note-requires : tie.Need-note-requires
 note-requires c κs =
-    let at-picks = c .before .before .before .before in
-    let at-masks = at-picks .before .before .before .before in
+    let at-masks = c .before .before .before .before in
     let at-contexts = at-masks .before .before .before .before in
     let at-sets = at-contexts .before .before .before .before .before .before .before .before in
     let at-places = at-sets .before .before .before .before in
@@ -202,13 +188,12 @@ note-requires c κs =
     let at-start = at-steps .before .before .before .before .before .before .before .before .before .before .before .before .before .before .before .before .before in
     let room = named-room at-named2 in
     let taken : length (take 64 (at-scopes .scopes .last .1 .1 .1 .0)) ≡ 64 = length-take-le 64 (at-scopes .scopes .last .1 .1 .1 .0) (omega arith) in
-    (at-picks .picks .ensures .long ∙ at-masks .masks .ensures .long ∙ at-contexts .contexts .ensures .long ∙ at-sets .sets .ensures .long ∙ at-places .places .ensures .long ∙ at-clause-levels .clause-levels .ensures .long ∙ at-clauses .clauses .ensures .filled .long ∙ at-starts .starts .ensures .long ∙ at-steps .steps .ensures .long ∙ at-start .pre .1, omega arith, omega arith)
+    (at-masks .masks .ensures .long ∙ at-contexts .contexts .ensures .long ∙ at-sets .sets .ensures .long ∙ at-places .places .ensures .long ∙ at-clause-levels .clause-levels .ensures .long ∙ at-clauses .clauses .ensures .filled .long ∙ at-starts .starts .ensures .long ∙ at-steps .steps .ensures .long ∙ at-start .pre .1, omega arith, omega arith)
 
 note-requires-2 : tie.Need-note-requires-2
 note-requires-2 c κs =
     let at-note = c .before .before .before .before in
-    let at-picks = at-note .before .before .before .before .before in
-    let at-masks = at-picks .before .before .before .before in
+    let at-masks = at-note .before .before .before .before .before in
     let at-contexts = at-masks .before .before .before .before in
     let at-sets2 = at-contexts .before .before .before .before in
     let at-sets = at-sets2 .before .before .before .before in
@@ -219,14 +204,13 @@ note-requires-2 c κs =
     let at-steps = at-starts .before .before .before .before .before in
     let at-start = at-steps .before .before .before .before .before .before .before .before .before .before .before .before .before .before .before .before .before in
     let eight = names-room at-sets2 in
-    (at-note .note .ensures .long ∙ at-picks .picks .ensures .long ∙ at-masks .masks .ensures .long ∙ at-contexts .contexts .ensures .long ∙ at-sets .sets .ensures .long ∙ at-places .places .ensures .long ∙ at-clause-levels .clause-levels .ensures .long ∙ at-clauses .clauses .ensures .filled .long ∙ at-starts .starts .ensures .long ∙ at-steps .steps .ensures .long ∙ at-start .pre .1, omega arith, omega arith)
+    (at-note .note .ensures .long ∙ at-masks .masks .ensures .long ∙ at-contexts .contexts .ensures .long ∙ at-sets .sets .ensures .long ∙ at-places .places .ensures .long ∙ at-clause-levels .clause-levels .ensures .long ∙ at-clauses .clauses .ensures .filled .long ∙ at-starts .starts .ensures .long ∙ at-steps .steps .ensures .long ∙ at-start .pre .1, omega arith, omega arith)
 
 sorts-requires : tie.Need-sorts-requires
 sorts-requires c κs =
     let at-note2 = c .before .before .before in
     let at-note = at-note2 .before .before .before .before .before in
-    let at-picks = at-note .before .before .before .before .before in
-    let at-masks = at-picks .before .before .before .before in
+    let at-masks = at-note .before .before .before .before .before in
     let at-contexts = at-masks .before .before .before .before in
     let at-sets = at-contexts .before .before .before .before .before .before .before .before in
     let at-places = at-sets .before .before .before .before in
@@ -235,15 +219,14 @@ sorts-requires c κs =
     let at-starts = at-clauses .before .before .before .before in
     let at-steps = at-starts .before .before .before .before .before in
     let at-start = at-steps .before .before .before .before .before .before .before .before .before .before .before .before .before .before .before .before .before in
-    (at-note2 .note2 .ensures .long ∙ at-note .note .ensures .long ∙ at-picks .picks .ensures .long ∙ at-masks .masks .ensures .long ∙ at-contexts .contexts .ensures .long ∙ at-sets .sets .ensures .long ∙ at-places .places .ensures .long ∙ at-clause-levels .clause-levels .ensures .long ∙ at-clauses .clauses .ensures .filled .long ∙ at-starts .starts .ensures .long ∙ at-steps .steps .ensures .long ∙ at-start .pre .1, at-start .pre .0 .few, λ i l. omega (arith, at-start .pre .0 .nodes i l, at-start .pre .0 .kinded))
+    (at-note2 .note2 .ensures .long ∙ at-note .note .ensures .long ∙ at-masks .masks .ensures .long ∙ at-contexts .contexts .ensures .long ∙ at-sets .sets .ensures .long ∙ at-places .places .ensures .long ∙ at-clause-levels .clause-levels .ensures .long ∙ at-clauses .clauses .ensures .filled .long ∙ at-starts .starts .ensures .long ∙ at-steps .steps .ensures .long ∙ at-start .pre .1, at-start .pre .0 .few, λ i l. omega (arith, at-start .pre .0 .nodes i l, at-start .pre .0 .kinded))
 
 slice-write-plan : tie.Need-slice-write-plan
 slice-write-plan c =
     let at-sorts = c .before .before in
     let at-note2 = at-sorts .before .before .before .before in
     let at-note = at-note2 .before .before .before .before .before in
-    let at-picks = at-note .before .before .before .before .before in
-    let at-masks = at-picks .before .before .before .before in
+    let at-masks = at-note .before .before .before .before .before in
     let at-contexts = at-masks .before .before .before .before in
     let at-sets = at-contexts .before .before .before .before .before .before .before .before in
     let at-places = at-sets .before .before .before .before in
@@ -252,15 +235,14 @@ slice-write-plan c =
     let at-starts = at-clauses .before .before .before .before in
     let at-steps = at-starts .before .before .before .before .before in
     let at-start = at-steps .before .before .before .before .before .before .before .before .before .before .before .before .before .before .before .before .before in
-    omega (arith, at-sorts .sorts .ensures .long ∙ at-note2 .note2 .ensures .long ∙ at-note .note .ensures .long ∙ at-picks .picks .ensures .long ∙ at-masks .masks .ensures .long ∙ at-contexts .contexts .ensures .long ∙ at-sets .sets .ensures .long ∙ at-places .places .ensures .long ∙ at-clause-levels .clause-levels .ensures .long ∙ at-clauses .clauses .ensures .filled .long ∙ at-starts .starts .ensures .long ∙ at-steps .steps .ensures .long ∙ at-start .pre .1)
+    omega (arith, at-sorts .sorts .ensures .long ∙ at-note2 .note2 .ensures .long ∙ at-note .note .ensures .long ∙ at-masks .masks .ensures .long ∙ at-contexts .contexts .ensures .long ∙ at-sets .sets .ensures .long ∙ at-places .places .ensures .long ∙ at-clause-levels .clause-levels .ensures .long ∙ at-clauses .clauses .ensures .filled .long ∙ at-starts .starts .ensures .long ∙ at-steps .steps .ensures .long ∙ at-start .pre .1)
 
 slice-write-plan-2 : tie.Need-slice-write-plan-2
 slice-write-plan-2 c =
     let at-sorts = c .before .before in
     let at-note2 = at-sorts .before .before .before .before in
     let at-note = at-note2 .before .before .before .before .before in
-    let at-picks = at-note .before .before .before .before .before in
-    let at-masks = at-picks .before .before .before .before in
+    let at-masks = at-note .before .before .before .before .before in
     let at-contexts = at-masks .before .before .before .before in
     let at-sets = at-contexts .before .before .before .before .before .before .before .before in
     let at-places = at-sets .before .before .before .before in
@@ -269,15 +251,14 @@ slice-write-plan-2 c =
     let at-starts = at-clauses .before .before .before .before in
     let at-steps = at-starts .before .before .before .before .before in
     let at-start = at-steps .before .before .before .before .before .before .before .before .before .before .before .before .before .before .before .before .before in
-    simp length-set (omega (arith, at-sorts .sorts .ensures .long ∙ at-note2 .note2 .ensures .long ∙ at-note .note .ensures .long ∙ at-picks .picks .ensures .long ∙ at-masks .masks .ensures .long ∙ at-contexts .contexts .ensures .long ∙ at-sets .sets .ensures .long ∙ at-places .places .ensures .long ∙ at-clause-levels .clause-levels .ensures .long ∙ at-clauses .clauses .ensures .filled .long ∙ at-starts .starts .ensures .long ∙ at-steps .steps .ensures .long ∙ at-start .pre .1))
+    simp length-set (omega (arith, at-sorts .sorts .ensures .long ∙ at-note2 .note2 .ensures .long ∙ at-note .note .ensures .long ∙ at-masks .masks .ensures .long ∙ at-contexts .contexts .ensures .long ∙ at-sets .sets .ensures .long ∙ at-places .places .ensures .long ∙ at-clause-levels .clause-levels .ensures .long ∙ at-clauses .clauses .ensures .filled .long ∙ at-starts .starts .ensures .long ∙ at-steps .steps .ensures .long ∙ at-start .pre .1))
 
 slice-write-plan-3 : tie.Need-slice-write-plan-3
 slice-write-plan-3 c =
     let at-sorts = c .before .before in
     let at-note2 = at-sorts .before .before .before .before in
     let at-note = at-note2 .before .before .before .before .before in
-    let at-picks = at-note .before .before .before .before .before in
-    let at-masks = at-picks .before .before .before .before in
+    let at-masks = at-note .before .before .before .before .before in
     let at-contexts = at-masks .before .before .before .before in
     let at-sets = at-contexts .before .before .before .before .before .before .before .before in
     let at-places = at-sets .before .before .before .before in
@@ -286,15 +267,14 @@ slice-write-plan-3 c =
     let at-starts = at-clauses .before .before .before .before in
     let at-steps = at-starts .before .before .before .before .before in
     let at-start = at-steps .before .before .before .before .before .before .before .before .before .before .before .before .before .before .before .before .before in
-    simp length-set (omega (arith, at-sorts .sorts .ensures .long ∙ at-note2 .note2 .ensures .long ∙ at-note .note .ensures .long ∙ at-picks .picks .ensures .long ∙ at-masks .masks .ensures .long ∙ at-contexts .contexts .ensures .long ∙ at-sets .sets .ensures .long ∙ at-places .places .ensures .long ∙ at-clause-levels .clause-levels .ensures .long ∙ at-clauses .clauses .ensures .filled .long ∙ at-starts .starts .ensures .long ∙ at-steps .steps .ensures .long ∙ at-start .pre .1))
+    simp length-set (omega (arith, at-sorts .sorts .ensures .long ∙ at-note2 .note2 .ensures .long ∙ at-note .note .ensures .long ∙ at-masks .masks .ensures .long ∙ at-contexts .contexts .ensures .long ∙ at-sets .sets .ensures .long ∙ at-places .places .ensures .long ∙ at-clause-levels .clause-levels .ensures .long ∙ at-clauses .clauses .ensures .filled .long ∙ at-starts .starts .ensures .long ∙ at-steps .steps .ensures .long ∙ at-start .pre .1))
 
 same-length : tie.Need-same-length
 same-length c =
     let at-sorts = c .before .before in
     let at-note2 = at-sorts .before .before .before .before in
     let at-note = at-note2 .before .before .before .before .before in
-    let at-picks = at-note .before .before .before .before .before in
-    let at-masks = at-picks .before .before .before .before in
+    let at-masks = at-note .before .before .before .before .before in
     let at-contexts = at-masks .before .before .before .before in
     let at-sets = at-contexts .before .before .before .before .before .before .before .before in
     let at-places = at-sets .before .before .before .before in
@@ -302,15 +282,14 @@ same-length c =
     let at-clauses = at-clause-levels .before .before .before .before .before .before .before .before .before .before in
     let at-starts = at-clauses .before .before .before .before in
     let at-steps = at-starts .before .before .before .before .before in
-    simp length-set (at-sorts .sorts .ensures .long ∙ at-note2 .note2 .ensures .long ∙ at-note .note .ensures .long ∙ at-picks .picks .ensures .long ∙ at-masks .masks .ensures .long ∙ at-contexts .contexts .ensures .long ∙ at-sets .sets .ensures .long ∙ at-places .places .ensures .long ∙ at-clause-levels .clause-levels .ensures .long ∙ at-clauses .clauses .ensures .filled .long ∙ at-starts .starts .ensures .long ∙ at-steps .steps .ensures .long)
+    simp length-set (at-sorts .sorts .ensures .long ∙ at-note2 .note2 .ensures .long ∙ at-note .note .ensures .long ∙ at-masks .masks .ensures .long ∙ at-contexts .contexts .ensures .long ∙ at-sets .sets .ensures .long ∙ at-places .places .ensures .long ∙ at-clause-levels .clause-levels .ensures .long ∙ at-clauses .clauses .ensures .filled .long ∙ at-starts .starts .ensures .long ∙ at-steps .steps .ensures .long)
 
 returns : tie.Need-returns
 returns c =
     let at-sorts = c .before .before in
     let at-note2 = at-sorts .before .before .before .before in
     let at-note = at-note2 .before .before .before .before .before in
-    let at-picks = at-note .before .before .before .before .before in
-    let at-masks = at-picks .before .before .before .before in
+    let at-masks = at-note .before .before .before .before .before in
     let at-contexts = at-masks .before .before .before .before in
     let at-sets2 = at-contexts .before .before .before .before in
     let at-sets = at-sets2 .before .before .before .before in
@@ -330,7 +309,7 @@ returns c =
       planned = λ ts T ρ full W x after early.
           planned-by (at-start .pre .0) (at-levels .levels .ensures _ _ (at-terms2 .terms2 .ensures)) (at-chain .chain .ensures) (at-sets2 .sets2 .ensures _ _ (at-terms2 .terms2 .ensures) (at-start .pre .0 .nodes)) (at-start .pre .1) (at-steps .steps .ensures) (at-starts .starts .ensures) (at-clauses .clauses .ensures)
           (at-scopes .scopes .ensures _ _ _ (at-terms2 .terms2 .ensures) (record { firsts = λ i l. at-clauses .clauses .ensures .filled .inside i l .low; seconds = λ i l. at-clauses .clauses .ensures .filled .inside i l .low₂ }))
-          (at-clause-levels .clause-levels .ensures) (at-places .places .ensures) (at-sets .sets .ensures) (at-contexts .contexts .ensures) (at-masks .masks .ensures) (at-picks .picks .ensures)
+          (at-clause-levels .clause-levels .ensures) (at-places .places .ensures) (at-sets .sets .ensures) (at-contexts .contexts .ensures) (at-masks .masks .ensures)
           (noted-then (at-note .note .ensures) (noted-then (at-note2 .note2 .ensures) (at-sorts .sorts .ensures))) ts T ρ full W x after early;
     }
 
@@ -363,7 +342,6 @@ plan-spec =
     (λ c. search needs)
     contexts-requires
     masks-requires
-    picks-requires
     array-share-prefix-named
     slice-aggregate-note
     note-requires
