@@ -19,6 +19,7 @@ use Rattle.tables.specs.code.Layout.{roleCountAt, userCountAt, sessionCountAt, 
 use Rattle.tables.specs.code.Layout.{sessionRolesAt, permissionRowsAt, objectRowsAt, operationRowsAt, sectionAt}
 use Rattle.tables.specs.Flat.{counts, objectRows, operationRows, sections}
 use Rattle.tables.proofs.FlatLaws.{map-at, length-tabulate, tabulate-at}
+use Rattle.tables.proofs.ReachLaws.{juniors-words}
 use Rattle.tables.specs.Functions.{sessionOf, isPermission, userOfSessions, userOfRoles, rolesOfUsers, rolesOfSessions, rolesOfPermissions}
 use Rattle.tables.specs.Functions.{juniorsOfUsers, juniorsOfSessions, seniorsOfPermissions, sessionsOfUsers}
 use Rattle.tables.specs.Functions.{permissionsOfRoles, permissionsOfJuniors, objectsOfPermissions, operationsOn}
@@ -182,8 +183,8 @@ objects-of-permissions T fits w =
 -- ---- two steps
 
 pub juniors-of-users : (T : Tables) (w : ℕ) → imageOf (sectionAt T roleRowsAt) (imageOf (sectionAt T userRowsAt) w) ≡ juniorsOfUsers T w
-unfolding sections juniorsOfUsers reach
-juniors-of-users T w = image-image (T .userRows) (T .roleRows) w
+unfolding sections
+juniors-of-users T w = juniors-words T w
 
 pub juniors-of-sessions : (T : Tables) (w : ℕ) → imageOf (sectionAt T roleRowsAt) (imageOf (sectionAt T sessionRolesAt) w) ≡ juniorsOfSessions T w
 unfolding sections juniorsOfSessions reach

@@ -2,22 +2,19 @@
 -- Assumes nothing.
 use mathlib.Core.Path.{_≡_, refl, sym, ap, ap₂, _∙_}
 use mathlib.Core.Bool.{Bool, true, false, _&&_, not}
-use mathlib.Core.List.{List, map}
+use mathlib.Core.List.{List}
 use Prim.Native.Nat.{ℕ, zero, suc, _≤_, _<_, _^_}
 use native.Mathlib.Omega.{arith}
 use lib.Dec.{eqb, ltb}
-use lib.ListN.{length, getD, length-map}
+use lib.ListN.{length, getD}
 use borrow.Author.Tests.{ltb-true, ltb-false, eqb-true, eq-eqb, ne-eqb, not-true}
 use Rattle.words.specs.Words.{has, itemOf, lessOf, imageOf}
 use Rattle.words.proofs.WordsLaws.{word-none, has-zero, has-out, has-in, has-less, has-item, both, and-true, and-both, any-here, any-witness}
 use Rattle.words.proofs.RelationLaws.{has-image}
-use Rattle.tables.specs.Tables.{Tables, sessionUsers, sessionRoles}
-use Rattle.tables.specs.Functions.{dominates, active, someIn}
-use Rattle.tables.specs.Checks.{allTo, implies, reflexive, transitive, antisymmetric, ranked, inReach}
-use Rattle.tables.specs.Accepted.{Fits, Below, Bounded}
-use Rattle.tables.specs.code.Reads.{belowAt, rankAt, reaching}
-use Rattle.tables.proofs.FlatLaws.{map-at}
-use Rattle.tables.proofs.FitsLaws.{active-below, users-below}
+use Rattle.tables.specs.Functions.{dominates, someIn}
+use Rattle.tables.specs.Checks.{allTo, implies, reflexive, transitive, antisymmetric, ranked}
+use Rattle.tables.specs.Accepted.{Below}
+use Rattle.tables.specs.code.Reads.{belowAt, rankAt}
 use Rattle.tables.proofs.AllLaws.{all-every, all-at, all-ext}
 
 -- Nothing of w is left without v exactly where every item of w is one of v.
@@ -211,22 +208,3 @@ some-item i g l = both (someIn (itemOf i) g) (g i) there back
 
     back : g i ≡ true → someIn (itemOf i) g ≡ true
     back e = any-here 64 (λ j. has (itemOf i) j && g j) i l (and-both (has-item i i l ∙ eq-eqb i i refl) e)
-
--- The image of one user is its row.
-image-item : (rows : List ℕ) (u x : ℕ) → u < 64 → x < 64 → has (imageOf rows (itemOf u)) x ≡ has (getD rows u 0) x
-image-item rows u x l k = has-image rows (itemOf u) x k ∙ some-item u (λ i. has (getD rows i 0) x) l
-
-pub reach-words : (T : Tables) → Fits T → Bounded T → reaching (T .userRows) (map itemOf (sessionUsers T)) (sessionRoles T) ≡ inReach T
-unfolding reaching inReach Below
-reach-words T f b =
-    let R = length (T .roleRows) in
-    let U = length (T .userRows) in
-    let n = length-map (T .sessions) (λ s. s .active) in
-    rw n
-    (all-ext (length (T .sessions)) _ _
-    (λ s l.
-    let u = getD (sessionUsers T) s 0 in
-    let k : s < length (sessionUsers T) = omega (arith, length-map (T .sessions) (λ s. s .user)) in
-    let m : u < 64 = omega (arith, users-below U R (T .sessions) (b .sessions) s l, f .users) in
-    rw (map-at itemOf (sessionUsers T) s k, less-zero R (getD (sessionRoles T) s 0) (imageOf (T .userRows) (itemOf u)) (f .roles) (active-below U R (T .sessions) (b .sessions) s))
-    (all-ext R _ _ (λ r h. ap (λ (x : Bool). implies (active T s r) x) (image-item (T .userRows) u r m (omega (arith, f .roles)))))))

@@ -7,6 +7,7 @@ pub mod SectionsLaws
 pub mod FlatLaws
 pub mod AllLaws
 pub mod CheckLaws
+pub mod ReachLaws
 pub mod FitsLaws
 pub mod BytesLaws
 pub mod EncodeLaws

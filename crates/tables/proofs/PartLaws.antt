@@ -1,7 +1,7 @@
 -- Laws of taking a section out of the flat tables, by its count.
 -- Assumes nothing.
 use mathlib.Core.Path.{_≡_, refl, sym, ap, _∙_}
-use mathlib.Core.Bool.{Bool}
+use mathlib.Core.Bool.{Bool, true}
 use mathlib.Core.List.{List, [], _∷_, map}
 use Prim.Native.Nat.{ℕ, zero, suc, _+_, _*_, _≤_, _<_}
 use native.Mathlib.Omega.{arith}
@@ -16,7 +16,7 @@ use Rattle.tables.specs.Flat.{wholeLength, room, padded, counts, section
 use Rattle.tables.specs.Accepted.{Fits, Below, Bounded}
 use Rattle.tables.specs.code.Reads.{reaching, CountsFit}
 use Rattle.tables.proofs.FlatLaws.{length-padded, length-flat, count-at}
-use Rattle.tables.proofs.CheckLaws.{reach-words}
+use Rattle.tables.proofs.ReachLaws.{reach-words}
 
 padded-front : (n : ℕ) (xs : List ℕ) → length xs ≤ n → take (length xs) (padded n xs) ≡ xs
 unfolding padded
@@ -77,9 +77,10 @@ module _ (T : Tables) (fits : Fits T) {ws : List ℕ} (e : ws ≡ flat T) where
   unfolding sections counts
   cp-part q = q ∙ part-at cpCountAt 8 (omega arith) refl (fits .cps)
 
-  pub reach-part : Bounded T → {a o v : List ℕ} → a ≡ take (getD ws userCountAt 0) (drop userRowsAt ws) → o ≡ take (getD ws sessionCountAt 0) (drop sessionUsersAt ws)
-      → v ≡ take (getD ws sessionCountAt 0) (drop sessionRolesAt ws) → reaching a o v ≡ inReach T
-  reach-part b qa qo qv = rw (users-part qa, owners-part qo, active-part qv) (reach-words T fits b)
+  pub reach-part : Bounded T → ranked (T .roleRows) ≡ true → {r a o v : List ℕ} → r ≡ take (getD ws roleCountAt 0) (drop roleRowsAt ws)
+      → a ≡ take (getD ws userCountAt 0) (drop userRowsAt ws) → o ≡ take (getD ws sessionCountAt 0) (drop sessionUsersAt ws)
+      → v ≡ take (getD ws sessionCountAt 0) (drop sessionRolesAt ws) → reaching r a o v ≡ inReach T
+  reach-part b ok qr qa qo qv = rw (roles-part qr, users-part qa, owners-part qo, active-part qv) (reach-words T fits b ok)
 
   pub rank-part : Bounded T → {p : List ℕ} {r : Bool} → p ≡ take (getD ws roleCountAt 0) (drop roleRowsAt ws) → (Below (length p) p → r ≡ ranked p)
       → r ≡ ranked (T .roleRows)

@@ -5,12 +5,13 @@ use mathlib.Core.List.{List, [], _∷_}
 use Prim.Native.Nat.{ℕ, zero, suc}
 use lib.Dec.{eqb}
 use lib.ListN.{length, getD}
+use Rattle.words.specs.Words.{has, itemOf}
 use Rattle.answers.specs.declared.Refusal.{Refusal}
 use Rattle.answers.specs.declared.Refusal.the-variants.{Rank, Overreach, Twin}
 use Rattle.tables.specs.declared.Outcome.{Outcome}
 use Rattle.tables.specs.declared.Outcome.the-variants.{Refused, Accepted}
 use Rattle.tables.specs.Tables.{Tables, sessionUsers}
-use Rattle.tables.specs.Functions.{dominates, assigned, active}
+use Rattle.tables.specs.Functions.{dominates, active, juniorsOfUsers}
 
 -- f holds of every number below n.
 unfoldable pub allTo : ℕ → (ℕ → Bool) → Bool
@@ -36,12 +37,12 @@ antisymmetric rows =
 unfoldable pub ranked : List ℕ → Bool
 ranked rows = reflexive rows && (transitive rows && antisymmetric rows)
 
--- 8, overreach: "session role its user is not assigned".
+-- 8, overreach, as document 02, N2, moves it: "exactly when an active role is not in `roles*` of the session's user" (document 01: "its user is not assigned").
 unfoldable pub inReach : Tables → Bool
 inReach T =
     allTo (length (T .sessions))
     (λ s. allTo (length (T .roleRows))
-    (λ r. implies (active T s r) (assigned T (getD (sessionUsers T) s 0) r)))
+    (λ r. implies (active T s r) (has (juniorsOfUsers T (itemOf (getD (sessionUsers T) s 0))) r)))
 
 -- 9, twin: "equal words in one collection".
 unfoldable pub apart : List ℕ → Bool

@@ -1,10 +1,11 @@
 // What is asked of the tables as a whole: rank, overreach, twins.
 // Each check takes the very rows that it is about.
 ghost use mathlib.Core.Path.{_≡_};
+ghost use mathlib.Core.Bool.{true};
 ghost use Prim.Native.Nat.{_+_, _≤_, _<_};
 ghost use lib.ListN.{length, take, drop};
 ghost use Rattle.tables.specs.Checks.{ranked as rankedOf, inReach as inReachOf, apart as apartOf, noTwin, late};
-ghost use Rattle.tables.specs.code.Reads.{rankAt, reaching, newAt, CountsFit};
+ghost use Rattle.tables.specs.code.Reads.{rankAt, coveredBy, reaching, newAt, CountsFit};
 ghost use Rattle.tables.specs.Tables.{Tables};
 ghost use Rattle.tables.specs.Accepted.{Fits, Below, Bounded};
 ghost use Rattle.tables.specs.code.Layout.{Whole};
@@ -16,6 +17,8 @@ use words::contains;
 use words::image;
 use words::item;
 use words::less;
+use words::lowest;
+use words::row;
 
 // Role r dominates itself; what it dominates besides dominates nothing that r does not, and not r.
 pub fn rank(rows: &[u64], r: usize) -> bool
@@ -47,14 +50,32 @@ pub fn ranked(rows: &[u64]) -> bool
     true
 }
 
-// Each session's active roles are among its user's.
-pub fn in_reach(assigned: &[u64], users: &[u64], active: &[u64]) -> bool
+// Whether the roles of `over` are dominated by roles of `own`. No more rows are looked at than that takes, so none where `over` is empty.
+pub fn covered(rows: &[u64], own: u64, over: u64) -> bool
+    ensures { λ b. ⌜ b ≡ coveredBy (now (rows .entry)) own over ⌝ }
+{
+    let mut left = own;
+    let mut rest = over;
+    while rest != 0 {
+        if left == 0 {
+            return false;
+        }
+        let r = lowest(left);
+        rest = less(rest, row(rows, r));
+        left = less(left, item(r));
+    }
+    true
+}
+
+// Each session's active roles are its user's own or their juniors. The own ones are left out first: most sessions have no others.
+pub fn in_reach(rows: &[u64], assigned: &[u64], users: &[u64], active: &[u64]) -> bool
     requires { ⌜ length (now users) ≡ length (now active) ⌝ }
-    ensures { λ b. ⌜ b ≡ reaching (now (assigned .entry)) (now (users .entry)) (now (active .entry)) ⌝ }
+    ensures { λ b. ⌜ b ≡ reaching (now (rows .entry)) (now (assigned .entry)) (now (users .entry)) (now (active .entry)) ⌝ }
 {
     let mut s: usize = 0;
     while s < active.len() {
-        if less(active[s], image(assigned, users[s])) != 0 {
+        let own = image(assigned, users[s]);
+        if !covered(rows, own, less(active[s], own)) {
             return false;
         }
         s += 1;
@@ -101,17 +122,19 @@ pub fn part(words: &[u64], from: usize, n: usize) -> &[u64]
     &words[from..end]
 }
 
-// Whether no session of the tables overreaches.
+// Whether no session of the tables overreaches, where the rank check has passed: a role dominates itself.
 pub fn reaches(words: &[u64]) -> bool
     requires { ⌜ CountsFit (now words) ⌝ }
-    ensures { λ b. ⌜ ((T : Tables) → Fits T → Bounded T → now (words .entry) ≡ flat T → b ≡ inReachOf T) ⌝ }
+    ensures { λ b. ⌜ ((T : Tables) → Fits T → Bounded T → rankedOf (T .roleRows) ≡ true → now (words .entry) ≡ flat T → b ≡ inReachOf T) ⌝ }
 {
+    let roles = words[layout::ROLE_COUNT] as usize;
     let users = words[layout::USER_COUNT] as usize;
     let sessions = words[layout::SESSION_COUNT] as usize;
+    let rows = part(words, layout::ROLE_ROWS, roles);
     let assigned = part(words, layout::USER_ROWS, users);
     let theirs = part(words, layout::SESSION_USERS, sessions);
     let active = part(words, layout::SESSION_ROLES, sessions);
-    in_reach(assigned, theirs, active)
+    in_reach(rows, assigned, theirs, active)
 }
 
 // Whether no collection has a word twice.

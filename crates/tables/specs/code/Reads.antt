@@ -129,9 +129,18 @@ belowAt rows r = imageOf rows (lessOf (getD rows r 0) (itemOf r))
 unfoldable pub rankAt : List ℕ → ℕ → Bool
 rankAt rows r = dominates rows r r && (eqb (lessOf (belowAt rows r) (getD rows r 0)) 0 && not (has (belowAt rows r) r))
 
-unfoldable pub reaching : List ℕ → List ℕ → List ℕ → Bool
-reaching assigned users active =
-    allTo (length active) (λ s. eqb (lessOf (getD active s 0) (imageOf assigned (getD users s 0))) 0)
+-- The roles of `over` are dominated by roles of `own`.
+abbrev pub coveredBy : List ℕ → ℕ → ℕ → Bool
+coveredBy rows own over = eqb (lessOf over (imageOf rows own)) 0
+
+-- The roles of session s besides its user's own are dominated by these.
+abbrev pub reachAt : List ℕ → List ℕ → List ℕ → List ℕ → ℕ → Bool
+reachAt rows assigned users active s =
+    let own = imageOf assigned (getD users s 0) in
+    coveredBy rows own (lessOf (getD active s 0) own)
+
+unfoldable pub reaching : List ℕ → List ℕ → List ℕ → List ℕ → Bool
+reaching rows assigned users active = allTo (length active) (reachAt rows assigned users active)
 
 unfoldable pub newAt : List ℕ → ℕ → Bool
 newAt ws i = allTo i (λ j. not (eqb (getD ws j 0) (getD ws i 0)))

@@ -32,7 +32,7 @@ returns-2 c =
     let if1 = c .before .before .if1 in
     λ T f b e.
     let r = sym (rank-part T f e b (part .ensures) (ranked .ensures)) ∙ not-false _ (if1 .left) in
-    let o = sym (c .before .reaches .ensures T f b e) ∙ not-true _ (c .if2 .taken) in
+    let o = sym (c .before .reaches .ensures T f b r e) ∙ not-true _ (c .if2 .taken) in
     rw (r, o)
 
 returns-3 : tie.Need-returns-3
@@ -45,7 +45,7 @@ returns-3 c =
     let if2 = c .before .before .if2 in
     λ T f b e.
     let r = sym (rank-part T f e b (part .ensures) (ranked .ensures)) ∙ not-false _ (if1 .left) in
-    let o = sym (reaches .ensures T f b e) ∙ not-false _ (if2 .left) in
+    let o = sym (reaches .ensures T f b r e) ∙ not-false _ (if2 .left) in
     let w = sym (c .before .collections-apart .ensures T f e) ∙ not-true _ (c .if3 .taken) in
     rw (r, o, w)
 
@@ -59,7 +59,7 @@ returns-4 c =
     let if2 = c .before .before .if2 in
     λ T f b e.
     let r = sym (rank-part T f e b (part .ensures) (ranked .ensures)) ∙ not-false _ (if1 .left) in
-    let o = sym (reaches .ensures T f b e) ∙ not-false _ (if2 .left) in
+    let o = sym (reaches .ensures T f b r e) ∙ not-false _ (if2 .left) in
     let w = sym (c .before .collections-apart .ensures T f e) ∙ not-false _ (c .if3 .left) in
     rw (r, o, w)
 

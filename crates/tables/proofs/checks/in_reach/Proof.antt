@@ -1,46 +1,44 @@
--- `tables::checks::in_reach`: the active roles of each session passed are its user's.
+-- `tables::checks::in_reach`: the active roles of each session passed are its user's own or their juniors.
 -- Assumes nothing.
 use borrow.Author.Needs.{needs}
+use borrow.Author.Tests.{not-true, not-false}
 use Prim.Native.Nat.{_-_}
-use mathlib.Core.Path.{ap, _∙_}
-use lib.Dec.{eqb}
-use lib.ListN.{length, getD}
-use borrow.Author.Tests.{eq-eqb, ne-eqb}
-use Rattle.words.specs.Words.{lessOf, imageOf}
-use Rattle.tables.specs.code.Reads.{reaching}
+use lib.ListN.{length}
+use Rattle.tables.specs.code.Reads.{reachAt, reaching}
 use Rattle.tables.proofs.AllLaws.{Passed, passed-none, passed-more, passed-not, passed-all}
+use Rattle.tables.proofs.ReachLaws.{reach-found}
 use Rattle.tables.proofs.checks.in_reach.Statement.{statement}
 use Rattle.tables.proofs.checks.in_reach.Tie as tie
 
 abbrev Inv-loop : tie.InvT-loop
-Inv-loop assigned users active s₀ s = Passed (length active) (λ s. eqb (lessOf (getD active s 0) (imageOf assigned (getD users s 0))) 0) s
+Inv-loop rows assigned users active s₀ s = Passed (length active) (reachAt rows assigned users active) s
 
 abbrev μ-loop : tie.MeasureT-loop
-μ-loop assigned users active s₀ s = length active - s
+μ-loop rows assigned users active s₀ s = length active - s
 
 loop-holds : tie.Need-loop-holds Inv-loop μ-loop
 loop-holds c =
-    let args = c .before .before .before .args in
-    passed-none (length (args .active .now)) (λ s. eqb (lessOf (getD (args .active .now) s 0) (imageOf (args .assigned .now) (getD (args .users .now) s 0))) 0)
+    let args = c .before .before .before .before .args in
+    passed-none (length (args .active .now)) (reachAt (args .rows .now) (args .assigned .now) (args .users .now) (args .active .now))
 
 returns : tie.Need-returns Inv-loop μ-loop
 unfolding reaching
 returns c =
-    let args = c .before .before .before .before .before .before .before .before .before .before .args in
-    let loop = c .before .before .before .before .before .before .loop in
-    let loop-test = c .before .before .before .before .before .loop-test in
-    let image = c .before .before .image in
-    passed-not (loop .inv) (loop-test .taken) (ap (λ w. eqb w 0) (c .before .less .ensures ∙ ap (lessOf (getD (args .active .now) (loop .s) 0)) (image .ensures)))
-    (ne-eqb (c .before .less .result) 0 (c .if1 .taken))
+    let at-loop = c .before .before .before .before .before .before .before in
+    let args = at-loop .before .before .before .before .before .args in
+    let found =
+    reach-found (args .rows .now) (args .assigned .now) (args .users .now) (args .active .now) (at-loop .loop .s) (c .before .before .before .before .image .ensures) (c .before .before .less .ensures)
+    (c .before .covered .ensures) in
+    passed-not (at-loop .loop .inv) (c .before .before .before .before .before .before .loop-test .taken) found (not-true _ (c .if1 .taken))
 
 loop-again : tie.Need-loop-again Inv-loop μ-loop
 loop-again c =
-    let args = c .before .before .before .before .before .before .before .before .before .before .args in
-    let loop = c .before .before .before .before .before .before .loop in
-    let loop-test = c .before .before .before .before .before .loop-test in
-    let image = c .before .before .image in
-    passed-more (loop .inv) (loop-test .taken) (ap (λ w. eqb w 0) (c .before .less .ensures ∙ ap (lessOf (getD (args .active .now) (loop .s) 0)) (image .ensures)))
-    (eq-eqb (c .before .less .result) 0 (c .if1 .left))
+    let at-loop = c .before .before .before .before .before .before .before in
+    let args = at-loop .before .before .before .before .before .args in
+    let found =
+    reach-found (args .rows .now) (args .assigned .now) (args .users .now) (args .active .now) (at-loop .loop .s) (c .before .before .before .before .image .ensures) (c .before .before .less .ensures)
+    (c .before .covered .ensures) in
+    passed-more (at-loop .loop .inv) (c .before .before .before .before .before .before .loop-test .taken) found (not-false _ (c .if1 .left))
 
 returns-2 : tie.Need-returns-2 Inv-loop μ-loop
 unfolding reaching
@@ -55,6 +53,7 @@ in-reach-spec =
     loop-holds
     (λ c. search needs)
     (λ c. search needs)
+    (λ c κs. search needs)
     (λ c. search needs)
     (λ c. search needs)
     (λ c κs. search needs)
