@@ -67,9 +67,17 @@ fn others(tables: &Plain) -> Vec<(String, Question)> {
     let rule = long_rule();
     let formula = reference::fast::reduce(rule.as_bytes()).expect("an accepted rule");
     let rebuild = format!("rebuild those, from {}", formula.len());
-    let read = Question::judge(tables.bytes(), b"U=U".to_vec(), vec![]);
+    let read = |tables: Plain| Question::judge(tables.bytes(), b"U=U".to_vec(), vec![]);
+    let juniors = tables::full_of_juniors(&mut Random::new(1));
     vec![
-        ("judge `U=U` (reading the tables)".to_string(), read),
+        (
+            "judge `U=U` (reading the tables)".to_string(),
+            read(tables.clone()),
+        ),
+        (
+            "the same, junior roles open in the sessions".to_string(),
+            read(juniors),
+        ),
         (
             "reduce 256 bytes".to_string(),
             Question::Reduce(rule.into_bytes().into()),

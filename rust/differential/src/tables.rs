@@ -34,15 +34,26 @@ fn sized(random: &mut Random, least: usize, most: usize) -> Plain {
     let (roles, users, sessions) = (size(most), size(most), size(most));
     let (operations, objects) = (size(most.min(8)), size(most.min(8)));
     let (cr, cu, cp) = (size(most), size(most), size(most));
-    with_sizes(
+    let mut plain = with_sizes(
         random,
         [roles, users, sessions, operations, objects, cr, cu, cp],
-    )
+    );
+    if !random.once_in(4) {
+        plain.open_juniors(random);
+    }
+    plain
 }
 
-/// Accepted tables with every section as long as it may be.
+/// Accepted tables with every section as long as it may be; sessions have assigned roles alone.
 pub fn full(random: &mut Random) -> Plain {
     with_sizes(random, [64, 64, 64, 8, 8, 64, 64, 64])
+}
+
+/// The same, with juniors of these open in the sessions.
+pub fn full_of_juniors(random: &mut Random) -> Plain {
+    let mut plain = full(random);
+    plain.open_juniors(random);
+    plain
 }
 
 /// Tables of an office with at most `most` items in a section: eight departments of as many ranks,
@@ -228,11 +239,34 @@ impl Plain {
         }
     }
 
+    /// Opens each session anew, with some of the roles that its user has or that are junior to them.
+    pub fn open_juniors(&mut self, random: &mut Random) {
+        for (user, active) in &mut self.sessions {
+            let assigned = items(self.users[*user as usize]);
+            let reached = assigned.fold(0, |word, role| word | self.roles[role]);
+            *active = reached & random.items(64);
+        }
+    }
+
+    /// How many sessions have a role active that their user is not assigned.
+    pub fn beyond_assigned(&self) -> usize {
+        let beyond = |&&(user, active): &&(u8, u64)| active & !self.users[user as usize] != 0;
+        self.sessions.iter().filter(beyond).count()
+    }
+
+    /// The roles senior to one that the user is assigned; none where there is no such user.
+    fn seniors(&self, user: u8) -> u64 {
+        let assigned = self.users.get(user as usize).map_or(0, |&word| word);
+        let above = |role: &usize| self.roles[*role] & assigned & !(1 << role) != 0;
+        let seniors = (0..self.roles.len().min(64)).filter(above);
+        seniors.fold(0, |word, role| word | 1 << role)
+    }
+
     /// Makes one thing wrong that a check looks for, where there is a row to do it in.
     pub fn spoil(&mut self, random: &mut Random) {
         let stray = 1u64 << random.below(64);
         let (roles, users) = (self.roles.len(), self.users.len());
-        match random.below(10) {
+        match random.below(11) {
             0 => change(random, &mut self.roles, |row| row ^ stray),
             1 => change(random, &mut self.users, |row| row | stray),
             2 => change(random, &mut self.permissions, |row| row ^ stray),
@@ -252,6 +286,10 @@ impl Plain {
                 let lists = [&mut self.roles, &mut self.users, &mut self.cr, &mut self.cu];
                 let list = lists.into_iter().nth(random.below(4)).unwrap();
                 list.resize(random.between(64, 66), 0);
+            }
+            10 if !self.sessions.is_empty() => {
+                let session = random.below(self.sessions.len());
+                self.sessions[session].1 |= self.seniors(self.sessions[session].0);
             }
             _ => {}
         }
@@ -281,7 +319,7 @@ fn items(word: u64) -> impl Iterator<Item = usize> {
 pub fn any(random: &mut Random) -> Vec<u8> {
     let most = [0, 1, 2, 3, 5, 9, 20, 64][random.below(8)];
     let mut plain = match random.once_in(20) {
-        true => full(random),
+        true => full_of_juniors(random),
         false => accepted(random, most),
     };
     let wrong = random.below(4);

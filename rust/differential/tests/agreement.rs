@@ -105,6 +105,18 @@ fn the_builder_encodes_what_the_tables_say() {
     }
 }
 
+/// One in five of the accepted tables has a session under a role that is junior to an assigned one
+/// and not assigned itself.
+#[test]
+fn juniors_are_opened_often() {
+    let random = &mut Random::new(14);
+    let beyond = (0..1_000).filter(|_| tables::filled(random, 12).beyond_assigned() > 0);
+    let beyond = beyond.count();
+    assert!(beyond >= 200, "{beyond}");
+    assert_eq!(tables::full(random).beyond_assigned(), 0);
+    assert!(tables::full_of_juniors(random).beyond_assigned() > 32);
+}
+
 /// Spoiled tables: the builder gives the reference's refusal, with rows for 7, 8 and 9.
 #[test]
 fn the_builder_names_the_rows_at_fault() {

@@ -1,4 +1,5 @@
 //! Document 01, "Tables" and "Functions": reading tables front to back, and Figure 2 on them.
+//! Document 02, N2: which roles a session may have active.
 
 use crate::number::*;
 use crate::set::Set;
@@ -138,11 +139,8 @@ impl Tables {
         if !self.ranked() {
             return Err(RANK);
         }
-        if self
-            .sessions
-            .iter()
-            .any(|s| !s.roles.within(&self.assigned[s.user]))
-        {
+        let overreaches = |s: &Session| !s.roles.within(&self.juniors(&self.assigned[s.user]));
+        if self.sessions.iter().any(overreaches) {
             return Err(OVERREACH);
         }
         if [&self.cr, &self.cu, &self.cp]

@@ -129,16 +129,30 @@ impl Tables {
     /// The checks over whole tables: 7, 8, 9.
     fn examine(&self) -> Answer<()> {
         let mut sessions = self.session_user.iter().zip(&self.active);
-        let assigned = |user: &u64| self.assigned[user.trailing_zeros() as usize];
         if !ranked(&self.dominated) {
             Err(RANK)
-        } else if sessions.any(|(user, roles)| roles & !assigned(user) != 0) {
+        } else if sessions.any(|(user, roles)| self.overreaches(user.trailing_zeros(), *roles)) {
             Err(OVERREACH)
         } else if twins(&self.cr) || twins(&self.cu) || twins(&self.cp) {
             Err(TWIN)
         } else {
             Ok(())
         }
+    }
+
+    /// Whether one of the roles is neither assigned to the user nor junior to such a role. A role
+    /// that is ranked dominates itself, so that juniors are looked for only where it matters.
+    fn overreaches(&self, user: u32, roles: u64) -> bool {
+        let assigned = self.assigned[user as usize];
+        let mut besides = roles & !assigned;
+        let mut seniors = items(assigned);
+        while besides != 0 {
+            match seniors.next() {
+                Some(senior) => besides &= !self.dominated[senior],
+                None => return true,
+            }
+        }
+        false
     }
 }
 
