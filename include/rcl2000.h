@@ -71,7 +71,7 @@ enum rcl2000_refusal {
     RCL2000_NO_SUCH_ITEM = 5,      /* a row names an item that the tables do not have */
     RCL2000_MISCOUNTED = 6,        /* the permissions are not operations times objects */
     RCL2000_RANK = 7,              /* role rows are not reflexive, transitive, antisymmetric */
-    RCL2000_OVERREACH = 8,         /* a session has a role that its user is not assigned */
+    RCL2000_OVERREACH = 8,         /* a session has a role that is neither assigned to its user nor junior to one that is */
     RCL2000_TWIN = 9,              /* two words of one collection are equal */
     RCL2000_LEFT_OVER = 10,        /* there are bytes after the tables */
     RCL2000_RULE_LENGTH = 11,      /* the rule has 0 or more than 256 bytes */

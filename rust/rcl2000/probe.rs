@@ -14,6 +14,10 @@ const T: &[u8] = b"\x02\x01\0\0\0\0\0\0\0\x02\0\0\0\0\0\0\0\
 const JUNIOR: &[u8] = b"\x02\x03\0\0\0\0\0\0\0\x02\0\0\0\0\0\0\0\
     \x01\x01\x01\0\0\0\0\0\0\0\x01\0\x02\0\0\0\0\0\0\0\0\0\0\0\0\0";
 
+/// The same, but the user has role 1 and the session role 0.
+const SENIOR: &[u8] = b"\x02\x03\0\0\0\0\0\0\0\x02\0\0\0\0\0\0\0\
+    \x01\x01\x02\0\0\0\0\0\0\0\x01\0\x01\0\0\0\0\0\0\0\0\0\0\0\0\0";
+
 /// A user with mark 2.
 const MARK: &[u8] = b"\0\x01\x02\0\0\0\0\0\0\0\0\0\0\0\0\0\0\0";
 
@@ -24,6 +28,9 @@ const EIGHT: &[u8] = b"\x01\x01\0\0\0\0\0\0\0\x08\x01\x01\0\0\0\0\0\0\0\
 
 const A: &[u8] = b"|(roles(OE(U))&OE(CR))|<=1";
 const B: &[u8] = b"OE(OE(CR))@roles(OE(U))=>(AO(OE(CR))&roles(OE(U)))={}";
+
+/// One full choice, without variables, that breaks nothing.
+const HELD: [u8; 26] = *b"\0\x01\0\0\0\0\0\0\0\0\0\0\0\0\0\0\0\xff\xff\xff\xff\xff\xff\xff\xff\0";
 
 /// The byte that fills a lent output before the call.
 const FILL: u8 = b'.';
@@ -41,11 +48,15 @@ fn main() {
         library::judge(T, B, &[2, 1, 3], out)
     });
     holds("17", refused(17), |out| library::reduce(A, &mut out[..32]));
-    // What the requests after document 01 will change, by which their archives are told apart: 8
-    // for a junior role (N2), 4 for a mark of 2 (N6), a half in a hundred upward (N7).
+    // By what the requests after document 01 change, their archives are told apart: a junior role is
+    // accepted (N2), a senior one is 8; still to come: 4 for a mark of 2 (N6), a half in a hundred
+    // upward (N7).
     let (rule, eighth) = (b"roles(OE(U))={}", half_of_a_hundred_upward());
-    holds("N2", refused(8), |out| {
-        library::judge(JUNIOR, A, &[1, 2], out)
+    holds("N2", (26, &HELD), |out| {
+        library::judge(JUNIOR, b"U=U", &[], out)
+    });
+    holds("8", refused(8), |out| {
+        library::judge(SENIOR, b"U=U", &[], out)
     });
     holds("N6", refused(4), |out| {
         library::judge(MARK, A, &[1, 2], out)

@@ -65,7 +65,8 @@ fn evening() -> Result<Vec<u8>, BuildError> {
     let dino = tables.user([tester]);
     let elsa = tables.user([weigher, blender]);
     let fabio = tables.user([south_hand]);
-    tables.session(ana, [leader]);
+    // Ana is assigned the leader's role alone, and works under a press hand's, which is junior to it.
+    tables.session(ana, [north_hand]);
     tables.session(clara, [grader]);
     tables.session(dino, [tester]);
     tables.session(elsa, [weigher]);

@@ -144,18 +144,24 @@ impl TablesBuilder {
         User::numbered(add(&mut self.users, None))
     }
 
-    /// Adds a session of a user with its active roles.
+    /// Adds a session of a user with its active roles: any that are in `roles*` of the user, which
+    /// are the assigned ones and their juniors. A leader may work under the hand's role, and not the
+    /// other way round.
     ///
     /// ```
     /// let mut tables = rcl2000::TablesBuilder::new();
-    /// let (hand, leader) = (tables.role([]), tables.role([]));
-    /// let anna = tables.user([hand]);
-    /// tables.session(anna, [hand, leader]);
+    /// let hand = tables.role([]);
+    /// let leader = tables.role([hand]);
+    /// let (anna, bruno) = (tables.user([leader]), tables.user([hand]));
+    /// tables.session(anna, [hand]);
+    /// tables.build()?;
+    /// tables.session(bruno, [hand, leader]);
     /// assert_eq!(
     ///     tables.build().unwrap_err().to_string(),
-    ///     "the tables are refused 8, overreach: \
-    ///      session 0 has role 1 active, which user 0 is not assigned"
+    ///     "the tables are refused 8, overreach: session 1 has role 1 active, \
+    ///      which is neither assigned to user 1 nor junior to a role that is"
     /// );
+    /// # Ok::<(), rcl2000::BuildError>(())
     /// ```
     pub fn session(&mut self, user: User, roles: impl IntoIterator<Item = Role>) -> Session {
         let row = (user, roles.into_iter().collect());

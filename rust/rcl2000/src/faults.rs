@@ -74,7 +74,8 @@ pub enum Fault {
         /// The other.
         second: Role,
     },
-    /// 8: a session has a role active that is not assigned to its user.
+    /// 8: a session has a role active that is not in `roles*` of its user: neither assigned nor
+    /// junior to an assigned role.
     Overreach {
         /// The session.
         session: Session,
@@ -114,7 +115,8 @@ impl fmt::Display for Fault {
                 role,
             } => write!(
                 f,
-                "session {session} has role {role} active, which user {user} is not assigned"
+                "session {session} has role {role} active, \
+                 which is neither assigned to user {user} nor junior to a role that is"
             ),
             Fault::Twins { first, second } => write!(f, "{first} and {second} are equal"),
         }

@@ -86,7 +86,7 @@ refusals! {
     5 NoSuchItem "no such item" "a row names a role, user or permission that the tables do not have"
     6 Miscounted "miscounted" "there is not one permission for each operation on each object"
     7 Rank "rank" "one role misses itself or a junior's junior, or two dominate each other"
-    8 Overreach "overreach" "a session has a role active that is not assigned to its user"
+    8 Overreach "overreach" "a session has a role active that is neither assigned to its user nor junior to one that is"
     9 Twin "twin" "a conflict set is listed twice"
     10 LeftOver "left over" "there are bytes after the end of the tables"
     11 RuleLength "rule length" "the rule is empty or longer than 256 bytes"

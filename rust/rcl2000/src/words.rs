@@ -87,8 +87,9 @@ impl Words {
     fn overreach(&self) -> Vec<Fault> {
         let mut faults = Vec::new();
         for (number, &(user, active)) in self.sessions.iter().enumerate() {
-            let assigned = self.users[user.number()].unwrap_or(0);
-            faults.extend(items(active & !assigned).map(|role| Fault::Overreach {
+            let assigned = items(self.users[user.number()].unwrap_or(0));
+            let reached = assigned.fold(0, |word, role| word | self.roles[role]);
+            faults.extend(items(active & !reached).map(|role| Fault::Overreach {
                 session: Session::numbered(number),
                 user,
                 role: Role::numbered(role),

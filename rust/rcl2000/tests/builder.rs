@@ -78,19 +78,25 @@ fn juniors_of_a_whole_row_count_as_the_row_says() {
 #[test]
 fn sessions_that_reach_too_far_and_equal_words() {
     let mut tables = TablesBuilder::new();
-    let (hand, leader) = (tables.role([]), tables.role([]));
-    let (anna, bruno) = (tables.user([hand]), tables.user([]));
+    let hand = tables.role([]);
+    let leader = tables.role([hand]);
+    let owner = tables.role([leader]);
+    let apart = tables.role([]);
+    let (anna, bruno) = (tables.user([leader]), tables.user([]));
+    let carla = tables.user([owner, apart]);
     tables.session(anna, [hand]);
-    let second = tables.session(anna, [hand, leader]);
-    let third = tables.session(bruno, [hand]);
+    tables.session(carla, [hand, leader, owner, apart]);
+    let third = tables.session(anna, [hand, leader, owner, apart]);
+    let fourth = tables.session(bruno, [hand]);
     let overreach = |session, user, role| Fault::Overreach {
         session,
         user,
         role,
     };
     let faults = vec![
-        overreach(second, anna, leader),
-        overreach(third, bruno, hand),
+        overreach(third, anna, owner),
+        overreach(third, anna, apart),
+        overreach(fourth, bruno, hand),
     ];
     assert_eq!(refused(&tables), (Refusal::Overreach, faults));
 
