@@ -2,7 +2,7 @@
 -- Assumes nothing.
 use mathlib.Core.Path.{_≡_, refl, ap, _∙_}
 use mathlib.Core.List.{List, [], _++_}
-use mathlib.Core.Option.{Option, none, some}
+use mathlib.Core.Option.{some}
 use mathlib.Core.Bool.{Bool, true, false}
 use mathlib.Core.Logic.{_⊎_, inl, inr}
 use Prim.Native.Nat.{ℕ, suc, _-_, _≤_, _<_}
@@ -19,8 +19,8 @@ use Rattle.answers.specs.declared.Refusal.{Refusal}
 use Rattle.syntax.specs.Bytes.{Bytes, ascii}
 use Rattle.syntax.specs.Rule.{Rule, ruleText, ruleVars}
 use Rattle.syntax.proofs.RuleLaws.{rule-text}
-use Rattle.rules.specs.Accept.{refusal, isNone, accepted}
-use Rattle.rules.proofs.AcceptLaws.{accepted-rule}
+use Rattle.rules.specs.Accept.{refusal, accepted}
+use Rattle.rules.proofs.AcceptLaws.{none-true, accepted-rule}
 use Rattle.tables.specs.Tables.{Tables}
 use Rattle.tables.specs.Reading.{rejected, taken, tablesOf}
 use Rattle.texts.specs.Pieces.{lines}
@@ -39,13 +39,6 @@ use Rattle.sheets.specs.Promise.{Lines, Wrote, TooShort, LineReports, To
 use Rattle.sheets.proofs.SheetLaws.{judged-length, listed-some, listed-total, listed-none}
 use Rattle.sheets.proofs.TotalLaws.{total-adds-up}
 use Rattle.sheets.proofs.WordLaws.{tells-held, tells-idle, tells-broken, tells-refused, carried}
-
-accepted-none : (rule : Bytes) → accepted rule ≡ true → refusal rule ≡ none
-accepted-none rule h = go (refusal rule) h
-  where
-    go : (o : Option Refusal) → isNone o ≡ true → o ≡ none
-    go none q = refl
-    go (some r) q = cc
 
 -- DEMANDS 1 and 2. `line` finishes, on every input, with its line written or with 17, which changes no lent byte; 17 exactly where the line is longer.
 pub line-ends : (tables rules : Bytes) (place : ℕ) {old new : List ℕ} {w : Written} → Lines tables rules place old new w
@@ -81,7 +74,7 @@ module _ (tables rules : Bytes) (T : Tables) (t : tablesOf tables ≡ taken T) (
       → (numberIn w ≡ 0) × LineReports T ρ (suc k) (take (lengthIn w) new) × (drop (lengthIn w) new ≡ drop (lengthIn w) old))
   unfolding verdictOf tablesVerdict turnVerdict turnOrder
   line-reports h =
-      let r = accepted-none rule h in
+      let r = none-true (refusal rule) h in
       let (ρ, tree, _) = accepted-rule rule r in
       let order : OrderOf ρ (upFrom 1 (length (ruleVars [] ρ))) = order-admissible (names (ruleVars [] ρ)) (length (ruleVars [] ρ)) (variablesOf (upFrom 1 (length (ruleVars [] ρ)))) .0 (turn-order ρ) in
       let reports = verdict-reports {tables = tables} (record { reads = t; accepts = r; tree = tree; ordered = order }) in
