@@ -50,7 +50,7 @@ pub fn ranked(rows: &[u64]) -> bool
     true
 }
 
-// Whether the roles of `over` are dominated by roles of `own`. No more rows are looked at than that takes, so none where `over` is empty.
+// Whether the roles of `over` are dominated by roles of `own`. No more rows are looked at than that takes.
 pub fn covered(rows: &[u64], own: u64, over: u64) -> bool
     ensures { λ b. ⌜ b ≡ coveredBy (now (rows .entry)) own over ⌝ }
 {
@@ -67,7 +67,7 @@ pub fn covered(rows: &[u64], own: u64, over: u64) -> bool
     true
 }
 
-// Each session's active roles are its user's own or their juniors. The own ones are left out first: most sessions have no others.
+// Each session's active roles are its user's own or their juniors. The own ones are left out first: where there are no others, no row is looked at.
 pub fn in_reach(rows: &[u64], assigned: &[u64], users: &[u64], active: &[u64]) -> bool
     requires { ⌜ length (now users) ≡ length (now active) ⌝ }
     ensures { λ b. ⌜ b ≡ reaching (now (rows .entry)) (now (assigned .entry)) (now (users .entry)) (now (active .entry)) ⌝ }
