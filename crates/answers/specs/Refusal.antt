@@ -1,10 +1,10 @@
--- Document 01, "Turned back": the number of each refusal.
+-- Document 01, "Turned back", and document 02: the number of each refusal.
 -- Assumes nothing.
 use Prim.Native.Nat.{ℕ}
 use Rattle.answers.specs.declared.Refusal.{Refusal}
 use Rattle.answers.specs.declared.Refusal.the-variants.{CutShort, Overfull, NotEntered, BadMark, NoSuchItem, Miscounted}
 use Rattle.answers.specs.declared.Refusal.the-variants.{Rank, Overreach, Twin, LeftOver, RuleLength, Deep, NotARule}
-use Rattle.answers.specs.declared.Refusal.the-variants.{KindMismatch, Choices, NoRulesFormula, ShortSheet, NotAnOrder}
+use Rattle.answers.specs.declared.Refusal.the-variants.{KindMismatch, Choices, NoRulesFormula, ShortSheet, NotAnOrder, Page}
 
 -- "No.", with the table's word and condition beside each.
 abbrev pub numberOf : Refusal → ℕ
@@ -26,3 +26,4 @@ numberOf Choices = 15  -- choices: more than 8 variables
 numberOf NoRulesFormula = 16  -- no rule's formula: no accepted rule has this formula
 numberOf ShortSheet = 17  -- short sheet: lent output shorter than L
 numberOf NotAnOrder = 18  -- order: not an order of the rule's variables
+numberOf Page = 19  -- page: no line or above 32 (document 02, N3)

@@ -1,4 +1,4 @@
-// Refusals and answers: what every entry point says, and the number that document 01 gives it.
+// Refusals and answers: what every entry point says, and the number that the documents give it.
 // Nothing here knows tables or rules.
 ghost use mathlib.Core.Path.{_≡_};
 ghost use mathlib.Core.List.{_++_};
@@ -8,7 +8,7 @@ ghost use Rattle.answers.specs.Refusal.{numberOf};
 ghost use Rattle.answers.specs.Answer.{wrote, lent};
 ghost use Rattle.answers.specs.Written.{Answers};
 
-// Document 01, "Turned back": the refusals in the order of their numbers.
+// Document 01, "Turned back", and document 02: the refusals in the order of their numbers.
 pub enum Refusal {
     CutShort,
     Overfull,
@@ -28,6 +28,7 @@ pub enum Refusal {
     NoRulesFormula,
     ShortSheet,
     NotAnOrder,
+    Page,
 }
 
 // What a call that writes to a lent output says: a refusal, or the number of bytes written.
@@ -36,7 +37,7 @@ pub enum Written {
     Wrote(usize),
 }
 
-// Document 01's number of a refusal.
+// The documents' number of a refusal.
 pub fn number(refusal: Refusal) -> u32
     ensures { λ r. ⌜ r ≡ numberOf refusal ⌝ }
 {
@@ -59,6 +60,7 @@ pub fn number(refusal: Refusal) -> u32
         Refusal::NoRulesFormula => 16,
         Refusal::ShortSheet => 17,
         Refusal::NotAnOrder => 18,
+        Refusal::Page => 19,
     }
 }
 

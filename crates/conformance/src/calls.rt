@@ -1,5 +1,7 @@
 // The tracker's calls: each function makes one and prints its number and what the lent output holds.
 use crate::fields::print_bytes;
+use crate::page::PAGE_ROOM;
+use crate::page::print_page;
 use libc::STDOUT_FILENO;
 ghost use Prim.Native.Nat.{_≤_};
 ghost use lib.ListN.{length};
@@ -28,6 +30,21 @@ pub fn judge(tables: &[u8], rule: &[u8], order: &[u8], output: &mut [u8])
 {
     let reply = rcl2000::judge(tables, rule, order, output);
     print_reply(reply, output);
+}
+
+// `refused N POS`, or the fields of the page and of each line.
+pub fn judge_page(tables: &[u8], page: &[u8]) {
+    let mut output = [0u8; PAGE_ROOM];
+    let reply = rcl2000::judge_page(tables, page, &mut output);
+    if reply < 65536 {
+        print_page(&output, reply as usize);
+    } else {
+        io::write_all(STDOUT_FILENO, b"refused ");
+        io::print_decimal(STDOUT_FILENO, (reply / 65536) as u64);
+        io::write_all(STDOUT_FILENO, b" ");
+        io::print_decimal(STDOUT_FILENO, (reply % 65536) as u64);
+    }
+    io::write_all(STDOUT_FILENO, b"\n");
 }
 
 fn print_reply(reply: u32, output: &[u8])

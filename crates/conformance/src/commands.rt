@@ -51,6 +51,8 @@ fn command(line: &[u8], first: &[u8])
         judge(line, first);
     } else if is_command(line, b"sheet", 3) {
         sheet(line, first);
+    } else if is_command(line, b"page", 3) {
+        page(line, first);
     } else {
         unknown();
     }
@@ -141,6 +143,20 @@ fn sheet(line: &[u8], tables: &[u8])
     let n = r.n;
     print_sheet(tables, &rules[..n]);
     io::write_all(STDOUT_FILENO, b"\n");
+}
+
+// `page T PAGE`: the verdict on a page.
+fn page(line: &[u8], tables: &[u8])
+    requires { ⌜ length (now line) ≤ 80000 ⌝ }
+{
+    let mut page = room();
+    let p = read_bytes(line, 2, &mut page);
+    if !p.good {
+        unknown();
+        return;
+    }
+    let n = p.n;
+    calls::judge_page(tables, &page[..n]);
 }
 
 // Prints the lines: no more than the rules have bytes, and the total behind them.

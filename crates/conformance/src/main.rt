@@ -3,6 +3,7 @@
 mod calls;
 mod commands;
 mod fields;
+mod page;
 
 ghost use Prim.Native.Nat.{_≤_};
 ghost use lib.ListN.{length};

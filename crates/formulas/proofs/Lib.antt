@@ -3,4 +3,5 @@ pub mod DepthLaws
 pub mod RebuildLaws
 pub mod WrittenLaws
 pub mod ReduceLaws
+pub mod PartLaws
 pub mod Theorems

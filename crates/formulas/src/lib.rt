@@ -31,7 +31,7 @@ const FORMULA_LIMIT: usize = 4096;
 const LENGTH_LIMIT: u32 = RULE_LIMIT as u32;
 
 // Whether two texts are equal byte for byte.
-fn alike(a: &[u8], b: &[u8]) -> bool
+pub fn alike(a: &[u8], b: &[u8]) -> bool
     ensures { λ r. ⌜ r ≡ same (now (a .entry)) (now (b .entry)) ⌝ }
 {
     if a.len() != b.len() {

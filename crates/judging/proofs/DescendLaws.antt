@@ -3,6 +3,7 @@
 use mathlib.Core.Path.{_≡_, refl, sym, ap, subst, _∙_}
 use mathlib.Core.Bool.{Bool, true}
 use mathlib.Core.List.{List, []}
+use mathlib.Core.Option.{some}
 use Prim.Native.Nat.{ℕ, zero, suc, _+_, _-_, _<_, _^_}
 use native.Mathlib.Omega.{arith}
 use lib.ListN.{length, getD, set, drop, replicate, length-replicate, getD-replicate}
@@ -11,9 +12,9 @@ use Rattle.words.specs.Words.{has, Lowest, lessOf, itemOf}
 use Rattle.tables.specs.Tables.{Tables}
 use Rattle.syntax.specs.Rule.{Rule, ruleVars}
 use Rattle.rules.specs.declared.Parsed.{Parsed}
-use Rattle.walks.specs.Choices.{sumOver, ifBreaks, nothingChosen}
+use Rattle.walks.specs.Choices.{sumOver, each, ifBreaks, nothingChosen}
 use Rattle.walks.specs.Meaning.{Once, After}
-use Rattle.walks.specs.Walk.{walk}
+use Rattle.walks.specs.Walk.{walk, walkFirst, choiceBytes}
 use Rattle.walks.specs.code.Clauses.{breaksAny, ModeIs, weightOf}
 use Rattle.walks.specs.code.Kept.{choiceOf, Unwritten}
 use Rattle.walks.specs.code.Summed.{Summed, Least, Sought}
@@ -21,6 +22,7 @@ use Rattle.walks.specs.code.Tally.{Walked}
 use Rattle.walks.specs.code.Turning.{belowAt, Descending}
 use Rattle.walks.proofs.BytesLaws.{nothing-word}
 use Rattle.walks.proofs.ClauseLaws.{mode-step, mode-stays}
+use Rattle.walks.proofs.DescentLaws.{none-breaks, descending-end}
 use Rattle.walks.proofs.JudgedLaws.{own-breaking, turn-least, judged-none, judged-some}
 use Rattle.walks.proofs.KeptLaws.{kept-none}
 use Rattle.walks.proofs.LoopLaws.{alike-next}
@@ -242,3 +244,32 @@ module _ {ts plan : List ℕ} {T : Tables} {ρ : Rule} {order : List ℕ} (once 
       walks-some once after A (whole-counts 0 l) m noChoice (rw none (record { first = refl; some = some })) nothingChosen (sym nothing-word)
   walks-bare (suc zero) l m = walks-none once after A (whole-counts 1 l) m refl
   walks-bare (suc (suc mode)) l m = absurd (omega arith)
+
+-- A rule whose counts are known: where it breaks, its first breaking choice was found by the descent.
+module _ (T : Tables) (ρ : Rule) (order : List ℕ) (once : Once (length (ruleVars [] ρ)) order) (after : After (names (ruleVars [] ρ)) order) {full breaking : ℕ}
+    (fulls : full ≡ walk 64 (inSet T (ruleVars [] ρ)) each order nothingChosen)
+    (breakings : breaking ≡ walk 64 (inSet T (ruleVars [] ρ)) (ifBreaks (breaks T (ruleVars [] ρ) ρ)) order nothingChosen) where
+  pub known-none : breaking ≡ 0 → Walked (inSet T (ruleVars [] ρ)) (breaks T (ruleVars [] ρ) ρ) order nothingChosen (record { full = full; breaking = 0; first = nothingChosen })
+  known-none z = record {
+    fulls = fulls;
+    breakings = sym z ∙ breakings;
+    firsts = ap choiceBytes (sym (none-breaks 64 (inSet T (ruleVars [] ρ)) (breaks T (ruleVars [] ρ) ρ) order nothingChosen (sym breakings ∙ z)));
+  }
+
+  pub known-breaks : 0 < breaking → 0 < walk 64 (inSet T (ruleVars [] ρ)) (ifBreaks (breaksAny (clausesOf T ρ))) order (choiceOf noChoice)
+  known-breaks l =
+      subst (λ (b : List ℕ → Bool). 0 < walk 64 (inSet T (ruleVars [] ρ)) (ifBreaks b) order (choiceOf noChoice)) (sym (rule-breaks T ρ))
+      (subst (λ (c : List ℕ). 0 < walk 64 (inSet T (ruleVars [] ρ)) (ifBreaks (breaks T (ruleVars [] ρ) ρ)) order c) (sym nothing-word) (omega (arith, breakings)))
+
+  pub known-some : (r : ℕ) → Descending (inSet T (ruleVars [] ρ)) (breaksAny (clausesOf T ρ)) order (choiceOf noChoice) (length order) (choiceOf r)
+      → (first : List ℕ) → first ≡ choiceOf r
+      → Walked (inSet T (ruleVars [] ρ)) (breaks T (ruleVars [] ρ) ρ) order nothingChosen (record { full = full; breaking = breaking; first = first })
+  known-some r D first e = record {
+    fulls = fulls;
+    breakings = breakings;
+    firsts = e ∙ ap choiceBytes (sym
+        (subst (λ (b : List ℕ → Bool). walkFirst 64 (inSet T (ruleVars [] ρ)) b order nothingChosen ≡ some (choiceOf r)) (rule-breaks T ρ)
+        (subst (λ (c : List ℕ). walkFirst 64 (inSet T (ruleVars [] ρ)) (breaksAny (clausesOf T ρ)) order c ≡ some (choiceOf r)) nothing-word
+        (descending-end (inSet T (ruleVars [] ρ)) (names (ruleVars [] ρ)) (sets-read T (ruleVars [] ρ)) (breaksAny (clausesOf T ρ)) (length (ruleVars [] ρ)) order once after
+        (choiceOf noChoice) (length order) (choiceOf r) (omega arith) D))));
+  }

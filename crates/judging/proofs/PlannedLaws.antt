@@ -139,7 +139,7 @@ module _ {ns : List ℕ} {n : ℕ} {ks vs : List ℕ} {root : ℕ} {order : List
         let o = open-high mode d i e in
         let high : d < getD (drop levelsFrom p6) i 0 = rw (level-same i room) at (o .1) in
         let clauses = rw depth at (w .clauses (omega (arith, o .0))) in
-        clause-covered (getD (drop contextsFrom whole) at 0) i k (clauses i k high))
+        clause-covered (getD (drop contextsFrom whole) at 0) i k (clauses i (omega arith) k high))
 
     pub planned-by : Planned ts whole (record { nodes = ns; n = n; kinds = ks; vars = vs; order = order; levels = heights }) T ρ
     planned-by = record {

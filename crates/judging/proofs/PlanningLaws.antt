@@ -151,16 +151,16 @@ pub context-less : (names levels scopes order : List ℕ) (many at r : ℕ) → 
 context-less names levels scopes order many at r l h = record { sets = h; clauses = λ m. absurd (omega arith) }
 
 pub context-both : (names levels scopes order : List ℕ) (many at a b r : ℕ) → a < 2 ^ 64 → b < 2 ^ 64 → r ≡ joinOf a b → SetsNamed names order (at % 8) a
-    → ClausesNamed levels scopes many (at % 8) b → ContextWord names levels scopes order many at r
+    → ClausesNamed levels scopes 0 many (at % 8) b → ContextWord names levels scopes order many at r
 context-both names levels scopes order many at a b r la lb e h k = record {
   sets = λ j l m. rw e (covers-left a b (has (getD names (getD order j 0) 0)) la (h j l m));
-  clauses = λ o i l m. rw e (covers-right a b (has (getD scopes i 0)) lb (k i l m));
+  clauses = λ o i n l m. rw e (covers-right a b (has (getD scopes i 0)) lb (k i n l m));
 }
 
 -- It does not matter what else of the plan is filled in.
 pub context-same : (names scopes order old new : List ℕ) (many at r : ℕ) → ((i : ℕ) → i < many → getD (drop levelsFrom new) i 0 ≡ getD (drop levelsFrom old) i 0)
     → ContextWord names (drop levelsFrom new) scopes order many at r → ContextWord names (drop levelsFrom old) scopes order many at r
-context-same names scopes order old new many at r e c = record { sets = c .sets; clauses = λ o i l m. c .clauses o i l (rw (e i l) m) }
+context-same names scopes order old new many at r e c = record { sets = c .sets; clauses = λ o i n l m. c .clauses o i n l (rw (e i l) m) }
 
 pub levels-same : (old new : List ℕ) (many k : ℕ) (P : ℕ → ℕ → Type 0) → many ≤ planRoom → Filled old new contextsFrom k P
     → (i : ℕ) → i < many → getD (drop levelsFrom new) i 0 ≡ getD (drop levelsFrom old) i 0

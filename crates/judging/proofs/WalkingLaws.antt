@@ -1,6 +1,6 @@
 -- An order's sets are settled before their variables' turns, so that a plan laid along it holds what the slices hold.
 -- Assumes nothing.
-use mathlib.Core.Path.{_≡_, sym, subst, _∙_}
+use mathlib.Core.Path.{_≡_, refl, sym, subst, _∙_}
 use mathlib.Core.Bool.{true, false}
 use mathlib.Core.List.{List, []}
 use mathlib.Core.Logic.{⊎-elim}
@@ -125,4 +125,5 @@ module _ {ts : List ℕ} {p : Parsed} (L : LentBy ts p) where
         once = once-for C;
         begins = same;
       };
+      own = λ T ρ C. record { nodes = refl; many = refl; vars = refl };
     }

@@ -104,7 +104,7 @@ fn clauses(plan: &mut [u64], nodes: &[u32], n: usize, root: usize) -> usize
 }
 
 // What each clause names, from what the terms name, into lent words.
-fn scopes(plan: &[u64], names: &[u64], many: usize, found: &mut [u64])
+pub fn scopes(plan: &[u64], names: &[u64], many: usize, found: &mut [u64])
     requires { ⌜ (length (now plan) ≡ planLength) × (many ≤ planRoom) × (length (now found) ≡ planRoom) × ClausesLow (now plan) many (length (now names)) ⌝ }
     ensures { λ _. ⌜ Scoped (now (plan .entry)) (now (names .entry)) many (now (found .exit)) ⌝ }
 {
@@ -153,7 +153,7 @@ fn sets(plan: &mut [u64], vars: &[u32], order: &[u8])
 }
 
 // What the sets of the variables from depth d on name.
-fn by_sets(names: &[u64], order: &[u8], d: usize) -> u64
+pub fn by_sets(names: &[u64], order: &[u8], d: usize) -> u64
     requires { ⌜ (length (now names) ≡ 8) × (length (now order) ≤ 8) × ((i : ℕ) → i < length (now order) → getD (now order) i 0 < 8) ⌝ }
     ensures { λ r. ⌜ (r < 2 ^ 64) × SetsNamed (now (names .entry)) (now (order .entry)) d r ⌝ }
 {
@@ -166,14 +166,14 @@ fn by_sets(names: &[u64], order: &[u8], d: usize) -> u64
     found
 }
 
-// What the clauses above level d name.
-fn by_clauses(plan: &[u64], scopes: &[u64], many: usize, d: usize) -> u64
-    requires { ⌜ (length (now plan) ≡ planLength) × (length (now scopes) ≡ planRoom) × (many ≤ planRoom) ⌝ }
-    ensures { λ r. ⌜ (r < 2 ^ 64) × ClausesNamed (drop levelsFrom (now (plan .entry))) (now (scopes .entry)) many d r ⌝ }
+// What the clauses above level d name, of those from `from` up to `to`.
+pub fn by_clauses(plan: &[u64], scopes: &[u64], from: usize, to: usize, d: usize) -> u64
+    requires { ⌜ (length (now plan) ≡ planLength) × (length (now scopes) ≡ planRoom) × (to ≤ planRoom) ⌝ }
+    ensures { λ r. ⌜ (r < 2 ^ 64) × ClausesNamed (drop levelsFrom (now (plan .entry))) (now (scopes .entry)) from to d r ⌝ }
 {
     let mut found = 0;
-    let mut i = 0;
-    while i < many {
+    let mut i = from;
+    while i < to {
         if d < plan[LEVELS + i] as usize {
             found = words::join(found, scopes[i]);
         }
@@ -194,7 +194,7 @@ fn context(names: &[u64], plan: &[u64], scopes: &[u64], many: usize, order: &[u8
     if at < 8 {
         return found;
     }
-    words::join(found, by_clauses(plan, scopes, many, at % 8))
+    words::join(found, by_clauses(plan, scopes, 0, many, at % 8))
 }
 
 // The contexts.

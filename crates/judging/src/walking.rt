@@ -15,7 +15,7 @@ ghost use Prim.Native.Nat.{_+_, _<_, _≤_};
 ghost use lib.ListN.{length};
 ghost use Rattle.values.specs.code.Plan.{planLength};
 ghost use Rattle.judging.specs.code.Counting.{noChoice};
-ghost use Rattle.judging.specs.code.Walking.{Ordered, Lays, Stands, Descends, WalksBy};
+ghost use Rattle.judging.specs.code.Walking.{Ordered, Lays, Stands, Descends, CountsBy, WalksBy};
 ghost use Rattle.judging.specs.code.Lent.{LentBy};
 
 // So few choices do with few slots.
@@ -59,7 +59,7 @@ fn lay(t: &[u64], parsed: Parsed, order: &[u8], begun: usize, plan: &mut [u64])
 }
 
 // The plan for the counts: along the caller's order, unless another is worth it. How many choices there are at the most, of which nothing is shown.
-fn lay_first(t: &[u64], parsed: Parsed, order: &[u8], plan: &mut [u64]) -> u64
+pub fn lay_first(t: &[u64], parsed: Parsed, order: &[u8], plan: &mut [u64]) -> u64
     requires { ⌜ LentBy (now t) parsed × Ordered parsed (now order) × (length (now plan) ≡ planLength) ⌝ }
     ensures { λ _. ⌜ Lays (now (t .entry)) parsed (now (order .entry)) 0 (now (plan .exit)) ⌝ }
 {
@@ -203,4 +203,30 @@ pub fn whole(t: &[u64], parsed: Parsed, order: &[u8]) -> Tally
     }
     let mut kept = [0u64; kept::ROOM];
     counted(t, parsed, order, mode, &mut plan, &mut cache, &mut kept)
+}
+
+// The tally of a rule whose counts are known already.
+pub fn known(t: &[u64], parsed: Parsed, order: &[u8], full: u64, breaking: u64) -> Tally
+    requires { ⌜ LentBy (now t) parsed × Ordered parsed (now order) × CountsBy (now t) parsed (now order) full breaking ⌝ }
+    ensures { λ r. ⌜ WalksBy (now (t .entry)) parsed (now (order .entry)) r ⌝ }
+{
+    if breaking == 0 {
+        return Tally {
+            full,
+            breaking: 0,
+            first: [255u8; 8],
+        };
+    }
+    let mut plan = [0u64; planning::LENGTH];
+    let mut cache = [0u64; RULE_LIMIT];
+    lay_first(t, parsed, order, &mut plan);
+    let mode = entered(t, &plan, 0, kept::NOTHING, &mut cache);
+    let mut kept = [0u64; kept::ROOM];
+    let choice = descend(t, parsed, order, mode, &mut plan, &mut cache, &mut kept);
+    let first = kept::bytes(choice);
+    Tally {
+        full,
+        breaking,
+        first,
+    }
 }

@@ -3,5 +3,8 @@ pub mod ReplyLaws
 pub mod CallLaws
 pub mod FormulaLaws
 pub mod JudgeLaws
+pub mod RefusalLaws
+pub mod PageLaws
 pub mod Demands
+pub mod PageDemands
 pub mod Examples

@@ -2,20 +2,23 @@
 -- Assumes nothing.
 use mathlib.Core.Path.{_≡_}
 use mathlib.Core.Option.{none, some}
-use Prim.Native.Nat.{ℕ, _*_, _≤_, _<_}
-use lib.ListN.{length, take, drop}
+use Prim.Native.Nat.{ℕ, suc, _+_, _*_, _≤_, _<_}
+use lib.ListN.{length, getD, getElem?, take, drop}
 use Rattle.answers.specs.Refusal.{numberOf}
 use Rattle.answers.specs.Answer.{Answer, lent, reply, outputAfter}
 use Rattle.answers.specs.declared.Refusal.{Refusal}
-use Rattle.answers.specs.declared.Refusal.the-variants.{NoRulesFormula, ShortSheet, NotAnOrder}
+use Rattle.answers.specs.declared.Refusal.the-variants.{NoRulesFormula, ShortSheet, NotAnOrder, Page}
 use Rattle.tables.specs.Tables.{Tables}
-use Rattle.tables.specs.Reading.{rejected, taken, tablesOf}
+use Rattle.tables.specs.Reading.{rejected, taken, tablesOf, wordFrom}
+use Rattle.texts.specs.Pieces.{lines}
 use Rattle.syntax.specs.Bytes.{Bytes}
 use Rattle.syntax.specs.Rule.{Rule, ruleOf}
 use Rattle.rules.specs.Accept.{refusal}
 use Rattle.formulas.specs.Formulas.{RuleOf, reduced, Rebuilds}
-use Rattle.verdicts.specs.Verdict.{judged}
+use Rattle.verdicts.specs.Verdict.{wordNumber, turnOrder, judged}
 use Rattle.verdicts.specs.Report.{OrderOf, ReportsIn, Admitted}
+use Rattle.pages.specs.Page.{PageAnswer, pageOf, pageLent, pageReply, pageAfter, walksOf, verdictsOn, pageOutcome, fullSum, breakingSum}
+use Rattle.pages.specs.Met.{Sized, FirstRefused, PageAdmitted}
 
 -- A call that answers a: "Calls from the tracker return one number: L, or 65,536 × the refusal number"; "lent bytes keep their contents.
 -- Success writes the first L bytes, returns L, keeps the rest."
@@ -84,3 +87,52 @@ pub record Reported (T : Tables) (ρ : Rule) (order old new : Bytes) : Type 0 wh
   pub reports : ReportsIn T ρ order new
   pub kept : drop 26 new ≡ drop 26 old
   pub same : length new ≡ length old
+
+-- DOCUMENT 02, N3. A call for a page that answers a: the number is L, or 65,536 × the refusal number + the position.
+pub record SeesPage (a : PageAnswer) (old new : Bytes) (r : ℕ) : Type 0 where
+  pub number : r ≡ pageReply (pageLent (length old) a)
+  pub bytes : new ≡ pageAfter (pageLent (length old) a) old
+
+-- r and new are what `judge_page` gives for tables and a page.
+abbrev pub JudgesPage : Bytes → Bytes → Bytes → Bytes → ℕ → Type 0
+JudgesPage tables page old new r = SeesPage (pageOf tables page) old new r
+
+-- The page is refused by e at the position p: its number, and every lent byte as it was; no counts, no walks, no lines.
+pub record RefusesPage (e : Refusal) (p : ℕ) (old new : Bytes) (r : ℕ) : Type 0 where
+  pub number : r ≡ 65536 * numberOf e + p
+  pub place : p ≤ 32
+  pub kept : new ≡ old
+
+-- "finishes with an answer or a numbered refusal"
+pub data PageEnds (old new : Bytes) (r : ℕ) : Type 0 where
+  answersPage : (w : Bytes) → Writes w old new r → PageEnds old new r
+  refusesPage : (e : Refusal) (p : ℕ) → 1 ≤ numberOf e → numberOf e ≤ 19 → RefusesPage e p old new r → PageEnds old new r
+
+-- A page of n lines takes as many bytes.
+abbrev pub pageSize : ℕ → ℕ
+pageSize n = 18 + 26 * n
+
+-- "19 .. after the tables' checks and before any line's"; the "first refused line" with its position "counted from 1"; "Every other refusal has
+-- position 0"; 17 after all others, where n bytes are lent.
+pub data PageRefuses (tables page : Bytes) (n : ℕ) : Refusal → ℕ → Type 0 where
+  pageTables : {e : Refusal} → tablesOf tables ≡ rejected e → PageRefuses tables page n e 0
+  pageUnsized : {T : Tables} → tablesOf tables ≡ taken T → (Sized (lines page) → ⊥) → PageRefuses tables page n Page 0
+  pageLine : {T : Tables} {k : ℕ} {e : Refusal} → tablesOf tables ≡ taken T → Sized (lines page) → FirstRefused (lines page) k e
+      → PageRefuses tables page n e (suc k)
+  pageLonger : {T : Tables} → PageAdmitted tables page T → n < pageSize (length (lines page)) → PageRefuses tables page n ShortSheet 0
+
+-- The lent bytes after a page was written: its word, its counts, "the number of walks made, which is that of different quantifier parts", and the
+-- rest as it was.
+pub record PageReported (T : Tables) (page old new : Bytes) : Type 0 where
+  pub word : getD new 0 255 ≡ wordNumber (pageOutcome (verdictsOn T (lines page)))
+  pub full : wordFrom (take 8 (drop 1 new)) ≡ fullSum (verdictsOn T (lines page))
+  pub breaking : wordFrom (take 8 (drop 9 new)) ≡ breakingSum (verdictsOn T (lines page))
+  pub walks : getD new 17 255 ≡ walksOf (lines page)
+  pub kept : drop (pageSize (length (lines page))) new ≡ drop (pageSize (length (lines page))) old
+  pub same : length new ≡ length old
+
+-- "It carries each line's verdict, as when judged by itself, in the order 1, 2, ..": the 26 bytes of line j are those that `judge` writes for it.
+abbrev pub AsJudged : Bytes → Bytes → Bytes → Type 0
+AsJudged tables page new =
+    (j : ℕ) (w : Bytes) → getElem? (lines page) j ≡ some w → (old₂ new₂ : Bytes) (r₂ : ℕ) → 26 ≤ length old₂
+    → Judges tables w (turnOrder (ruleOf w)) old₂ new₂ r₂ → (r₂ ≡ 26) × (take 26 (drop (pageSize j) new) ≡ take 26 new₂)

@@ -1,10 +1,11 @@
-// The tracker's calls: byte slices and numbers. A call returns L, or 65,536 × the refusal's number.
+// The tracker's calls: byte slices and numbers. A call returns L, or 65,536 × the refusal's number; for a page the line's position is added.
 // Below these nothing knows the tracker's numbers.
 ghost use mathlib.Core.Path.{_≡_};
 ghost use Prim.Native.Nat.{_<_};
-ghost use Rattle.rcl2000.specs.Calls.{Reduces, GivesBack, Judges};
-ghost use Rattle.rcl2000.specs.code.Reply.{replyOf};
+ghost use Rattle.rcl2000.specs.Calls.{Reduces, GivesBack, Judges, JudgesPage};
+ghost use Rattle.rcl2000.specs.code.Reply.{replyOf, pageReplyOf};
 use answers::Written;
+use pages::Answered;
 
 // The tracker's number of what was written.
 fn number(written: Written) -> u32
@@ -39,4 +40,24 @@ pub extern "C" fn judge(tables: &[u8], rule: &[u8], order: &[u8], out: &mut [u8]
     ensures { λ r. ⌜ Judges (now (tables .entry)) (now (rule .entry)) (now (order .entry)) (now (out .entry)) (now (out .exit)) r ⌝ }
 {
     number(verdicts::judge(tables, rule, order, out))
+}
+
+// The tracker's number of what judging a page said.
+fn page_number(answered: Answered) -> u32
+    requires { ⌜ pageReplyOf answered < 4294967296 ⌝ }
+    ensures { λ r. ⌜ r ≡ pageReplyOf answered ⌝ }
+{
+    match answered {
+        Answered::Refused { refusal, position } => 65536 * answers::number(refusal)
+            + position as u32,
+        Answered::Wrote(l) => l as u32,
+    }
+}
+
+// The verdict on a page of rules, and on each of its lines in the order 1, 2, ..
+#[no_mangle]
+pub extern "C" fn judge_page(tables: &[u8], page: &[u8], out: &mut [u8]) -> u32
+    ensures { λ r. ⌜ JudgesPage (now (tables .entry)) (now (page .entry)) (now (out .entry)) (now (out .exit)) r ⌝ }
+{
+    page_number(pages::judge(tables, page, out))
 }

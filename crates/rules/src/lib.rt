@@ -64,7 +64,7 @@ fn check_text(s: &[u8]) -> Checked
 }
 
 // The checks 14 and 15 on the tree at root, with the kinds of its nodes and the nodes of its variables.
-fn check_tree(nodes: &[u32], n: usize, root: usize, kinds: &mut [u8], vars: &mut [u32]) -> Found
+pub fn check_tree(nodes: &[u32], n: usize, root: usize, kinds: &mut [u8], vars: &mut [u32]) -> Found
     requires { ⌜ Tidy (now nodes) n ⌝ }
     requires { ⌜ root < n ⌝ }
     requires { ⌜ n ≤ length (now kinds) ⌝ }
@@ -98,7 +98,7 @@ pub fn find(s: &[u8], nodes: &mut [u32], kinds: &mut [u8], vars: &mut [u32]) -> 
 }
 
 // The answer to a text that is refused.
-fn rejected(r: Refusal) -> Parsed
+pub fn rejected(r: Refusal) -> Parsed
     ensures { λ p. ⌜ p .outcome ≡ Refused r ⌝ }
     ensures { λ p. ⌜ Blank (p .nodes) (p .n) (p .root) (p .kinds) (p .vars) (p .count) ⌝ }
 {

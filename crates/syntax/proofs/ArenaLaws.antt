@@ -139,7 +139,7 @@ one-parts {ns} {k} {o} {i} x h = parts (getD ns k 0) o i 0 (omega (arith, x .nod
 pub both-parts : {ns : List ℕ} {k o i j : ℕ} → Both ns k o i j → o < opRoom → Parts (getD ns k 0) o i j
 both-parts {ns} {k} {o} {i} {j} x h = parts (getD ns k 0) o i j (x .node) h (x .small)
 
--- What a node holds it holds later.
+-- Nodes that stay.
 
 pub stays-refl : (a : Arena) → Stays a a
 stays-refl a = record { more = omega arith; size = refl; same = λ i h. refl }
@@ -147,55 +147,89 @@ stays-refl a = record { more = omega arith; size = refl; same = λ i h. refl }
 pub stays-trans : {a b c : Arena} → Stays a b → Stays b c → Stays a c
 stays-trans p q = record { more = omega arith; size = q .size ∙ p .size; same = λ i h. q .same i (omega arith) ∙ p .same i h }
 
-module _ {a b : Arena} (p : Stays a b) where
-  one-later : {k o i : ℕ} → k < a .n → One (a .nodes) k o i → One (b .nodes) k o i
-  one-later {k} h x = record { below = x .below; small = x .small; node = p .same k h ∙ x .node }
+-- What a node holds it holds in every list that has the same nodes below n.
+pub record Kept (ns ms : List ℕ) (n : ℕ) : Type 0 where
+  pub same : (i : ℕ) → i < n → getD ms i 0 ≡ getD ns i 0
 
-  numbered-later : {k o i m : ℕ} → k < a .n → Numbered (a .nodes) k o i m → Numbered (b .nodes) k o i m
-  numbered-later {k} h x = record { below = x .below; small = x .small; few = x .few; node = p .same k h ∙ x .node }
+module _ {ns ms : List ℕ} {n : ℕ} (p : Kept ns ms n) where
+  one-kept : {k o i : ℕ} → k < n → One ns k o i → One ms k o i
+  one-kept {k} h x = record { below = x .below; small = x .small; node = p .same k h ∙ x .node }
 
-  pub both-later : {k o i j : ℕ} → k < a .n → Both (a .nodes) k o i j → Both (b .nodes) k o i j
-  both-later {k} h x = record { below = x .below; small = x .small; below₂ = x .below₂; small₂ = x .small₂; node = p .same k h ∙ x .node }
+  numbered-kept : {k o i m : ℕ} → k < n → Numbered ns k o i m → Numbered ms k o i m
+  numbered-kept {k} h x = record { below = x .below; small = x .small; few = x .few; node = p .same k h ∙ x .node }
+
+  both-kept : {k o i j : ℕ} → k < n → Both ns k o i j → Both ms k o i j
+  both-kept {k} h x = record { below = x .below; small = x .small; below₂ = x .below₂; small₂ = x .small₂; node = p .same k h ∙ x .node }
+
+pub holds-kept : (ns ms : List ℕ) (n k : ℕ) (t : Term) → Kept ns ms n → k < n → Holds ns k t → Holds ms k t
+unfolding Holds
+holds-kept ns ms n k (base c) p h x = record { node = p .same k h ∙ x .node }
+holds-kept ns ms n k (call f t) p h x = (x .0, one-kept p h (x .1), holds-kept ns ms n (x .0) t p (omega (arith, x .1 .below)) (x .2))
+holds-kept ns ms n k (oe t) p h x = (x .0, one-kept p h (x .1), holds-kept ns ms n (x .0) t p (omega (arith, x .1 .below)) (x .2))
+holds-kept ns ms n k (ao t) p h x = (x .0, one-kept p h (x .1), holds-kept ns ms n (x .0) t p (omega (arith, x .1 .below)) (x .2))
+holds-kept ns ms n k (two o t u) p h x =
+    (x .0, x .1, both-kept p h (x .2), holds-kept ns ms n (x .0) t p (omega (arith, x .2 .below)) (x .3), holds-kept ns ms n (x .1) u p (omega (arith, x .2 .below₂)) (x .4))
+
+pub test-kept : (ns ms : List ℕ) (n k : ℕ) (t : Test) → Kept ns ms n → k < n → HoldsTest ns k t → HoldsTest ms k t
+unfolding HoldsTest
+test-kept ns ms n k (member t u) p h x =
+    (x .0, x .1, both-kept p h (x .2), holds-kept ns ms n (x .0) t p (omega (arith, x .2 .below)) (x .3), holds-kept ns ms n (x .1) u p (omega (arith, x .2 .below₂)) (x .4))
+test-kept ns ms n k (alike g t u) p h x =
+    (x .0, x .1, both-kept p h (x .2), holds-kept ns ms n (x .0) t p (omega (arith, x .2 .below)) (x .3), holds-kept ns ms n (x .1) u p (omega (arith, x .2 .below₂)) (x .4))
+test-kept ns ms n k (empty g t) p h x = (x .0, one-kept p h (x .1), holds-kept ns ms n (x .0) t p (omega (arith, x .1 .below)) (x .2))
+test-kept ns ms n k (sized c t (number m)) p h x =
+    (x .0, numbered-kept p h (x .1), holds-kept ns ms n (x .0) t p (omega (arith, x .1 .below)) (x .2))
+test-kept ns ms n k (sized c t (count u)) p h x =
+    (x .0, x .1, both-kept p h (x .2), holds-kept ns ms n (x .0) t p (omega (arith, x .2 .below)) (x .3), holds-kept ns ms n (x .1) u p (omega (arith, x .2 .below₂)) (x .4))
+
+pub clause-kept : (ns ms : List ℕ) (n k : ℕ) (c : Clause) → Kept ns ms n → k < n → HoldsClause ns k c → HoldsClause ms k c
+unfolding HoldsClause
+clause-kept ns ms n k (plain q) p h x = test-kept ns ms n k q p h x
+clause-kept ns ms n k (when q r) p h x =
+    (x .0, x .1, both-kept p h (x .2), test-kept ns ms n (x .0) q p (omega (arith, x .2 .below)) (x .3), test-kept ns ms n (x .1) r p (omega (arith, x .2 .below₂)) (x .4))
+
+pub rule-kept : (ns ms : List ℕ) (n k : ℕ) (ρ : Rule) → Kept ns ms n → k < n → HoldsRule ns k ρ → HoldsRule ms k ρ
+unfolding HoldsRule
+rule-kept ns ms n k (last c) p h x = clause-kept ns ms n k c p h x
+rule-kept ns ms n k (also c ρ) p h x =
+    (x .0, x .1, both-kept p h (x .2), clause-kept ns ms n (x .0) c p (omega (arith, x .2 .below)) (x .3), rule-kept ns ms n (x .1) ρ p (omega (arith, x .2 .below₂)) (x .4))
+
+pub all-kept : (ns ms : List ℕ) (n : ℕ) (vs : List ℕ) (σ : Choices) → Kept ns ms n → ((i : ℕ) → i < length vs → getD vs i 0 < n) → HoldsAll ns vs σ → HoldsAll ms vs σ
+all-kept ns ms n [] [] p h x = tt
+all-kept ns ms n [] (t ∷ σ) p h x = x
+all-kept ns ms n (v ∷ vs) [] p h x = x
+all-kept ns ms n (v ∷ vs) (t ∷ σ) p h x =
+    (holds-kept ns ms n v t p (h 0 (omega arith)) (x .0), all-kept ns ms n vs σ p (λ i l. h (suc i) (omega arith)) (x .1))
+
+pub tidy-kept : {ns ms : List ℕ} {n : ℕ} → Kept ns ms n → n ≤ length ms → length ms ≤ 4096 → Tidy ns n → Tidy ms n
+unfolding Apart Down
+tidy-kept p h l t =
+    record {
+      size = l;
+      fits = h;
+      apart = λ i j a b e. t .apart i j a b (sym (p .same i a) ∙ e ∙ p .same j b);
+      down = λ k a. rw (p .same k a) (t .down k a);
+    }
+
+-- And so later.
+
+pub kept-later : {a b : Arena} → Stays a b → Kept (a .nodes) (b .nodes) (a .n)
+kept-later p = record { same = p .same }
 
 pub holds-later : (a b : Arena) (k : ℕ) (t : Term) → Stays a b → k < a .n → Holds (a .nodes) k t → Holds (b .nodes) k t
-unfolding Holds
-holds-later a b k (base c) p h x = record { node = p .same k h ∙ x .node }
-holds-later a b k (call f t) p h x = (x .0, one-later p h (x .1), holds-later a b (x .0) t p (omega (arith, x .1 .below)) (x .2))
-holds-later a b k (oe t) p h x = (x .0, one-later p h (x .1), holds-later a b (x .0) t p (omega (arith, x .1 .below)) (x .2))
-holds-later a b k (ao t) p h x = (x .0, one-later p h (x .1), holds-later a b (x .0) t p (omega (arith, x .1 .below)) (x .2))
-holds-later a b k (two o t u) p h x =
-    (x .0, x .1, both-later p h (x .2), holds-later a b (x .0) t p (omega (arith, x .2 .below)) (x .3), holds-later a b (x .1) u p (omega (arith, x .2 .below₂)) (x .4))
+holds-later a b k t p h x = holds-kept (a .nodes) (b .nodes) (a .n) k t (kept-later p) h x
 
 pub test-later : (a b : Arena) (k : ℕ) (t : Test) → Stays a b → k < a .n → HoldsTest (a .nodes) k t → HoldsTest (b .nodes) k t
-unfolding HoldsTest
-test-later a b k (member t u) p h x =
-    (x .0, x .1, both-later p h (x .2), holds-later a b (x .0) t p (omega (arith, x .2 .below)) (x .3), holds-later a b (x .1) u p (omega (arith, x .2 .below₂)) (x .4))
-test-later a b k (alike g t u) p h x =
-    (x .0, x .1, both-later p h (x .2), holds-later a b (x .0) t p (omega (arith, x .2 .below)) (x .3), holds-later a b (x .1) u p (omega (arith, x .2 .below₂)) (x .4))
-test-later a b k (empty g t) p h x = (x .0, one-later p h (x .1), holds-later a b (x .0) t p (omega (arith, x .1 .below)) (x .2))
-test-later a b k (sized c t (number m)) p h x =
-    (x .0, numbered-later p h (x .1), holds-later a b (x .0) t p (omega (arith, x .1 .below)) (x .2))
-test-later a b k (sized c t (count u)) p h x =
-    (x .0, x .1, both-later p h (x .2), holds-later a b (x .0) t p (omega (arith, x .2 .below)) (x .3), holds-later a b (x .1) u p (omega (arith, x .2 .below₂)) (x .4))
+test-later a b k t p h x = test-kept (a .nodes) (b .nodes) (a .n) k t (kept-later p) h x
 
 pub clause-later : (a b : Arena) (k : ℕ) (c : Clause) → Stays a b → k < a .n → HoldsClause (a .nodes) k c → HoldsClause (b .nodes) k c
-unfolding HoldsClause
-clause-later a b k (plain q) p h x = test-later a b k q p h x
-clause-later a b k (when q r) p h x =
-    (x .0, x .1, both-later p h (x .2), test-later a b (x .0) q p (omega (arith, x .2 .below)) (x .3), test-later a b (x .1) r p (omega (arith, x .2 .below₂)) (x .4))
+clause-later a b k c p h x = clause-kept (a .nodes) (b .nodes) (a .n) k c (kept-later p) h x
 
 pub rule-later : (a b : Arena) (k : ℕ) (ρ : Rule) → Stays a b → k < a .n → HoldsRule (a .nodes) k ρ → HoldsRule (b .nodes) k ρ
-unfolding HoldsRule
-rule-later a b k (last c) p h x = clause-later a b k c p h x
-rule-later a b k (also c ρ) p h x =
-    (x .0, x .1, both-later p h (x .2), clause-later a b (x .0) c p (omega (arith, x .2 .below)) (x .3), rule-later a b (x .1) ρ p (omega (arith, x .2 .below₂)) (x .4))
+rule-later a b k ρ p h x = rule-kept (a .nodes) (b .nodes) (a .n) k ρ (kept-later p) h x
 
 pub all-later : (a b : Arena) (vs : List ℕ) (σ : Choices) → Stays a b → ((i : ℕ) → i < length vs → getD vs i 0 < a .n) → HoldsAll (a .nodes) vs σ → HoldsAll (b .nodes) vs σ
-all-later a b [] [] p h x = tt
-all-later a b [] (t ∷ σ) p h x = x
-all-later a b (v ∷ vs) [] p h x = x
-all-later a b (v ∷ vs) (t ∷ σ) p h x =
-    (holds-later a b v t p (h 0 (omega arith)) (x .0), all-later a b vs σ p (λ i l. h (suc i) (omega arith)) (x .1))
+all-later a b vs σ p h x = all-kept (a .nodes) (b .nodes) (a .n) vs σ (kept-later p) h x
 
 pub knows-later : {a b : Arena} {vs : List ℕ} {σ : Choices} → Stays a b → Knows a vs σ → Knows b vs σ
 knows-later {a} {b} {vs} {σ} p w =

@@ -3,6 +3,7 @@
 use mathlib.Core.Path.{_≡_, refl, sym, ap, subst, _∙_}
 use mathlib.Core.List.{List, [], _∷_, _++_}
 use mathlib.Core.Logic.{⊎-elim}
+use mathlib.Core.Option.{Option, none, some}
 use Prim.Native.Nat.{ℕ, suc, _+_, _-_, _<_, _≤_}
 use native.Mathlib.Nat.{eq-or-lt-of-le}
 use native.Mathlib.Omega.{arith}
@@ -10,18 +11,23 @@ use lib.ListN.{length, getD, drop, set, length-set, length-append, drop-of-lengt
 use lib.Seq.{drop-cons, getD-set-same, getD-set-other, getD-append-seam}
 use Rattle.syntax.specs.Bytes.{Bytes, ascii, Read, fail, got, next, skip}
 use Rattle.syntax.specs.Term.{Choices}
-use Rattle.syntax.specs.Rule.{Clause, Rule, last, also, readClause, readRule}
+use Rattle.syntax.specs.Rule.{Clause, Rule, last, also, readClause, readRule, whole, ruleOf}
 use Rattle.syntax.specs.code.Arena.{Both, HoldsClause, HoldsRule, hasTwo, Tidy}
 use Rattle.syntax.specs.code.Reading.{Arena, mk, Stays, Fresh, Interned, Put, put, Knows, Readable, Found, Agree, someThing, graft, ClauseList}
-use Rattle.syntax.specs.code.Reading.{Collected, Collects, noClause, someClauses, Joinable, JoinedAt, Joined, joined}
+use Rattle.syntax.specs.code.Reading.{Collected, Collects, noClause, someClauses, Joinable, JoinedAt, Joined, joined, Listing, Lists, noList, someList, Together, together}
 use Rattle.syntax.specs.declared.arena.Place.{Place}
 use Rattle.syntax.specs.declared.arena.Place.the-variants.{Nothing, Got}
 use Rattle.syntax.specs.declared.tests.Clauses.{Clauses}
 use Rattle.syntax.specs.declared.tests.Clauses.the-variants.{Nothing as NoClause, Several}
+use Rattle.syntax.specs.declared.Whole.{Whole}
+use Rattle.syntax.specs.declared.Whole.the-variants.{Nothing as NoRoot, Root}
+use Rattle.syntax.specs.declared.Listed.{Listed}
+use Rattle.syntax.specs.declared.Listed.the-variants.{Nothing as NoList, Clauses as Every}
 use Rattle.syntax.specs.code.Nodes.{alsoOp, nodeOf, indexRoom}
 use Rattle.syntax.proofs.BytesLaws.{next-agree, next-next}
 use Rattle.syntax.proofs.ArenaLaws.{stays-refl, stays-trans, clause-later, rule-later, knows-later}
 use Rattle.syntax.proofs.NameLaws.{Hit}
+use Rattle.syntax.proofs.RuleLaws.{rule-room}
 use Rattle.syntax.proofs.ReadingLaws.{fresh-two, both-node}
 use Rattle.syntax.proofs.TestLaws.{rule-zero, rule-none, rule-last, rule-more}
 
@@ -82,7 +88,7 @@ module _ {s : Bytes} {start K at c : ℕ} {vars list : List ℕ} {a₀ a : Arena
       record {
         room = omega (arith, g .room, p .stays .size);
         within = p .within;
-        count = omega (arith, g .count, p .count);
+        count = omega (arith, g .count, p .count, p .stays .size);
         tidy = p .tidy;
         choices = g .choices;
         knows = knows-later (p .stays) (g .knows);
@@ -281,3 +287,61 @@ as-put {k = k} {n = n} (put {k = k′} {n = n′} u) q =
 
 pub put-some : {C : Type 0} {a : Arena} {v e : ℕ} {ns : List ℕ} {p : Place} → Put a v e ns p → p ≡ Nothing → C
 put-some (put u) q = let z : _≡_ {A = ℕ} 0 1 = cc in absurd (omega arith)
+
+-- A whole text by its clauses.
+
+pub listed-none : {s : Bytes} {a : Arena} {ns list : List ℕ} {k : ℕ} → length s ≤ k → readRule [] k s ≡ fail → Lists s a ns list NoList (ruleOf s)
+unfolding whole
+listed-none {s} {k = k} l e = noList (sym (rule-room k s l) ∙ rw e)
+
+module _ {s : Bytes} {c e k n : ℕ} {a : Arena} {ns list : List ℕ} (l : length s ≤ k) (x : Collected s 0 a (mk ns n) list c e (readRule [] k s)) where
+  pub listed-left : e < length s → Lists s a ns list NoList (ruleOf s)
+  unfolding whole
+  listed-left h = noList (sym (rule-room k s l) ∙ rw (x .reads, drop-cons s e 0 h))
+
+  pub listed-here : length s ≤ e → Lists s a ns list (Every c n) (ruleOf s)
+  unfolding whole
+  listed-here h =
+      let q : whole (readRule [] k s) ≡ some (graft (x .before) (last (x .final))) = rw (x .reads, drop-of-length-le s h) in
+      someList {c = c} {n = n} (record {
+        before = x .before;
+        final = x .final;
+        is = sym (rule-room k s l) ∙ q;
+        listed = x .listed;
+        below = x .below;
+        many = x .many;
+        count = omega (arith, x .count, x .end);
+        stays = x .stays;
+        tidy = x .tidy;
+      })
+
+-- For those that call `clauses` and `join`.
+
+pub as-listed : {s : Bytes} {a : Arena} {ns list : List ℕ} {w : Listed} {o : Option Rule} {c n : ℕ} → Lists s a ns list w o → w ≡ Every c n → Listing s a (mk ns n) list c o
+as-listed (noList e) q = let z : _≡_ {A = ℕ} 0 1 = cc in absurd (omega arith)
+as-listed {c = c} {n = n} (someList {c = c′} {n = n′} x) q =
+    let qc : c′ ≡ c = cc in
+    let qn : n′ ≡ n = cc in
+    rw qc at (rw qn at x)
+
+pub as-unlisted : {s : Bytes} {a : Arena} {ns list : List ℕ} {w : Listed} {o : Option Rule} → Lists s a ns list w o → w ≡ NoList → o ≡ none
+as-unlisted (noList e) q = e
+as-unlisted (someList x) q = let z : _≡_ {A = ℕ} 0 1 = cc in absurd (omega arith)
+
+pub joined-root : {a : Arena} {list : List ℕ} {c e : ℕ} {ns : List ℕ} {p : Place} {k z n : ℕ} → Joined a list c e ns p → p ≡ Got k z n → Together a list c ns (Root k n)
+joined-root {k = k} {n = n} (joined {k = k′} {n = n′} x) q =
+    let qk : k′ ≡ k = cc in
+    let qn : n′ ≡ n = cc in
+    together (rw qk at (rw qn at x))
+
+pub joined-some : {C : Type 0} {a : Arena} {list : List ℕ} {c e : ℕ} {ns : List ℕ} {p : Place} → Joined a list c e ns p → p ≡ Nothing → C
+joined-some (joined x) q = let z : _≡_ {A = ℕ} 0 1 = cc in absurd (omega arith)
+
+pub as-together : {a : Arena} {list : List ℕ} {c : ℕ} {ns : List ℕ} {w : Whole} {k n : ℕ} → Together a list c ns w → w ≡ Root k n → JoinedAt a list c (mk ns n) k
+as-together {k = k} {n = n} (together {k = k′} {n = n′} x) q =
+    let qk : k′ ≡ k = cc in
+    let qn : n′ ≡ n = cc in
+    rw qk at (rw qn at x)
+
+pub together-some : {C : Type 0} {a : Arena} {list : List ℕ} {c : ℕ} {ns : List ℕ} {w : Whole} → Together a list c ns w → w ≡ NoRoot → C
+together-some (together x) q = let z : _≡_ {A = ℕ} 0 1 = cc in absurd (omega arith)

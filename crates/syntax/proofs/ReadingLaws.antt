@@ -57,7 +57,7 @@ ready-on g f l h =
     record {
       room = omega (arith, g .room, f .stays .size);
       within = h;
-      count = omega (arith, g .count, f .count);
+      count = omega (arith, g .count, f .count, f .stays .size);
       tidy = f .tidy;
       choices = g .choices;
       knows = knows-later (f .stays) (g .knows);

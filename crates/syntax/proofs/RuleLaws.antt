@@ -1,7 +1,7 @@
 -- What is written is read back, and what is read was so written: the laws of rules and formulas. Assumes nothing.
-use mathlib.Core.Path.{_≡_, refl, sym, subst, _∙_}
+use mathlib.Core.Path.{_≡_, refl, ap, sym, subst, _∙_}
 use mathlib.Core.List.{[], _∷_, _++_, append-assoc, append-nil}
-use mathlib.Core.Option.{some}
+use mathlib.Core.Option.{Option, none, some}
 use mathlib.Core.Logic.{_⊎_, inl, inr}
 use Prim.Native.Nat.{ℕ, suc, zero, _+_, _≤_, _<_, _/_, _%_}
 use native.Mathlib.Omega.{arith}
@@ -295,3 +295,20 @@ unfolding ruleOf
 rule-text s ρ e =
     let w : RuleWas s ρ [] = rule-was (length s) s ρ [] (whole-gives (readRule [] (length s) s) e) in
     (w .0 ∙ append-nil (ruleText [] ρ), w .1)
+
+-- The bound on the clauses does not matter once it is the number of bytes.
+pub rule-room : (k : ℕ) (s : Bytes) → length s ≤ k → whole (readRule [] k s) ≡ ruleOf s
+unfolding ruleOf whole
+rule-room k s l = go (whole (readRule [] k s)) (ruleOf s) refl refl
+  where
+    go : (o p : Option Rule) → whole (readRule [] k s) ≡ o → ruleOf s ≡ p → whole (readRule [] k s) ≡ ruleOf s
+    go none none e f = e ∙ sym f
+    go (some ρ) p e f =
+        let w : RuleWas s ρ [] = rule-was k s ρ [] (whole-gives (readRule [] k s) e) in
+        let q : s ≡ ruleText [] ρ = w .0 ∙ append-nil (ruleText [] ρ) in
+        e ∙ sym (rw q (rule-back ρ (w .1)))
+    go none (some ρ) e f =
+        let w = rule-text s ρ f in
+        let few : clauseCount ρ ≤ k = omega (arith, clauses-few [] ρ, ap length (w .0)) in
+        let g : readRule [] k s ≡ got ρ [] = rw (w .0) (read-rule [] k ρ (w .1) few) in
+        rw g (sym f)

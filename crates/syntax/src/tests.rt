@@ -189,7 +189,7 @@ pub enum Clauses {
 }
 
 // The nodes of the clauses joined by `^`, at most as many as the list has room for.
-fn read_clauses(
+pub fn read_clauses(
     s: &[u8],
     start: usize,
     vars: &[u32],
@@ -224,7 +224,7 @@ fn read_clauses(
 }
 
 // The rule of the first c clauses of a list, made from the last one on.
-fn join_clauses(nodes: &mut [u32], n: usize, list: &[u32], c: usize, next: usize) -> Place
+pub fn join_clauses(nodes: &mut [u32], n: usize, list: &[u32], c: usize, next: usize) -> Place
     requires { ⌜ Joinable (mk (now nodes) n) (now list) c next ⌝ }
     ensures { λ r. ⌜ Joined (mk (now (nodes .entry)) n) (now (list .entry)) c next (now (nodes .exit)) r ⌝ }
 {

@@ -1,14 +1,16 @@
 -- Evaluating by a plan: the value of a node by its word, the test of a level's clauses, and that nothing outside the slices is read.
 -- Assumes nothing.
 use mathlib.Core.Path.{_≡_, refl, sym, ap, _∙_}
-use mathlib.Core.Bool.{Bool, true, false, not, _&&_}
+use mathlib.Core.Bool.{Bool, true, false, not, _&&_, and-false}
 use mathlib.Core.List.{List, []}
 use Prim.Native.Nat.{ℕ, _+_, _<_, _≤_}
 use native.Mathlib.Omega.{arith}
-use borrow.Author.Tests.{eq-eqb, ne-eqb}
+use borrow.Author.Tests.{eq-eqb, ne-eqb, le-leb, lt-leb}
+use lib.Dec.{leb}
 use lib.ListN.{length, getD}
 use Rattle.words.specs.Words.{itemOf, lessOf}
-use Rattle.words.proofs.WordsLaws.{and-both, any-here}
+use Rattle.words.specs.Words.{anyTo}
+use Rattle.words.proofs.WordsLaws.{and-both, any-here, any-none, any-ext}
 use Rattle.tables.specs.Tables.{Tables}
 use Rattle.syntax.specs.Term.{Term, Choices}
 use Rattle.syntax.specs.Rule.{Clause, plain, when, Rule, ruleVars}
@@ -24,7 +26,7 @@ use Rattle.values.specs.Truth.{clauseTrue}
 use Rattle.values.specs.code.Nodes.{baseAt, fnAt, pairAt, World}
 use Rattle.values.specs.code.Cache.{Fed}
 use Rattle.values.specs.code.Clauses.{clauseAt, ClauseNodes}
-use Rattle.values.specs.code.Plan.{nodeIn, kindIn, variableIn, planLength, planRoom, Step, Runs, NodesIn, ClausesIn, falseAt}
+use Rattle.values.specs.code.Plan.{nodeIn, kindIn, variableIn, planLength, planRoom, Step, Runs, NodesIn, ClausesIn, levelFromOn, falseAt}
 use Rattle.values.proofs.NodeLaws.{term-small}
 use Rattle.values.proofs.ValueLaws.{fed-left, fed-right, value-base, value-one, value-call, value-others, value-two}
 use Rattle.values.proofs.TruthLaws.{low-more, low-none}
@@ -71,25 +73,37 @@ module _ {ts ns : List ℕ} {n : ℕ} {ks vs next : List ℕ} {k w : ℕ} {T : T
 
 -- ---- the test of a level's clauses, one by one
 
-module _ (T : Tables) (ρ : Rule) (levels : List ℕ) (d : ℕ) (c : List ℕ) where
-  pub holds-start : falseAt T ρ levels d c 0 ≡ not true
-  unfolding falseTo
-  holds-start = test-start (clausesOf T ρ) (levelIs levels d) c
+module _ (T : Tables) (ρ : Rule) (levels : List ℕ) (d from : ℕ) (c : List ℕ) where
+  -- among the first m, from `from` on
+  abbrev pub falseAmong : ℕ → Bool
+  falseAmong m = anyTo m (λ i. levelFromOn levels d from i && not (clauseTrue T (ruleVars [] ρ) c (clauseAt ρ i)))
+
+  pub holds-start : falseAmong from ≡ not true
+  holds-start =
+      any-none from (λ i. levelFromOn levels d from i && not (clauseTrue T (ruleVars [] ρ) c (clauseAt ρ i)))
+      (λ i l. ap (λ (b : Bool). (b && levelIs levels d i) && not (clauseTrue T (ruleVars [] ρ) c (clauseAt ρ i))) (lt-leb from i l))
 
   -- a clause of the level, which holds; and one of another level
-  module _ (i : ℕ) (q : falseAt T ρ levels d c i ≡ not true) where
-    pub holds-true : (t : Bool) → getD levels i 0 ≡ d → t ≡ clauseTrue T (ruleVars [] ρ) c (clauseAt ρ i) → t ≡ true → falseAt T ρ levels d c (i + 1) ≡ not true
+  module _ (i : ℕ) (q : falseAmong i ≡ not true) where
+    pub holds-true : (t : Bool) → from ≤ i → getD levels i 0 ≡ d → t ≡ clauseTrue T (ruleVars [] ρ) c (clauseAt ρ i) → t ≡ true → falseAmong (i + 1) ≡ not true
     unfolding falseTo
-    holds-true t e f s = test-in (clausesOf T ρ) (levelIs levels d) c i true t (eq-eqb (getD levels i 0) d e) f q ∙ ap not s
+    holds-true t l e f s = test-in (clausesOf T ρ) (levelFromOn levels d from) c i true t (and-both (le-leb from i l) (eq-eqb (getD levels i 0) d e)) f q ∙ ap not s
 
-    pub holds-out : (getD levels i 0 ≡ d → ⊥) → falseAt T ρ levels d c (i + 1) ≡ not true
+    pub holds-out : (getD levels i 0 ≡ d → ⊥) → falseAmong (i + 1) ≡ not true
     unfolding falseTo
-    holds-out e = test-out (clausesOf T ρ) (levelIs levels d) c i true (ne-eqb (getD levels i 0) d e) q
+    holds-out e = test-out (clausesOf T ρ) (levelFromOn levels d from) c i true (ap (λ (b : Bool). leb from i && b) (ne-eqb (getD levels i 0) d e) ∙ and-false (leb from i)) q
 
   -- one that does not
-  pub holds-false : (m i : ℕ) → i < m → (t : Bool) → getD levels i 0 ≡ d → t ≡ clauseTrue T (ruleVars [] ρ) c (clauseAt ρ i) → t ≡ false → falseAt T ρ levels d c m ≡ not false
-  holds-false m i l t e f s =
-      any-here m (λ j. levelIs levels d j && not (clauseTrue T (ruleVars [] ρ) c (clauseAt ρ j))) i l (and-both (eq-eqb (getD levels i 0) d e) (ap not (sym f ∙ s)))
+  pub holds-false : (m i : ℕ) → i < m → (t : Bool) → from ≤ i → getD levels i 0 ≡ d → t ≡ clauseTrue T (ruleVars [] ρ) c (clauseAt ρ i) → t ≡ false → falseAmong m ≡ not false
+  holds-false m i l t h e f s =
+      any-here m (λ j. levelFromOn levels d from j && not (clauseTrue T (ruleVars [] ρ) c (clauseAt ρ j))) i l
+      (and-both (and-both (le-leb from i h) (eq-eqb (getD levels i 0) d e)) (ap not (sym f ∙ s)))
+
+-- from the first on they are all
+pub holds-all : (T : Tables) (ρ : Rule) (levels : List ℕ) (d : ℕ) (c : List ℕ) (m : ℕ) → falseAmong T ρ levels d 0 c m ≡ falseAt T ρ levels d c m
+holds-all T ρ levels d c m =
+    any-ext m (λ i. levelFromOn levels d 0 i && not (clauseTrue T (ruleVars [] ρ) c (clauseAt ρ i))) (λ i. levelIs levels d i && not (clauseTrue T (ruleVars [] ρ) c (clauseAt ρ i)))
+    (λ i l. ap (λ (b : Bool). (b && levelIs levels d i) && not (clauseTrue T (ruleVars [] ρ) c (clauseAt ρ i))) (le-leb 0 i (omega arith)))
 
 -- ---- what is in a plan keeps evaluating within its slices
 

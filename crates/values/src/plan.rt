@@ -9,12 +9,12 @@ use syntax::nodes::MEMBER;
 use syntax::nodes::OE;
 use walks::kept;
 ghost use mathlib.Core.Path.{_≡_};
-ghost use Prim.Native.Nat.{_<_};
+ghost use Prim.Native.Nat.{_<_, _≤_};
 ghost use lib.ListN.{length, getD};
 ghost use Rattle.syntax.specs.code.Arena.{Low};
 ghost use Rattle.tables.specs.code.Layout.{Whole};
 ghost use Rattle.walks.specs.code.Kept.{choiceOf};
-ghost use Rattle.values.specs.code.Plan.{stepOf, nodeIn, planRoom, Runs, StepOf, SettlesBy, HoldsOf};
+ghost use Rattle.values.specs.code.Plan.{stepOf, nodeIn, planRoom, clausesAt, Runs, StepOf, SettlesBy, HoldsAmong, HoldsOf};
 
 // Where its parts begin: nodes at 0, then clauses, levels of clauses, first nodes of levels; how many nodes and clauses there are.
 pub const CLAUSES: usize = 256;
@@ -109,14 +109,13 @@ pub fn settle(t: &[u64], plan: &[u64], choice: u64, cache: &mut [u64], level: us
     }
 }
 
-// Whether the clauses of a level hold, where the cache has the values of that level.
-pub fn holds(plan: &[u64], cache: &[u64], level: usize) -> bool
-    requires { ⌜ Runs (now plan) × (length (now cache) ≡ planRoom) ⌝ }
-    ensures { λ r. ⌜ HoldsOf (now (plan .entry)) (now (cache .entry)) level r ⌝ }
+// Whether the clauses of a level among those from `from` up to `to` hold, where the cache has the values of that level.
+pub fn holds_among(plan: &[u64], cache: &[u64], level: usize, from: usize, to: usize) -> bool
+    requires { ⌜ Runs (now plan) × (length (now cache) ≡ planRoom) × (from ≤ to) × (to ≤ getD (now plan) clausesAt 0) ⌝ }
+    ensures { λ r. ⌜ HoldsAmong (now (plan .entry)) (now (cache .entry)) level from to r ⌝ }
 {
-    let many = plan[CLAUSE_COUNT] as usize;
-    let mut i = 0;
-    while i < many {
+    let mut i = from;
+    while i < to {
         if plan[LEVELS + i] as usize == level {
             let word = plan[CLAUSES + i];
             let first = (word % NODE_ROOM) as u32;
@@ -128,4 +127,12 @@ pub fn holds(plan: &[u64], cache: &[u64], level: usize) -> bool
         i += 1;
     }
     true
+}
+
+// Whether all the clauses of a level do.
+pub fn holds(plan: &[u64], cache: &[u64], level: usize) -> bool
+    requires { ⌜ Runs (now plan) × (length (now cache) ≡ planRoom) ⌝ }
+    ensures { λ r. ⌜ HoldsOf (now (plan .entry)) (now (cache .entry)) level r ⌝ }
+{
+    holds_among(plan, cache, level, 0, plan[CLAUSE_COUNT] as usize)
 }

@@ -4,7 +4,10 @@ pub mod VerdictLaws
 pub mod RulingLaws
 pub mod SheetLaws
 pub mod LoadedLaws
+pub mod HeldLaws
+pub mod TablesLaws
 pub mod ParsedLaws
 pub mod TurnLaws
+pub mod CountedLaws
 pub mod JudgedLaws
 pub mod ReportLaws

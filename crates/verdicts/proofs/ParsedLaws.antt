@@ -46,32 +46,32 @@ module _ {s : Bytes} {ns ks vs : List ℕ} {o : Checked} {n root count : ℕ} (p
 
   -- The slices of an accepted one hold it, and the verdict along the order is its verdict.
   module _ (h : o ≡ Accepted) where
-    ok : refusal s ≡ none
-    ok = checked-none (refusal s) (sym (p .outcome) ∙ h)
+    pub parsed-accepts : refusal s ≡ none
+    parsed-accepts = checked-none (refusal s) (sym (p .outcome) ∙ h)
 
-    rule : RuleAt s ns n root ks vs count
-    rule = p .accepted ok
+    pub parsed-rule : RuleAt s ns n root ks vs count
+    parsed-rule = p .accepted parsed-accepts
 
-    rule-case : {ts : List ℕ} {T : Tables} → TablesAt ts T → Case ts ns n ks (take count vs) root T (rule .tree)
+    pub rule-case : {ts : List ℕ} {T : Tables} → TablesAt ts T → Case ts ns n ks (take count vs) root T (parsed-rule .tree)
     rule-case {T = T} H = record {
-      world = record { fits = H .sound .fits; words = H .words; kinds = rule .kinds; variables = rule .knows };
-      holds = rule .holds;
-      sorts = accepted-within T (H .sound) s (rule .tree) ok (rule .reads);
+      world = record { fits = H .sound .fits; words = H .words; kinds = parsed-rule .kinds; variables = parsed-rule .knows };
+      holds = parsed-rule .holds;
+      sorts = accepted-within T (H .sound) s (parsed-rule .tree) parsed-accepts (parsed-rule .reads);
     }
 
     pub parsed-lent : {ts : List ℕ} → Loaded ts → length ns ≡ 256 → length ks ≡ 256 → length vs ≡ 8 → Lent ts ns n ks (take count vs) root
     parsed-lent L ln lk lv = record {
       ready = record {
         whole = ap length (L .holds .words) ∙ length-flat (L .tables);
-        tidy = rule .tidy;
-        kinded = omega (arith, rule .tidy .fits);
-        below = rule .within;
+        tidy = parsed-rule .tidy;
+        kinded = omega (arith, parsed-rule .tidy .fits);
+        below = parsed-rule .within;
       };
-      small = omega (arith, rule .tidy .fits);
+      small = omega (arith, parsed-rule .tidy .fits);
       few = omega (arith, length-take-le count vs (omega (arith, parsed-few)), parsed-few);
-      nodes = rule .knows .below;
+      nodes = parsed-rule .knows .below;
       tables = L .tables;
-      rule = rule .tree;
+      rule = parsed-rule .tree;
       isCase = rule-case (L .holds);
     }
 
@@ -79,4 +79,4 @@ module _ {s : Bytes} {ns ks vs : List ℕ} {o : Checked} {n root count : ℕ} (p
         → ((T : Tables) (ρ : Rule) → Case ts ns n ks (take count vs) root T ρ → r ≡ orderVerdict T ρ order) → TablesAt ts T
         → r ≡ acceptedVerdict T (refusal s) s order
     unfolding acceptedVerdict treeVerdict
-    parsed-judged {T = T} order f H = rw (ok, rule .reads) (f T (rule .tree) (rule-case H))
+    parsed-judged {T = T} order f H = rw (parsed-accepts, parsed-rule .reads) (f T (parsed-rule .tree) (rule-case H))

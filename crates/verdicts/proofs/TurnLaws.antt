@@ -28,7 +28,7 @@ use Rattle.verdicts.proofs.ParsedLaws.{parsed-few}
 abbrev eight : List ℕ
 eight = 1 ∷ 2 ∷ 3 ∷ 4 ∷ 5 ∷ 6 ∷ 7 ∷ 8 ∷ []
 
-take-up : (n m i : ℕ) → n ≤ m → take n (upFrom i m) ≡ upFrom i n
+pub take-up : (n m i : ℕ) → n ≤ m → take n (upFrom i m) ≡ upFrom i n
 unfolding upFrom
 take-up zero m i h = refl
 take-up (suc n) zero i h = absurd (omega arith)

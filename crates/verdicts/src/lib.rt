@@ -2,6 +2,7 @@
 // Judging checks tables, rule, order, walks the choices, and writes the verdict as 26 bytes.
 use answers::Refusal;
 use answers::Written;
+use judging::walking;
 use rules::Checked;
 use rules::Parsed;
 use tables::Outcome as Read;
@@ -11,12 +12,12 @@ ghost use lib.ListN.{length};
 ghost use Rattle.rules.specs.declared.Checked.the-variants.{Accepted as AcceptedRule};
 ghost use Rattle.answers.specs.Answer.{lent};
 ghost use Rattle.verdicts.specs.Verdict.{Gives, verdictOf, judged};
-ghost use Rattle.verdicts.specs.code.Judging.{Loaded, SomeRule, JudgesOn, JudgesInTurn, JudgesParsed};
+ghost use Rattle.verdicts.specs.code.Judging.{Loaded, SomeRule, KnownCounts, JudgesOn, JudgesInTurn, JudgesParsed};
 ghost use Rattle.answers.specs.Written.{Answers};
 ghost use Rattle.verdicts.specs.code.Writing.{PutsVerdict};
 
-mod ruling;
-mod sheet;
+pub mod ruling;
+pub mod sheet;
 
 // What judging says: a refusal, or the verdict's word.
 pub enum Outcome {
@@ -74,6 +75,23 @@ pub fn in_turn(words: &[u64], rule: &[u8]) -> Verdict
     let count = parsed.count;
     let order = [1u8, 2, 3, 4, 5, 6, 7, 8];
     of_parsed(words, parsed, &order[..count])
+}
+
+// The verdict along 1, 2, .. of a rule whose counts are known already. That is always an order, so nothing tests it.
+pub fn counted_in_turn(words: &[u64], rule: &[u8], full: u64, breaking: u64) -> Verdict
+    requires { ⌜ Loaded (now words) ⌝ }
+    requires { ⌜ KnownCounts (now words) (now rule) full breaking ⌝ }
+    ensures { λ r. ⌜ JudgesInTurn (now (words .entry)) (now (rule .entry)) r ⌝ }
+{
+    let parsed = rules::parse(rule);
+    let count = parsed.count;
+    let variables = [0u8, 1, 2, 3, 4, 5, 6, 7];
+    let listed = &variables[..count];
+    let outcome = parsed.outcome;
+    match outcome {
+        Checked::Refused(e) => ruling::refused(e),
+        Checked::Accepted => ruling::ruled(walking::known(words, parsed, listed, full, breaking)),
+    }
 }
 
 // Judging checks tables, rule, order.

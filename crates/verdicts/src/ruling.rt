@@ -36,7 +36,7 @@ fn outcome(full: u64, breaking: u64) -> Outcome
     Outcome::Held
 }
 
-fn ruled(tally: Tally) -> Verdict
+pub fn ruled(tally: Tally) -> Verdict
     requires { ⌜ (tally .breaking ≤ tally .full) × (tally .full ≤ 64 ^ 8) ⌝ }
     ensures { λ r. ⌜ r ≡ ruledBy tally ⌝ }
 {

@@ -8,7 +8,7 @@ ghost use Rattle.verdicts.specs.Verdict.{written};
 ghost use Rattle.verdicts.specs.code.Writing.{Behind};
 
 // Writes a word behind the first n bytes, as 8 bytes, lowest byte first.
-fn word_behind(n: usize, w: u64, out: &mut [u8])
+pub fn word_behind(n: usize, w: u64, out: &mut [u8])
     requires { ⌜ n + 8 ≤ length (now out) ⌝ }
     ensures { λ _. ⌜ Behind n (lowestFirst 8 w) (now (out .entry)) (now (out .exit)) ⌝ }
 {

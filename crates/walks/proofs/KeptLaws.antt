@@ -26,25 +26,25 @@ module _ (kept : List ℕ) (k full breaking choice : ℕ) (fits : 3 * k + 2 < le
   abbrev two : List ℕ
   two = set one (3 * k + 1) breaking
 
-  written-length : length (written kept k full breaking choice) ≡ length kept
+  pub written-length : length (written kept k full breaking choice) ≡ length kept
   written-length = simp length-set refl
 
-  full-there : getD (written kept k full breaking choice) (3 * k) 0 ≡ full + 1
+  pub full-there : getD (written kept k full breaking choice) (3 * k) 0 ≡ full + 1
   full-there =
       getD-set-other two (3 * k + 2) (3 * k) choice 0 (λ e. omega arith) ∙ getD-set-other one (3 * k + 1) (3 * k) breaking 0 (λ e. omega arith)
       ∙ getD-set-same kept (3 * k) (full + 1) 0 (omega arith)
 
-  breaking-there : getD (written kept k full breaking choice) (3 * k + 1) 0 ≡ breaking
+  pub breaking-there : getD (written kept k full breaking choice) (3 * k + 1) 0 ≡ breaking
   breaking-there =
       getD-set-other two (3 * k + 2) (3 * k + 1) choice 0 (λ e. omega arith)
       ∙ getD-set-same one (3 * k + 1) breaking 0 (omega (arith, length-set kept (3 * k) (full + 1)))
 
-  choice-there : getD (written kept k full breaking choice) (3 * k + 2) 0 ≡ choice
+  pub choice-there : getD (written kept k full breaking choice) (3 * k + 2) 0 ≡ choice
   choice-there =
       getD-set-same two (3 * k + 2) choice 0 (omega (arith, length-set kept (3 * k) (full + 1), length-set one (3 * k + 1) breaking))
 
   -- the other slots stay
-  other-stays : (j i : ℕ) → i < 3 → (j ≡ k → ⊥) → getD (written kept k full breaking choice) (3 * j + i) 0 ≡ getD kept (3 * j + i) 0
+  pub other-stays : (j i : ℕ) → i < 3 → (j ≡ k → ⊥) → getD (written kept k full breaking choice) (3 * j + i) 0 ≡ getD kept (3 * j + i) 0
   other-stays j i l ne =
       getD-set-other two (3 * k + 2) (3 * j + i) choice 0 (λ e. ne (omega arith))
       ∙ getD-set-other one (3 * k + 1) (3 * j + i) breaking 0 (λ e. ne (omega arith))

@@ -79,7 +79,7 @@ pub fn spread(word: u64) -> u64
 
 // Whether there is such a slot, and it was written, under that key.
 pub fn hit(kept: &[u64], slot: usize, key: u64) -> bool
-    requires { ⌜ slot < 1024 ⌝ }
+    requires { ⌜ slot < 65536 ⌝ }
     ensures { λ r. ⌜ Hit (now (kept .entry)) slot key r ⌝ }
 {
     let at = ENTRY * slot;
@@ -94,7 +94,7 @@ pub fn hit(kept: &[u64], slot: usize, key: u64) -> bool
 
 // What the slot has, which was written.
 pub fn taken(kept: &[u64], slot: usize) -> Counts
-    requires { ⌜ (slot < 1024) × (3 * slot + 2 < length (now kept)) × (0 < getD (now kept) (3 * slot) 0) ⌝ }
+    requires { ⌜ (slot < 65536) × (3 * slot + 2 < length (now kept)) × (0 < getD (now kept) (3 * slot) 0) ⌝ }
     ensures { λ r. ⌜ (r .full ≡ getD (now (kept .entry)) (3 * slot) 0 - 1) × (r .breaking ≡ getD (now (kept .entry)) (3 * slot + 1) 0) ⌝ }
 {
     let at = ENTRY * slot;
@@ -105,7 +105,7 @@ pub fn taken(kept: &[u64], slot: usize) -> Counts
 
 // An entry is written, where there is such a slot.
 pub fn keep(kept: &mut [u64], slot: usize, counts: Counts, key: u64)
-    requires { ⌜ (slot < 1024) × (counts .full ≤ 64 ^ 8) ⌝ }
+    requires { ⌜ (slot < 65536) × (counts .full ≤ 64 ^ 8) ⌝ }
     ensures { λ _. ⌜ Keeping (now (kept .entry)) (now (kept .exit)) slot (counts .full) (counts .breaking) key ⌝ }
 {
     let at = ENTRY * slot;

@@ -7,7 +7,7 @@ use lib.ListN.{length, take, drop}
 use Rattle.tables.specs.Tables.{Tables}
 use Rattle.syntax.specs.Rule.{Rule, ruleVars}
 use Rattle.rules.specs.declared.Parsed.{Parsed}
-use Rattle.walks.specs.Choices.{ifBreaks, nothingChosen}
+use Rattle.walks.specs.Choices.{each, ifBreaks, nothingChosen}
 use Rattle.walks.specs.Meaning.{Once}
 use Rattle.walks.specs.Walk.{walk}
 use Rattle.walks.specs.declared.Tally.{Tally}
@@ -35,10 +35,17 @@ pub record Along (ts plan : List ℕ) (T : Tables) (ρ : Rule) (order : List ℕ
   pub once : Once (length (ruleVars [] ρ)) (layout .order)
   pub begins : take e (layout .order) ≡ take e order
 
+-- It was laid of the parsed rule's own nodes and variables.
+pub record OwnNodes (p : Parsed) (y : Layout) : Type 0 where
+  pub nodes : y .nodes ≡ p .nodes
+  pub many : y .n ≡ p .n
+  pub vars : y .vars ≡ varsOf p
+
 -- So it is whatever the slices hold.
 pub record Lays (ts : List ℕ) (p : Parsed) (order : List ℕ) (e : ℕ) (plan : List ℕ) : Type 0 where
   pub long : length plan ≡ planLength
   pub along : (T : Tables) (ρ : Rule) → CaseBy ts p T ρ → Along ts plan T ρ order e
+  pub own : (T : Tables) (ρ : Rule) (C : CaseBy ts p T ρ) → OwnNodes p (along T ρ C .layout)
 
 -- The cache, what is kept and the mode go with the plan and a choice of the first d variables.
 pub record Ready (ts plan : List ℕ) (T : Tables) (ρ : Rule) (order : List ℕ) (e d mode choice : ℕ) (cache kept : List ℕ) : Type 0 where
@@ -61,6 +68,12 @@ Descends ts p order d r =
     (T : Tables) (ρ : Rule) → CaseBy ts p T ρ → 0 < walk 64 (inSet T (ruleVars [] ρ)) (ifBreaks (breaksAny (clausesOf T ρ))) order (choiceOf noChoice)
     → Descending (inSet T (ruleVars [] ρ)) (breaksAny (clausesOf T ρ)) order (choiceOf noChoice) d (choiceOf r)
 
--- Whatever the slices hold, r is what the walk along the caller's order gives, from nothing chosen.
+-- Whatever the slices hold, these are the counts of the walk along the caller's order;
+abbrev pub CountsBy : List ℕ → Parsed → List ℕ → ℕ → ℕ → Type 0
+CountsBy ts p order full breaking =
+    (T : Tables) (ρ : Rule) → CaseBy ts p T ρ
+    → (full ≡ walk 64 (inSet T (ruleVars [] ρ)) each order nothingChosen) × (breaking ≡ walk 64 (inSet T (ruleVars [] ρ)) (ifBreaks (breaks T (ruleVars [] ρ) ρ)) order nothingChosen)
+
+-- r is what that walk gives, from nothing chosen.
 abbrev pub WalksBy : List ℕ → Parsed → List ℕ → Tally → Type 0
 WalksBy ts p order r = (T : Tables) (ρ : Rule) → CaseBy ts p T ρ → Walked (inSet T (ruleVars [] ρ)) (breaks T (ruleVars [] ρ) ρ) order nothingChosen r

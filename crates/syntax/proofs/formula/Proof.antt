@@ -12,7 +12,7 @@ use Rattle.syntax.proofs.formula.Statement.{statement}
 use Rattle.syntax.proofs.formula.Tie as tie
 
 read-formula-requires : tie.Need-read-formula-requires
-read-formula-requires c κs = (record { room = c .before .before .before .before .pre .0; within = omega arith; count = omega arith; tidy = tidy-none _ (c .before .before .before .before .pre .1); choices = []; knows = knows-none }, (search needs, omega arith))
+read-formula-requires c κs = (record { room = c .before .before .before .before .pre .0; within = omega arith; count = omega (arith, c .before .before .before .before .pre); tidy = tidy-none _ (c .before .before .before .before .pre .1); choices = []; knows = knows-none }, (search needs, omega arith))
 
 returns : tie.Need-returns
 returns c =

@@ -18,7 +18,7 @@ slice-aggregate-read-rule-2 : tie.Need-slice-aggregate-read-rule-2
 slice-aggregate-read-rule-2 c = sym (length-take-le (length (now (c .before .before .before .before .before .args .s))) (replicate clauseRoom 0) (omega (arith, c .before .before .before .before .before .pre)))
 
 read-rule-requires : tie.Need-read-rule-requires
-read-rule-requires c κs = record { room = c .before .before .before .before .before .pre .0; within = omega arith; count = omega arith; tidy = tidy-none _ (c .before .before .before .before .before .pre .1); choices = []; knows = knows-none }
+read-rule-requires c κs = record { room = c .before .before .before .before .before .pre .0; within = omega arith; count = omega (arith, c .before .before .before .before .before .pre); tidy = tidy-none _ (c .before .before .before .before .before .pre .1); choices = []; knows = knows-none }
 
 returns : tie.Need-returns
 unfolding ruleOf

@@ -20,6 +20,8 @@ use Rattle.syntax.specs.declared.tests.Clauses.{Clauses}
 use Rattle.syntax.specs.declared.tests.Clauses.the-variants.{Nothing as NoClause, Several}
 use Rattle.syntax.specs.declared.Whole.{Whole}
 use Rattle.syntax.specs.declared.Whole.the-variants.{Nothing as NoRoot, Root}
+use Rattle.syntax.specs.declared.Listed.{Listed}
+use Rattle.syntax.specs.declared.Listed.the-variants.{Nothing as NoList, Clauses as Every}
 use Rattle.syntax.specs.code.Nodes.{oeOp, aoOp, firstPair, firstJoin, memberOp, opsEnd, bracketHead, choiceHead, nodeOf, indexRoom}
 
 -- Names.
@@ -124,11 +126,11 @@ pub record Knows (a : Arena) (vars : List ℕ) (σ : Choices) : Type 0 where
   pub holds : HoldsAll (a .nodes) vars σ
   pub below : (i : ℕ) → i < length vars → getD vars i 0 < a .n
 
--- What a reader is given: no more nodes than bytes were read, and the nodes of some choices.
+-- What a reader is given: room for a node more for each byte that is left, and the nodes of some choices.
 pub record Readable (s : Bytes) (at : ℕ) (vars : List ℕ) (a : Arena) : Type 0 where
   pub room : length s ≤ length (a .nodes)
   pub within : at ≤ length s
-  pub count : a .n ≤ at
+  pub count : a .n + length s ≤ length (a .nodes) + at
   pub tidy : Tidy (a .nodes) (a .n)
   pub choices : Choices
   pub knows : Knows a vars choices
@@ -264,3 +266,23 @@ pub record Rooted (s ns : List ℕ) (k n : ℕ) (o : Option Rule) : Type 0 where
 pub data Reads (s ns : List ℕ) : Whole → Option Rule → Type 0 where
   noRule : {o : Option Rule} → o ≡ none → Reads s ns NoRoot o
   someRule : {k n : ℕ} {o : Option Rule} → Rooted s ns k n o → Reads s ns (Root k n) o
+
+-- The rule of a whole text by its clauses: the list has the nodes of the c clauses, behind the nodes of a.
+pub record Listing (s : Bytes) (a b : Arena) (list : List ℕ) (c : ℕ) (o : Option Rule) : Type 0 where
+  pub before : List Clause
+  pub final : Clause
+  pub is : o ≡ some (graft before (last final))
+  pub listed : ClauseList b list c before final
+  pub below : (i : ℕ) → i < c → getD list i 0 < b .n
+  pub many : c ≤ length list
+  pub count : b .n + c ≤ a .n + length s + 1
+  pub stays : Stays a b
+  pub tidy : Tidy (b .nodes) (b .n)
+
+pub data Lists (s : Bytes) (a : Arena) (ns list : List ℕ) : Listed → Option Rule → Type 0 where
+  noList : {o : Option Rule} → o ≡ none → Lists s a ns list NoList o
+  someList : {c n : ℕ} {o : Option Rule} → Listing s a (mk ns n) list c o → Lists s a ns list (Every c n) o
+
+-- The rule of the first c clauses of a list is at a root.
+pub data Together (a : Arena) (list : List ℕ) (c : ℕ) (ns : List ℕ) : Whole → Type 0 where
+  together : {k n : ℕ} → JoinedAt a list c (mk ns n) k → Together a list c ns (Root k n)

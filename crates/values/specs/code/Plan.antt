@@ -4,6 +4,7 @@ use mathlib.Core.Path.{_≡_}
 use mathlib.Core.Bool.{Bool, not, _&&_}
 use mathlib.Core.List.{List, []}
 use Prim.Native.Nat.{ℕ, _+_, _*_, _/_, _%_, _<_, _≤_}
+use lib.Dec.{leb}
 use lib.ListN.{length, getD, drop}
 use Rattle.words.specs.Words.{anyTo}
 use Rattle.tables.specs.Tables.{Tables}
@@ -112,7 +113,17 @@ SettlesBy ts plan choice d before after =
 abbrev pub falseAt : Tables → Rule → List ℕ → ℕ → List ℕ → ℕ → Bool
 falseAt T ρ levels d c m = anyTo m (λ i. levelIs levels d i && not (clauseTrue T (ruleVars [] ρ) c (clauseAt ρ i)))
 
--- r says whether the clauses of a level hold, where the cache has the values of their terms.
+-- The clauses of the level from the one numbered `from` on.
+abbrev pub levelFromOn : List ℕ → ℕ → ℕ → ℕ → Bool
+levelFromOn levels d from i = leb from i && levelIs levels d i
+
+-- r says whether those of them that stand before `to` hold, where the cache has the values of their terms; whether all of the level do.
+abbrev pub HoldsAmong : List ℕ → List ℕ → ℕ → ℕ → ℕ → Bool → Type 0
+HoldsAmong plan cache d from to r =
+    (ns : List ℕ) (n : ℕ) (ρ : Rule) → ClausesIn plan ns n ρ → (T : Tables) (c : List ℕ)
+    → ((i : ℕ) → i < clauseCount ρ → getD (drop levelsFrom plan) i 0 ≡ d → ValuedIn ns n cache T (ruleVars [] ρ) c (clauseNames (ruleVars [] ρ) (clauseAt ρ i)))
+    → anyTo to (λ i. levelFromOn (drop levelsFrom plan) d from i && not (clauseTrue T (ruleVars [] ρ) c (clauseAt ρ i))) ≡ not r
+
 abbrev pub HoldsOf : List ℕ → List ℕ → ℕ → Bool → Type 0
 HoldsOf plan cache d r =
     (ns : List ℕ) (n : ℕ) (ρ : Rule) → ClausesIn plan ns n ρ → (T : Tables) (c : List ℕ)

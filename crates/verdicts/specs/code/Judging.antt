@@ -2,19 +2,20 @@
 -- Internal: contracts of entry points do not speak of it. Assumes nothing.
 use mathlib.Core.Path.{_≡_}
 use mathlib.Core.List.{List}
+use mathlib.Core.Option.{some}
 use Prim.Native.Nat.{ℕ}
 use Rattle.tables.specs.Tables.{Tables}
 use Rattle.tables.specs.Flat.{flat}
 use Rattle.tables.specs.Accepted.{Sound}
 use Rattle.syntax.specs.Bytes.{Bytes}
-use Rattle.syntax.specs.Rule.{Rule}
+use Rattle.syntax.specs.Rule.{Rule, ruleOf}
 use Rattle.rules.specs.Accept.{refusal}
 use Rattle.rules.specs.declared.Parsed.{Parsed}
 use Rattle.rules.specs.code.Parsed.{Parses}
 use Rattle.walks.specs.declared.Tally.{Tally}
 use Rattle.walks.specs.Share.{shareOf}
 use Rattle.judging.specs.code.Lent.{CaseBy}
-use Rattle.verdicts.specs.Verdict.{outcomeOf, orderVerdict, acceptedVerdict, turnVerdict}
+use Rattle.verdicts.specs.Verdict.{outcomeOf, fullCount, breakingCount, orderVerdict, acceptedVerdict, turnVerdict}
 use Rattle.verdicts.specs.declared.Verdict.{Verdict}
 
 -- The verdict of a tally.
@@ -45,6 +46,11 @@ ParsedFrom s p = Parses s (p .nodes) (p .kinds) (p .vars) (p .outcome) (p .n) (p
 pub record SomeRule (p : Parsed) : Type 0 where
   pub text : Bytes
   pub parses : ParsedFrom text p
+
+-- Whatever tables the words hold, these are the counts of the text's rule, if it is one.
+abbrev pub KnownCounts : List ℕ → Bytes → ℕ → ℕ → Type 0
+KnownCounts ts rule full breaking =
+    (T : Tables) → TablesAt ts T → (κ : Rule) → ruleOf rule ≡ some κ → (full ≡ fullCount T κ) × (breaking ≡ breakingCount T κ)
 
 -- Whatever tables and rule the slices hold, the verdict r is that of the order.
 abbrev pub RulesOn : List ℕ → Parsed → List ℕ → Verdict → Type 0

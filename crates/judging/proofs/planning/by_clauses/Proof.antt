@@ -17,13 +17,13 @@ use Rattle.judging.proofs.planning.by_clauses.Statement.{statement}
 use Rattle.judging.proofs.planning.by_clauses.Tie as tie
 
 abbrev Inv-loop : tie.InvT-loop
-Inv-loop plan scopes many d found₀ i₀ found i = (i ≤ many) × (found < 2 ^ 64) × ((j : ℕ) → j < i → d < getD (drop levelsFrom plan) j 0 → Covers found (has (getD scopes j 0)))
+Inv-loop plan scopes from to d found₀ i₀ found i = (found < 2 ^ 64) × ((j : ℕ) → from ≤ j → j < i → d < getD (drop levelsFrom plan) j 0 → Covers found (has (getD scopes j 0)))
 
 abbrev μ-loop : tie.MeasureT-loop
-μ-loop plan scopes many d found₀ i₀ found i = many - i
+μ-loop plan scopes from to d found₀ i₀ found i = to - i
 
 loop-holds : tie.Need-loop-holds Inv-loop μ-loop
-loop-holds c = (omega arith, omega arith, λ j l k. absurd (omega arith))
+loop-holds c = (omega arith, λ j b l k. absurd (omega arith))
 
 add-if1 : tie.Need-add-if1 Inv-loop μ-loop
 add-if1 c = omega (arith, c .before .before .before .before .pre .2, c .loop-test .taken)
@@ -62,29 +62,27 @@ loop-again c =
     (λ h.
     let fit : w < 2 ^ 64 = omega (arith, h .1 .given (c .before .before .before .loop .i)) in
     let e = h .3 ∙ h .2 .ensures in (
-      omega (arith, c .before .before .loop-test .taken),
       joined-small (c .before .before .before .loop .found) w (c .if1 .found) e,
-      λ j l k.
+      λ j b l k.
           let at-most : j ≤ c .before .before .before .loop .i = omega arith in
           ⊎-elim
           (λ (q : j ≡ c .before .before .before .loop .i). rw q (joined-right (c .before .before .before .loop .found) w (c .if1 .found) e fit))
-          (λ (q : j < c .before .before .before .loop .i). joined-left (c .before .before .before .loop .found) w (c .if1 .found) (has (getD (at-start .args .scopes .now) j 0)) e (c .before .before .before .loop .inv .1) (c .before .before .before .loop .inv .2 j q k))
+          (λ (q : j < c .before .before .before .loop .i). joined-left (c .before .before .before .loop .found) w (c .if1 .found) (has (getD (at-start .args .scopes .now) j 0)) e (c .before .before .before .loop .inv .0) (c .before .before .before .loop .inv .1 j b q k))
           (eq-or-lt-of-le at-most),
     ))
     (λ h. (
-      omega (arith, c .before .before .loop-test .taken),
-      rw (h .1) (c .before .before .before .loop .inv .1),
-      λ j l k.
+      rw (h .1) (c .before .before .before .loop .inv .0),
+      λ j b l k.
           let at-most : j ≤ c .before .before .before .loop .i = omega arith in
           ⊎-elim
           (λ (q : j ≡ c .before .before .before .loop .i). let high : at-start .args .d < getD (drop levelsFrom P) (c .before .before .before .loop .i) 0 = rw q at k in absurd (omega (arith, h .0 .left, level)))
-          (λ (q : j < c .before .before .before .loop .i). rw (h .1) (c .before .before .before .loop .inv .2 j q k))
+          (λ (q : j < c .before .before .before .loop .i). rw (h .1) (c .before .before .before .loop .inv .1 j b q k))
           (eq-or-lt-of-le at-most),
     ))
     (c .if1 .came)
 
 returns : tie.Need-returns Inv-loop μ-loop
-returns c = (c .before .loop .inv .1, λ j l k. c .before .loop .inv .2 j (omega (arith, c .loop-test .left)) k)
+returns c = (c .before .loop .inv .0, λ j b l k. c .before .loop .inv .1 j b (omega (arith, c .loop-test .left)) k)
 
 pub by-clauses-spec : {M : Type 1} → statement M
 by-clauses-spec =

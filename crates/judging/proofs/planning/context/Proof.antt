@@ -11,7 +11,7 @@ use Rattle.judging.proofs.planning.context.Tie as tie
 returns : tie.Need-returns
 returns c =
     let at-start = c .before .before .before .before .before in
-    record { sets = λ j l m. absurd (omega (arith, c .if1 .taken)); clauses = λ h i l m. absurd (omega (arith, c .if1 .taken, at-start .pre .6 i l, getD-drop levelsFrom (at-start .args .plan .now) i 0)) }
+    record { sets = λ j l m. absurd (omega (arith, c .if1 .taken)); clauses = λ h i b l m. absurd (omega (arith, c .if1 .taken, at-start .pre .6 i l, getD-drop levelsFrom (at-start .args .plan .now) i 0)) }
 
 returns-2 : tie.Need-returns-2
 returns-2 c = context-less _ _ _ _ _ _ (c .before .by-sets .result) (c .if2 .taken) (c .before .by-sets .ensures .1)

@@ -142,7 +142,7 @@ read-formula-read-formula-requires t c κs =
         record {
           room = omega (arith, at-start .pre .1 .0 .room, f .stays .size);
           within = f .end;
-          count = omega (arith, at-start .pre .1 .0 .count, f .count);
+          count = omega (arith, at-start .pre .1 .0 .count, f .count, f .stays .size);
           tidy = f .tidy;
           choices = at-start .pre .1 .0 .choices ++ (f .thing ∷ []);
           knows = knows-more (now (at-start .args .vars)) (at-start .args .k) (at-start .pre .1 .0 .choices) l (at-start .pre .1 .0 .knows) f;

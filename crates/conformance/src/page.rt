@@ -1,0 +1,80 @@
+// The verdict on a page, printed from the bytes that the tracker's call writes, as `page T PAGE` asks for it.
+// A line is its word, its counts, its share and its choice; the page has walks in the place of the last two.
+use crate::fields::print_bytes;
+use libc::STDOUT_FILENO;
+ghost use Prim.Native.Nat.{_+_, _≤_};
+ghost use lib.ListN.{length};
+
+// The most lines, the bytes before their verdicts, those of a verdict, and of all together.
+const LINES: usize = 32;
+
+const HEAD: usize = 18;
+
+const VERDICT: usize = 26;
+
+pub const PAGE_ROOM: usize = HEAD + LINES * VERDICT;
+
+// Prints a page that has n bytes.
+pub fn print_page(out: &[u8], n: usize)
+    requires { ⌜ 850 ≤ length (now out) ⌝ }
+{
+    print_counts(out, 0, b" ");
+    io::write_all(STDOUT_FILENO, b" ");
+    io::print_decimal(STDOUT_FILENO, wide(out[HEAD - 1]));
+    let mut k = 0;
+    while k < LINES {
+        let at = HEAD + VERDICT * k;
+        if n <= at {
+            return;
+        }
+        io::write_all(STDOUT_FILENO, b" ");
+        print_verdict(out, at);
+        k += 1;
+    }
+}
+
+// Prints the verdict that stands from `at` on.
+fn print_verdict(out: &[u8], at: usize)
+    requires { ⌜ at + 26 ≤ length (now out) ⌝ }
+{
+    print_counts(out, at, b":");
+    io::write_all(STDOUT_FILENO, b":");
+    io::print_decimal(STDOUT_FILENO, wide(out[at + 25]));
+    io::write_all(STDOUT_FILENO, b":");
+    let from = at + 17;
+    let to = at + 25;
+    print_bytes(&out[from..to]);
+}
+
+// Prints the word, full and breaking that stand from `at` on, with that sign between them.
+fn print_counts(out: &[u8], at: usize, sign: &[u8])
+    requires { ⌜ at + 17 ≤ length (now out) ⌝ }
+{
+    match out[at] {
+        0 => io::write_all(STDOUT_FILENO, b"held"),
+        1 => io::write_all(STDOUT_FILENO, b"idle"),
+        _ => io::write_all(STDOUT_FILENO, b"broken"),
+    }
+    ;
+    io::write_all(STDOUT_FILENO, sign);
+    io::print_decimal(STDOUT_FILENO, word(out, at + 1));
+    io::write_all(STDOUT_FILENO, sign);
+    io::print_decimal(STDOUT_FILENO, word(out, at + 9));
+}
+
+// The word whose lowest byte stands at `at`.
+fn word(out: &[u8], at: usize) -> u64
+    requires { ⌜ at + 8 ≤ length (now out) ⌝ }
+{
+    let mut w: u64 = 0;
+    let mut i = 8;
+    while 0 < i {
+        i -= 1;
+        w = (w << 8) | wide(out[at + i]);
+    }
+    w
+}
+
+fn wide(x: u8) -> u64 {
+    x as u64
+}

@@ -1,0 +1,93 @@
+-- The words of sound tables hold no other tables.
+-- Assumes nothing.
+use mathlib.Core.Path.{_≡_, refl, sym, ap, ap₂, _∙_}
+use mathlib.Core.Bool.{true}
+use mathlib.Core.List.{List, [], _∷_, map}
+use Prim.Native.Nat.{ℕ, _+_, _*_, _<_, _≤_}
+use native.Mathlib.Omega.{arith}
+use lib.Dec.{eqb}
+use lib.ListN.{length, getD, length-map}
+use lib.Seq.{ext-getD}
+use borrow.Author.Tests.{eq-eqb, eqb-true}
+use Rattle.words.specs.Words.{has, itemOf}
+use Rattle.words.proofs.WordsLaws.{has-item}
+use Rattle.tables.specs.Tables.{Session, Tables, sessionUsers, sessionRoles}
+use Rattle.tables.specs.Flat.{room, counts, sections, flat}
+use Rattle.tables.specs.Accepted.{Fits, Known, Every, Sound}
+use Rattle.tables.proofs.FlatLaws.{flat-at}
+use Rattle.tables.proofs.SectionsLaws.{product-few}
+use Rattle.verdicts.specs.code.Judging.{TablesAt, Loaded}
+
+-- An item's word is that of no other number.
+item-one : (x y : ℕ) → y < 64 → itemOf x ≡ itemOf y → x ≡ y
+item-one x y l e =
+    let q : eqb y x ≡ true = sym (has-item x y l) ∙ ap (λ (w : ℕ). has w y) e ∙ has-item y y l ∙ eq-eqb y y refl in
+    sym (eqb-true y x q)
+
+-- Sessions are known by their users' words and their roles.
+sessions-one : (users roles : ℕ) (ss us : List Session) → users ≤ 64 → Every (Known users roles) us
+    → map itemOf (map (λ s. s .user) ss) ≡ map itemOf (map (λ s. s .user) us) → map (λ s. s .active) ss ≡ map (λ s. s .active) us → ss ≡ us
+sessions-one users roles [] [] l k e f = refl
+sessions-one users roles [] (u ∷ us) l k e f = absurd (omega (arith, ap length f))
+sessions-one users roles (s ∷ ss) [] l k e f = absurd (omega (arith, ap length f))
+sessions-one users roles (s ∷ ss) (u ∷ us) l k e f =
+    let words : itemOf (s .user) ≡ itemOf (u .user) = cc in
+    let user : s .user ≡ u .user = item-one (s .user) (u .user) (omega (arith, k .0 .user)) words in
+    let active : s .active ≡ u .active = cc in
+    let rest : map itemOf (map (λ t. t .user) ss) ≡ map itemOf (map (λ t. t .user) us) = cc in
+    let rest′ : map (λ t. t .active) ss ≡ map (λ t. t .active) us = cc in
+    let same : _≡_ {A = Session} (record { user = s .user; active = s .active }) (record { user = u .user; active = u .active }) = rw (user, active) in
+    ap₂ (λ (t : Session) (ts : List Session). t ∷ ts) same (sessions-one users roles ss us l (k .1) rest rest′)
+
+-- Tables are all of their parts.
+abbrev again : Tables → Tables
+again T = record {
+  roleRows = T .roleRows;
+  userRows = T .userRows;
+  sessions = T .sessions;
+  operationCount = T .operationCount;
+  objectCount = T .objectCount;
+  permissionRows = T .permissionRows;
+  cr = T .cr;
+  cu = T .cu;
+  cp = T .cp;
+}
+
+module _ (T U : Tables) (e : flat T ≡ flat U) where
+  word-one : (k i : ℕ) → i < room → getD (getD (sections T) k []) i 0 ≡ getD (getD (sections U) k []) i 0
+  word-one k i l = sym (flat-at T k i l) ∙ ap (λ (ws : List ℕ). getD ws (room * k + i) 0) e ∙ flat-at U k i l
+
+  count-one : (i : ℕ) → i < room → getD (counts T) i 0 ≡ getD (counts U) i 0
+  unfolding sections
+  count-one i l = word-one 0 i l
+
+  list-one : (k : ℕ) → length (getD (sections T) k []) ≤ room → length (getD (sections T) k []) ≡ length (getD (sections U) k [])
+      → getD (sections T) k [] ≡ getD (sections U) k []
+  list-one k l q = ext-getD 0 (getD (sections T) k []) (getD (sections U) k []) q (λ i h. word-one k i (omega arith))
+
+  tables-one : Fits T → Sound U → T ≡ U
+  unfolding sections counts
+  tables-one F S =
+      let held : length (T .permissionRows) ≤ 64 = rw (F .permissions) (product-few (F .operations) (F .objects)) in
+      let many : length (T .sessions) ≡ length (U .sessions) = count-one 2 (omega arith) in
+      let ut : length (map itemOf (sessionUsers T)) ≡ length (T .sessions) = length-map (sessionUsers T) itemOf ∙ length-map (T .sessions) (λ s. s .user) in
+      let uu : length (map itemOf (sessionUsers U)) ≡ length (U .sessions) = length-map (sessionUsers U) itemOf ∙ length-map (U .sessions) (λ s. s .user) in
+      let at : length (sessionRoles T) ≡ length (T .sessions) = length-map (T .sessions) (λ s. s .active) in
+      let au : length (sessionRoles U) ≡ length (U .sessions) = length-map (U .sessions) (λ s. s .active) in
+      let users : map itemOf (sessionUsers T) ≡ map itemOf (sessionUsers U) = list-one 3 (omega (arith, F .sessions)) (omega arith) in
+      let actives : sessionRoles T ≡ sessionRoles U = list-one 4 (omega (arith, F .sessions)) (omega arith) in
+      let roleRows : T .roleRows ≡ U .roleRows = list-one 1 (F .roles) (count-one 0 (omega arith)) in
+      let userRows : T .userRows ≡ U .userRows = list-one 2 (F .users) (count-one 1 (omega arith)) in
+      let sessions : T .sessions ≡ U .sessions = sessions-one (length (U .userRows)) (length (U .roleRows)) (T .sessions) (U .sessions) (S .fits .users) (S .bounded .sessions) users actives in
+      let operations : T .operationCount ≡ U .operationCount = count-one 3 (omega arith) in
+      let objects : T .objectCount ≡ U .objectCount = count-one 4 (omega arith) in
+      let permissions : T .permissionRows ≡ U .permissionRows = list-one 5 held (count-one 5 (omega arith)) in
+      let crs : T .cr ≡ U .cr = list-one 6 (F .crs) (count-one 6 (omega arith)) in
+      let cus : T .cu ≡ U .cu = list-one 7 (F .cus) (count-one 7 (omega arith)) in
+      let cps : T .cp ≡ U .cp = list-one 8 (F .cps) (count-one 8 (omega arith)) in
+      let same : again T ≡ again U = rw (roleRows, userRows, sessions, operations, objects, permissions, crs, cus, cps) in
+      same
+
+-- So whatever tables loaded words hold are sound.
+pub all-sound : {ts : List ℕ} (T : Tables) → Loaded ts → Fits T → ts ≡ flat T → TablesAt ts T
+all-sound T L F w = rw (tables-one T (L .tables) (sym w ∙ L .holds .words) F (L .holds .sound)) (L .holds)
