@@ -5,8 +5,9 @@
  *     cc -I include program.c target/staticlib/librcl2000.a
  *
  * A call takes byte slices, each as a pointer and a length, and returns one number: L, how many bytes it wrote to the
- * first of the lent output, or 65,536 times the number of a refusal. The other lent bytes keep their contents, and on
- * a refusal all of them do. The calls ask nothing of the bytes that they are handed: every input has its answer.
+ * first of the lent output, or 65,536 times the number of a refusal, to which judge_page adds the position of the line
+ * that it refuses. The other lent bytes keep their contents, and on a refusal all of them do. The calls ask nothing of
+ * the bytes that they are handed: every input has its answer.
  *
  * What a caller has to know:
  *
@@ -18,11 +19,13 @@
  *   still take some 20 to 100 ns for each full choice on a present machine, and there may be as many as 64 to the power of
  *   the number of variables: 16 million with four, 2.8e14 with eight, which takes months. A call cannot be interrupted.
  *   Whoever judges rules that others wrote counts the variables first (the `[` in the formula that reduce writes).
+ *   judge_page takes about what judge takes for its lines, and less where many lines choose alike.
  * - Stack. All memory comes from the stack of the thread that calls, at the most RCL2000_STACK_REDUCE,
- *   RCL2000_STACK_REBUILD and RCL2000_STACK_JUDGE bytes, whatever the input. (Measured and tested, not proved.)
+ *   RCL2000_STACK_REBUILD, RCL2000_STACK_JUDGE and RCL2000_STACK_JUDGE_PAGE bytes, whatever the input. (Measured and
+ *   tested, not proved.)
  * - Threads. No state is kept between calls or shared: any number of threads may call at once.
- * - Names. The archive defines the three names below and no other, and needs memcpy and memset. A program with a
- *   function of its own called reduce, rebuild or judge cannot link it.
+ * - Names. The archive defines the four names below and no other, and needs memcpy and memset. A program with a
+ *   function of its own called reduce, rebuild, judge or judge_page cannot link it.
  * - Machine. x86-64 Linux.
  */
 #ifndef RCL2000_H
@@ -35,16 +38,19 @@
 #include <stddef.h>
 #include <stdint.h>
 
-/* The most bytes that accepted tables, an accepted rule, and a formula of one have; the most variables. */
+/* The most bytes that accepted tables, an accepted rule, and a formula of one have; the most variables of a rule, and
+   lines of a page. */
 #define RCL2000_MAX_TABLES 3785
 #define RCL2000_MAX_RULE 256
 #define RCL2000_MAX_FORMULA 4096
 #define RCL2000_MAX_VARIABLES 8
+#define RCL2000_MAX_LINES 32
 
 /* The stack that each call takes at the most, in bytes. */
 #define RCL2000_STACK_REDUCE (16 * 1024)
 #define RCL2000_STACK_REBUILD (48 * 1024)
 #define RCL2000_STACK_JUDGE (112 * 1024)
+#define RCL2000_STACK_JUDGE_PAGE (240 * 1024)
 
 /* A verdict is 26 bytes: the word, full and breaking as numbers of 8 bytes, lowest byte first, the first breaking choice
    by variable, and the share in a hundred. Unused items of the choice, and the share of an idle rule, are 255. */
@@ -56,11 +62,24 @@
 #define RCL2000_VERDICT_SHARE 25
 #define RCL2000_NONE 255
 
+/* A verdict on a page is the page's word, full and breaking, as a verdict has them, and the number of walks, one for each quantifier part; then the
+   verdict on each line. */
+#define RCL2000_PAGE_HEAD 18
+#define RCL2000_PAGE_WORD 0
+#define RCL2000_PAGE_FULL 1
+#define RCL2000_PAGE_BREAKING 9
+#define RCL2000_PAGE_WALKS 17
+/* The length for so many lines, which is also where the verdict on the line behind them begins. */
+#define RCL2000_PAGE_LENGTH(lines) (RCL2000_PAGE_HEAD + RCL2000_VERDICT * (lines))
+
 /* The word of a verdict. An idle rule met nobody: that is not held. */
 enum rcl2000_word { RCL2000_HELD = 0, RCL2000_IDLE = 1, RCL2000_BROKEN = 2 };
 
 /* The refusal's number in what a call returned; 0 where it answered, and returned L. */
 #define RCL2000_REFUSAL(returned) ((uint32_t)(returned) >> 16)
+
+/* Where judge_page refused a line, its position, counted from 1; 0 for every other refusal. */
+#define RCL2000_POSITION(returned) ((uint32_t)(returned) & 0xffff)
 
 /* The refusals. Later versions add numbers, so one that is not listed is a refusal too. */
 enum rcl2000_refusal {
@@ -81,7 +100,8 @@ enum rcl2000_refusal {
     RCL2000_CHOICES = 15,          /* there are more than 8 variables */
     RCL2000_NO_RULES_FORMULA = 16, /* no accepted rule has this formula */
     RCL2000_SHORT_SHEET = 17,      /* the lent output is shorter than L */
-    RCL2000_ORDER = 18             /* the order does not list each variable once, after those that its set names */
+    RCL2000_ORDER = 18,            /* the order does not list each variable once, after those that its set names */
+    RCL2000_PAGE = 19              /* the page has no line or more than 32 */
 };
 
 #ifdef __cplusplus
@@ -98,6 +118,12 @@ uint32_t rebuild(const uint8_t *formula, size_t formula_length, uint8_t *out, si
    always serves. Refusals: 1 to 10, 11 to 15, 18, 17. */
 uint32_t judge(const uint8_t *tables, size_t tables_length, const uint8_t *rule, size_t rule_length,
                const uint8_t *order, size_t order_length, uint8_t *out, size_t out_length);
+
+/* The verdict on a page of 1 to 32 lines, RCL2000_PAGE_LENGTH(lines) bytes, each line judged in the order 1, 2, .. A line
+   ends at byte 10, the last one also where the page ends. Refusals: 1 to 10, 19, 11 to 15 of the first refused line, with
+   its position, 17. */
+uint32_t judge_page(const uint8_t *tables, size_t tables_length, const uint8_t *page, size_t page_length, uint8_t *out,
+                    size_t out_length);
 
 #ifdef __cplusplus
 }

@@ -32,8 +32,15 @@ const B: &[u8] = b"OE(OE(CR))@roles(OE(U))=>(AO(OE(CR))&roles(OE(U)))={}";
 /// One full choice, without variables, that breaks nothing.
 const HELD: [u8; 26] = *b"\0\x01\0\0\0\0\0\0\0\0\0\0\0\0\0\0\0\xff\xff\xff\xff\xff\xff\xff\xff\0";
 
+/// A page of which two lines choose alike, and what it gives on T: broken, 5 full, 1 breaking, 2 walks.
+const PAGE: &[u8] = b"|(roles(OE(U))&OE(CR))|<=1\n|CR|=1\n|(roles(OE(U))&OE(CR))|>0";
+const PAGE_HEAD: &[u8] = b"\x02\x05\0\0\0\0\0\0\0\x01\0\0\0\0\0\0\0\x02";
+
 /// The byte that fills a lent output before the call.
 const FILL: u8 = b'.';
+
+/// The length of a lent output: the longest answer below and some bytes more.
+const LENT: usize = 128;
 
 fn main() {
     let refused = |number: u32| (65_536 * number, &b""[..]);
@@ -49,14 +56,21 @@ fn main() {
     });
     holds("17", refused(17), |out| library::reduce(A, &mut out[..32]));
     // By what the requests after document 01 change, their archives are told apart: a junior role is
-    // accepted (N2), a senior one is 8; still to come: 4 for a mark of 2 (N6), a half in a hundred
-    // upward (N7).
+    // accepted (N2), a senior one is 8; a page (N3) has its counts and the position of a refused line;
+    // still to come: 4 for a mark of 2 (N6), a half in a hundred upward (N7).
     let (rule, eighth) = (b"roles(OE(U))={}", half_of_a_hundred_upward());
     holds("N2", (26, &HELD), |out| {
         library::judge(JUNIOR, b"U=U", &[], out)
     });
     holds("8", refused(8), |out| {
         library::judge(SENIOR, b"U=U", &[], out)
+    });
+    let alike = b"\0\x02\0\0\0\0\0\0\0\0\0\0\0\0\0\0\0\xff\xff\xff\xff\xff\xff\xff\xff\0";
+    let page = [PAGE_HEAD, broken, &HELD, alike].concat();
+    holds("N3", (96, &page), |out| library::judge_page(T, PAGE, out));
+    holds("19", refused(19), |out| library::judge_page(T, b"", out));
+    holds("a page's second line", (65_536 * 11 + 2, b""), |out| {
+        library::judge_page(T, b"U=U\n\nU=U\n", out)
     });
     holds("N6", refused(4), |out| {
         library::judge(MARK, A, &[1, 2], out)
@@ -77,7 +91,7 @@ fn half_of_a_hundred_upward() -> [u8; 26] {
 /// The call returns this number, and leaves these bytes and then what was there.
 fn holds(name: &str, expected: (u32, &[u8]), call: impl FnOnce(&mut [u8]) -> u32) {
     let (number, bytes) = expected;
-    let (mut out, mut after) = ([FILL; 64], [FILL; 64]);
+    let (mut out, mut after) = ([FILL; LENT], [FILL; LENT]);
     after[..bytes.len()].copy_from_slice(bytes);
     let reply = call(&mut out);
     if reply == number && out == after {

@@ -1,5 +1,8 @@
-//! Times the proved library beside the reference's fast modules, in the same run, and prints the
-//! tables of docs/BENCHMARKS.md. `bench ROUNDS` sets how many rounds each median is of.
+//! Times the proved library beside the reference's fast modules, in the same run, and pages beside
+//! calls of `judge`, and prints the tables of docs/BENCHMARKS.md. `bench ROUNDS` sets how many rounds
+//! each median is of; `bench ROUNDS pages` prints the table of the pages alone.
+
+mod pages;
 
 use std::hint::black_box;
 use std::time::{Duration, Instant};
@@ -38,21 +41,29 @@ fn main() {
     let rounds = std::env::args()
         .nth(1)
         .map_or(7, |text| text.parse().expect("a number"));
-    println!("| judge | tables | full choices | ours | fast | fast / ours | worst order |");
-    println!("|---|---|---|---|---|---|---|");
     let random = tables::full(&mut Random::new(1));
     let office = tables::office(&mut Random::new(1), 64);
     for plain in [&random, &office] {
         assert_eq!(plain.bytes().len(), 3_785, "the largest tables");
     }
+    if std::env::args().nth(2).as_deref() != Some("pages") {
+        rules_and_calls(&random, &office, rounds);
+    }
+    pages::table(&random, &office, rounds);
+}
+
+/// The tables of rules, and of the calls that walk nothing.
+fn rules_and_calls(random: &Plain, office: &Plain, rounds: usize) {
+    println!("| judge | tables | full choices | ours | fast | fast / ours | worst order |");
+    println!("|---|---|---|---|---|---|---|");
     let rules: Vec<&str> = PAPER.iter().chain(&COMMITTEE).copied().collect();
     for (name, rule) in NAMES.iter().zip(rules) {
-        judged(&format!("{name} | random"), rule, &random, rounds);
-        judged(&format!("{name} | office"), rule, &office, rounds);
+        judged(&format!("{name} | random"), rule, random, rounds);
+        judged(&format!("{name} | office"), rule, office, rounds);
     }
     println!("\n| call | ours | fast | ours / fast |");
     println!("|---|---|---|---|");
-    for (name, question) in others(&random) {
+    for (name, question) in others(random) {
         let (ours, fast, ratio) = beside(&question, rounds);
         println!(
             "| {name} | {} | {} | {ratio:.2} |",

@@ -1,16 +1,20 @@
 //! Calls of the proved library held against an expected answer, byte by byte.
 
-use rcl2000::Refusal;
+use rcl2000::PageRefusal;
+use reference::page::{FAST, PLAIN};
 use reference::protocol::{hex, FILL};
-use reference::Answer;
+use reference::Refused;
 
 use crate::random::Random;
 
+/// The bytes of an answer, or a refusal.
+pub type Expected = Result<Vec<u8>, Refused>;
+
 /// The number that the library gave, from what the crate makes of it.
-pub fn reply(answer: Result<usize, Refusal>) -> u32 {
+pub fn reply(answer: Result<usize, PageRefusal>) -> u32 {
     match answer {
         Ok(length) => length as u32,
-        Err(refusal) => 65_536 * refusal.number(),
+        Err(refused) => 65_536 * refused.refusal.number() + u32::from(refused.position),
     }
 }
 
@@ -20,6 +24,7 @@ pub enum Question {
     Reduce(Box<[u8]>),
     Rebuild(Box<[u8]>),
     Judge(Box<[u8]>, Box<[u8]>, Box<[u8]>),
+    JudgePage(Box<[u8]>, Box<[u8]>),
 }
 
 impl Question {
@@ -27,38 +32,54 @@ impl Question {
         Question::Judge(tables.into(), rule.into(), order.into())
     }
 
+    pub fn judge_page(tables: Vec<u8>, page: Vec<u8>) -> Question {
+        Question::JudgePage(tables.into(), page.into())
+    }
+
     /// The library's answer into lent bytes.
-    pub fn ask(&self, out: &mut [u8]) -> Result<usize, Refusal> {
-        match self {
+    pub fn ask(&self, out: &mut [u8]) -> Result<usize, PageRefusal> {
+        let answer = match self {
             Question::Reduce(rule) => rcl2000::reduce_into(rule, out),
             Question::Rebuild(formula) => rcl2000::rebuild_into(formula, out),
             Question::Judge(tables, rule, order) => rcl2000::judge_into(tables, rule, order, out),
-        }
+            Question::JudgePage(tables, page) => {
+                return rcl2000::judge_page_into(tables, page, out)
+            }
+        };
+        answer.map_err(PageRefusal::from)
     }
 
     /// The answer of the reference's fast modules.
-    pub fn fast(&self) -> Answer<Vec<u8>> {
-        match self {
+    pub fn fast(&self) -> Expected {
+        let answer = match self {
             Question::Reduce(rule) => reference::fast::reduce(rule),
             Question::Rebuild(formula) => reference::fast::rebuild(formula),
             Question::Judge(tables, rule, order) => {
                 reference::fast::judge(tables, rule, order).map(|verdict| verdict.bytes())
             }
-        }
+            Question::JudgePage(tables, page) => {
+                return FAST.judge_page(tables, page).map(|page| page.bytes());
+            }
+        };
+        answer.map_err(Refused::from)
     }
 
     /// The answer of the reference's plain modules, which try every choice.
-    pub fn plain(&self) -> Answer<Vec<u8>> {
-        match self {
+    pub fn plain(&self) -> Expected {
+        let answer = match self {
             Question::Reduce(rule) => reference::formula::reduce(rule),
             Question::Rebuild(formula) => reference::formula::rebuild(formula),
             Question::Judge(tables, rule, order) => {
                 reference::verdict::judge(tables, rule, order).map(|verdict| verdict.bytes())
             }
-        }
+            Question::JudgePage(tables, page) => {
+                return PLAIN.judge_page(tables, page).map(|page| page.bytes());
+            }
+        };
+        answer.map_err(Refused::from)
     }
 
-    /// The command that asks this, as the vectors write it.
+    /// The command that asks this, as the vectors write it; that of a page has no length.
     pub fn command(&self, length: usize) -> String {
         match self {
             Question::Reduce(rule) => format!("reduce {} {length}", hex(rule)),
@@ -67,12 +88,13 @@ impl Question {
                 let (tables, rule, order) = (hex(tables), hex(rule), hex(order));
                 format!("judge {tables} {rule} {order} {length}")
             }
+            Question::JudgePage(tables, page) => format!("page {} {}", hex(tables), hex(page)),
         }
     }
 
     /// Asks with one length of output, in an allocation of exactly that length and the guards, and
     /// compares the reply and the whole allocation with what is expected.
-    pub fn hold(&self, expected: &Answer<Vec<u8>>, length: usize, guard: usize) {
+    pub fn hold(&self, expected: &Expected, length: usize, guard: usize) {
         let mut lent = vec![FILL; guard + length + guard].into_boxed_slice();
         let mut after = lent.clone();
         let reply = reply(self.ask(&mut lent[guard..guard + length]));
@@ -88,7 +110,7 @@ impl Question {
 
     /// Holds the library to an answer with outputs of its length L, of L - 1, of 0 and of more, each
     /// between guards, and again alone in its allocation, where valgrind sees a byte beyond it.
-    pub fn hold_all(&self, expected: &Answer<Vec<u8>>, random: &mut Random) {
+    pub fn hold_all(&self, expected: &Expected, random: &mut Random) {
         let long = expected
             .as_ref()
             .map_or(random.below(64), |bytes| bytes.len());
@@ -103,11 +125,11 @@ impl Question {
 
 /// How often each answer was met: by refusal number, and 0 for acceptance.
 #[derive(Default)]
-pub struct Met([u64; 19]);
+pub struct Met([u64; 20]);
 
 impl Met {
-    pub fn note(&mut self, answer: &Answer<Vec<u8>>) {
-        let number = answer.as_ref().err().map_or(0, |&number| number);
+    pub fn note(&mut self, answer: &Expected) {
+        let number = answer.as_ref().err().map_or(0, |refused| refused.number);
         self.0[number as usize] += 1;
     }
 

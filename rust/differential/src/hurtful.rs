@@ -3,7 +3,7 @@
 use crate::formulas::doubling;
 use crate::hold::Question;
 use crate::random::Random;
-use crate::{formulas, rules, scaled, tables};
+use crate::{formulas, pages, rules, scaled, tables};
 
 /// The length of the longest inputs.
 const MEGABYTES: usize = 4 << 20;
@@ -17,11 +17,12 @@ pub fn questions() -> Vec<Question> {
         exponential(),
         generated(),
         largest(),
+        long_pages(),
     ]
     .concat()
 }
 
-/// The same text as a rule, as a formula, and as tables, a rule and an order.
+/// The same text as a rule, as a formula, as tables, a rule and an order, and as a page.
 fn everywhere(text: Vec<u8>) -> Vec<Question> {
     let nobody = vec![0; 9];
     vec![
@@ -29,7 +30,9 @@ fn everywhere(text: Vec<u8>) -> Vec<Question> {
         Question::Rebuild(text.clone().into()),
         Question::judge(text.clone(), b"U=U".to_vec(), vec![]),
         Question::judge(nobody.clone(), text.clone(), vec![]),
-        Question::judge(nobody, b"U=U".to_vec(), text),
+        Question::judge(nobody.clone(), b"U=U".to_vec(), text.clone()),
+        Question::judge_page(text.clone(), b"U=U".to_vec()),
+        Question::judge_page(nobody, text),
     ]
 }
 
@@ -37,7 +40,7 @@ fn everywhere(text: Vec<u8>) -> Vec<Question> {
 fn repeated() -> Vec<Question> {
     [
         "(", ")", "[", "[v1@", "[v1@U]", ":", "U", "^U=U", "OE(", "AO(", "v1", "-{v1})", "9", "\0",
-        "\u{1}", "@",
+        "\u{1}", "@", "\n", "U=U\n",
     ]
     .iter()
     .flat_map(|piece| everywhere(piece.repeat(MEGABYTES / piece.len()).into_bytes()))
@@ -151,4 +154,93 @@ fn largest() -> Vec<Question> {
             Question::judge(tables.clone(), rule.as_bytes().to_vec(), order)
         })
         .collect()
+}
+
+/// Pages of 32 lines that are as long as they may be: with eight variables and as many terms as they
+/// have room for, all in one part, in parts that almost agree, and in parts of thousands of bytes; the
+/// papers' and others' rules; bounds on one count on the largest tables.
+fn long_pages() -> Vec<Question> {
+    let random = &mut Random::new(15);
+    let small: Vec<Vec<u8>> = (0..3)
+        .map(|most| tables::of_size(random, most).bytes())
+        .collect();
+    let mut pages: Vec<String> = (0..scaled(200)).map(|_| many_terms(random)).collect();
+    pages.extend((0..scaled(200)).map(|_| at_limits(random)));
+    let mut questions = Vec::new();
+    for page in pages {
+        for tables in &small {
+            questions.push(Question::judge_page(tables.clone(), page.clone().into()));
+        }
+    }
+    let largest = tables::full(random).bytes();
+    for count in ["|(roles(OE(U))&OE(CR))|<=", "|(roles*(OE(U))&OE(CR))|>"] {
+        let page = pages::bounds(count);
+        questions.push(Question::judge_page(largest.clone(), page.into()));
+    }
+    questions
+}
+
+/// A page of 32 rules of at most 256 bytes with the same eight choices, in one order or in several, and
+/// terms at random.
+fn many_terms(random: &mut Random) -> String {
+    let mut choices = [
+        "OE(U)@U",
+        "OE(R)@R",
+        "OE(OP)@OP",
+        "OE(OBJ)@OBJ",
+        "OE(P)@P",
+        "OE(S)@S",
+        "OE(CR)!={}",
+        "OE(CP)!={}",
+    ];
+    let turned = random.once_in(2);
+    let mut lines = Vec::new();
+    while lines.len() < 32 {
+        if turned {
+            random.shuffle(&mut choices);
+        }
+        let line = filled_up(random, choices.join("^"));
+        assert!(reference::rule::read(line.as_bytes()).is_ok(), "{line}");
+        lines.push(line);
+    }
+    lines.join("\n")
+}
+
+/// The rule with as many clauses more as 256 bytes hold.
+fn filled_up(random: &mut Random, mut text: String) -> String {
+    loop {
+        let more = format!("^|{}|<{}", random.pick(&TERMS), random.below(65));
+        if text.len() + more.len() > 256 {
+            return text;
+        }
+        text += &more;
+    }
+}
+
+/// Terms of choices that the rules above make.
+const TERMS: [&str; 12] = [
+    "roles(OE(U))",
+    "roles*(OE(U))",
+    "(roles(OE(S))&OE(CR))",
+    "(roles*(OE(P))+OE(CR))",
+    "permissions(OE(R))",
+    "permissions*(OE(CR))",
+    "(permissions(OE(R))&OE(CP))",
+    "operations(OE(R),OE(OBJ))",
+    "object(OE(CP))",
+    "sessions(OE(U))",
+    "user(OE(R))",
+    "(R&OE(CR))",
+];
+
+/// A page of 32 accepted rules that are about as long, as deep or with as many choices as is allowed.
+fn at_limits(random: &mut Random) -> String {
+    let mut lines = Vec::new();
+    while lines.len() < 32 {
+        let text = rules::at_limit(random);
+        if reference::rule::read(text.as_bytes()).is_ok() {
+            lines.push(text);
+        }
+    }
+    lines.join("\n")
 }

@@ -7,6 +7,7 @@ pub mod formulas;
 pub mod hold;
 pub mod hurtful;
 pub mod orders;
+pub mod pages;
 pub mod random;
 pub mod rules;
 pub mod subjects;

@@ -2,17 +2,19 @@
 
 use reference::tables::Tables;
 use reference::verdict::steps;
-use reference::Answer;
 
-use crate::hold::{Met, Question};
+use crate::hold::{Expected, Met, Question};
 use crate::random::Random;
-use crate::{formulas, orders, rules, tables};
+use crate::{formulas, orders, pages, rules, tables};
 
 /// The most steps of a walk where every choice is tried.
 const FEW: u128 = 2_000;
 
 /// The most steps of a walk by the fast modules.
 const MANY: u128 = 10_000;
+
+/// The most steps of a page's walks together, by the fast modules.
+const MANY_ON_A_PAGE: u128 = 60_000;
 
 /// How many full choices a large verdict has, and about how many steps its walk takes.
 pub const LARGE: u64 = 1_000_000;
@@ -32,8 +34,8 @@ pub struct Subject {
     ask: fn(&mut Random) -> Question,
 }
 
-/// Tables, rules, formulas and verdicts, in turn.
-pub const SUBJECTS: [Subject; 6] = [
+/// Tables, rules, formulas, verdicts and pages, in turn.
+pub const SUBJECTS: [Subject; 9] = [
     Subject {
         name: "tables",
         count: 70_000,
@@ -84,6 +86,33 @@ pub const SUBJECTS: [Subject; 6] = [
         answers: &[0],
         plain: false,
         ask: |random| repeated(random, MANY),
+    },
+    // Pages on small tables, on which every choice is tried.
+    Subject {
+        name: "pages",
+        count: 30_000,
+        seed: 7,
+        answers: &[0, 1, 5, 11, 12, 13, 14, 15, 19],
+        plain: true,
+        ask: |random| pages::judged(random, 4, FEW),
+    },
+    // Pages on tables of any size.
+    Subject {
+        name: "wide pages",
+        count: 2_000,
+        seed: 8,
+        answers: &[0, 19],
+        plain: false,
+        ask: |random| pages::judged(random, 64, MANY_ON_A_PAGE),
+    },
+    // Pages whose lines have five to eight variables.
+    Subject {
+        name: "pages of many variables",
+        count: 1_000,
+        seed: 9,
+        answers: &[0],
+        plain: false,
+        ask: |random| pages::repeated(random, MANY_ON_A_PAGE),
     },
 ];
 
@@ -157,7 +186,7 @@ fn repeated(random: &mut Random, limit: u128) -> Question {
 
 /// A question whose verdict has more than [`LARGE`] full choices, with the fast modules' answer: one
 /// in two with 5 to 8 variables, on an office's tables.
-pub fn large(random: &mut Random) -> (Question, Answer<Vec<u8>>) {
+pub fn large(random: &mut Random) -> (Question, Expected) {
     loop {
         let many = random.once_in(2);
         let text = match random.below(4) {

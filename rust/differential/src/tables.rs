@@ -44,6 +44,11 @@ fn sized(random: &mut Random, least: usize, most: usize) -> Plain {
     plain
 }
 
+/// Accepted tables with exactly `size` items in a section (operations and objects: at most 8).
+pub fn of_size(random: &mut Random, size: usize) -> Plain {
+    sized(random, size, size)
+}
+
 /// Accepted tables with every section as long as it may be; sessions have assigned roles alone.
 pub fn full(random: &mut Random) -> Plain {
     with_sizes(random, [64, 64, 64, 8, 8, 64, 64, 64])

@@ -76,10 +76,32 @@ fn library(command: &Command) -> String {
             *length,
         ),
         Command::Sheet(tables, rules) => return hex(sheet(tables, rules).as_bytes()),
+        Command::JudgePage(tables, page) => return page_fields(tables, page),
     };
     let mut out = vec![FILL; length].into_boxed_slice();
     let returned = reply(question.ask(&mut out));
     format!("{returned} {}", hex(&out))
+}
+
+/// The library's answer to a page.
+fn page_fields(tables: &[u8], page: &[u8]) -> String {
+    let page = match rcl2000::judge_page(tables, page) {
+        Err(refused) => {
+            return format!("refused {} {}", refused.refusal.number(), refused.position)
+        }
+        Ok(page) => page,
+    };
+    let mut fields = format!(
+        "{} {} {} {}",
+        page.word, page.full, page.breaking, page.walks
+    );
+    for verdict in page.lines() {
+        let none = |item: Option<u8>| item.unwrap_or(255);
+        let (share, choice) = (none(verdict.share), hex(&verdict.first.map(none)));
+        let counts = format!("{}:{}", verdict.full, verdict.breaking);
+        fields += &format!(" {}:{counts}:{share}:{choice}", verdict.word);
+    }
+    fields
 }
 
 /// The most bytes of rules that are listed.

@@ -6,17 +6,20 @@
 use differential::hold::Question;
 use differential::random::Random;
 use differential::subjects::{full, large, LARGE, SUBJECTS};
-use differential::{rules, scaled, tables};
+use differential::{pages, rules, scaled, tables};
 use rcl2000::{BuildError, Unencodable, Verdict};
+use reference::page::PLAIN;
+use reference::sheet::lines;
+use reference::Refused;
 
 /// How many large verdicts are compared.
 const LARGE_ONES: u64 = 8;
 
-/// The gate asks 314,000 questions.
+/// The gate asks 347,000 questions.
 #[test]
 fn the_gate_asks_enough() {
     let asked: u64 = SUBJECTS.iter().map(|subject| subject.count).sum();
-    assert_eq!(asked, 314_000);
+    assert_eq!(asked, 347_000);
 }
 
 /// Asks a subject's questions, which must meet each of its answers.
@@ -57,6 +60,47 @@ fn wide_verdicts_agree() {
 #[test]
 fn verdicts_on_many_variables_agree() {
     agree("many variables");
+}
+
+#[test]
+fn pages_agree() {
+    agree("pages");
+}
+
+#[test]
+fn wide_pages_agree() {
+    agree("wide pages");
+}
+
+#[test]
+fn pages_of_many_variables_agree() {
+    agree("pages of many variables");
+}
+
+/// Of the generated pages of several lines, many have fewer walks than lines, and of these most have
+/// more than one; lines are refused at the first place, at the last and between.
+#[test]
+fn pages_share_walks_and_are_refused_everywhere() {
+    let random = &mut Random::new(16);
+    let (mut shared, mut several, mut refused) = (0, 0, [0; 3]);
+    for _ in 0..2_000 {
+        let page = pages::any(random);
+        let count = lines(&page).len();
+        match PLAIN.judge_page(&[0; 9], &page) {
+            Ok(page) if (page.walks as usize) < count => {
+                shared += 1;
+                several += u32::from(page.walks > 1);
+            }
+            Ok(_) => {}
+            Err(Refused { position: 0, .. }) => assert!(!(1..=32).contains(&count)),
+            Err(Refused { position: 1, .. }) => refused[0] += 1,
+            Err(Refused { position, .. }) => {
+                refused[1 + usize::from(position as usize == count)] += 1
+            }
+        }
+    }
+    assert!(shared >= 600 && several >= 300, "{shared} {several}");
+    assert!(refused.iter().all(|&times| times >= 50), "{refused:?}");
 }
 
 /// Verdicts with more than a million full choices, by the fast modules.

@@ -4,14 +4,16 @@
 use std::thread;
 use std::time::{Duration, Instant};
 
-use differential::hold::Question;
+use differential::hold::{Expected, Question};
 use differential::hurtful;
 use differential::random::Random;
-use rcl2000::{STACK_JUDGE, STACK_REBUILD, STACK_REDUCE};
-use reference::Answer;
+use rcl2000::{STACK_JUDGE, STACK_JUDGE_PAGE, STACK_REBUILD, STACK_REDUCE};
 
 /// For the thread itself and for comparing.
 const OWN: usize = 16 * 1024;
+
+/// A thread that judges pages may have 256 KiB.
+const _: () = assert!(STACK_JUDGE_PAGE + OWN <= 256 * 1024);
 
 /// No call on such an input takes longer, also on a busy machine.
 const LONGEST: Duration = Duration::from_secs(5);
@@ -37,9 +39,16 @@ fn judging_on_a_small_stack() {
     });
 }
 
+#[test]
+fn judging_pages_on_a_small_stack() {
+    on_stack(STACK_JUDGE_PAGE, |question| {
+        matches!(question, Question::JudgePage(..))
+    });
+}
+
 /// The chosen questions are answered rightly on a thread with that much stack.
 fn on_stack(stack: usize, chosen: impl Fn(&Question) -> bool) {
-    let questions: Vec<(Question, Answer<Vec<u8>>)> = hurtful::questions()
+    let questions: Vec<(Question, Expected)> = hurtful::questions()
         .into_iter()
         .filter(chosen)
         .map(|question| (question.clone(), question.fast()))

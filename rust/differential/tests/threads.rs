@@ -2,12 +2,14 @@
 
 use std::thread;
 
-use differential::hold::Question;
+use differential::hold::{Expected, Question};
 use differential::random::Random;
-use differential::{formulas, orders, rules, scaled, tables};
-use reference::Answer;
+use differential::{formulas, orders, pages, rules, scaled, tables};
 
 const QUESTIONS: u64 = 4_000;
+
+/// The most steps of a page's walks.
+const PAGE_STEPS: u128 = 2_000;
 
 #[test]
 fn eight_threads_agree() {
@@ -26,12 +28,13 @@ fn eight_threads_agree() {
     });
 }
 
-fn questions(random: &mut Random) -> Vec<(Question, Answer<Vec<u8>>)> {
+fn questions(random: &mut Random) -> Vec<(Question, Expected)> {
     (0..scaled(QUESTIONS))
         .map(|_| {
-            let question = match random.below(3) {
+            let question = match random.below(4) {
                 0 => Question::Reduce(rules::any(random).into()),
                 1 => Question::Rebuild(formulas::any(random).into()),
+                2 => pages::judged(random, 3, PAGE_STEPS),
                 _ => judged(random),
             };
             let expected = question.fast();

@@ -1,6 +1,6 @@
 //! The safe calls, each with an allocated answer or into lent bytes.
 
-use crate::{library, Refusal, Verdict};
+use crate::{library, Page, PageRefusal, Refusal, Verdict};
 
 /// The most bytes that an accepted rule has.
 pub const MAX_RULE: usize = 256;
@@ -22,6 +22,9 @@ pub const STACK_REBUILD: usize = 48 * 1024;
 
 /// The stack that [`judge`] takes at the most, in bytes.
 pub const STACK_JUDGE: usize = 112 * 1024;
+
+/// The stack that [`judge_page`] takes at the most, in bytes.
+pub const STACK_JUDGE_PAGE: usize = 240 * 1024;
 
 /// The order that lists every variable in turn.
 const IN_TURN: [u8; MAX_VARIABLES] = [1, 2, 3, 4, 5, 6, 7, 8];
@@ -222,6 +225,87 @@ pub fn judge_in_turn(tables: &[u8], rule: &[u8]) -> Result<Verdict, Refusal> {
     judge(tables, rule, &IN_TURN[..count.min(MAX_VARIABLES)])
 }
 
+/// The verdict on a page of rules: 1 to 32 lines in the form of `rules.txt`, each judged in the order
+/// 1, 2, ..
+///
+/// A line ends at byte 10, the last one also where the page ends. Nothing else is taken from a line,
+/// so that an empty one, or one with a carriage return, is refused as such a rule is.
+///
+/// ```
+/// use rcl2000::{judge_in_turn, judge_page, PageRefusal, Refusal, TablesBuilder, Word};
+///
+/// let mut tables = TablesBuilder::new();
+/// let (tester, grader) = (tables.role([]), tables.role([]));
+/// tables.user([tester, grader]);
+/// tables.user([tester]);
+/// tables.conflicting_roles([tester, grader]);
+/// let tables = tables.build()?;
+///
+/// let rules = ["|(roles(OE(U))&OE(CR))|<=1", "|(roles(OE(U))&OE(CR))|>0", "|CR|=1"];
+/// let page = judge_page(&tables, rules.join("\n").as_bytes())?;
+/// assert_eq!(page.word, Word::Broken);
+/// assert_eq!((page.full, page.breaking), (5, 1));
+/// // The first two lines choose alike and share a walk.
+/// assert_eq!(page.walks, 2);
+/// for (rule, verdict) in rules.iter().zip(page.lines()) {
+///     assert_eq!(*verdict, judge_in_turn(&tables, rule.as_bytes())?);
+/// }
+///
+/// let refused = judge_page(&tables, b"|CR|=1\n\n").unwrap_err();
+/// assert_eq!(refused, PageRefusal { refusal: Refusal::RuleLength, position: 2 });
+/// # Ok::<(), Box<dyn std::error::Error>>(())
+/// ```
+///
+/// # Errors
+///
+/// What is wrong with the tables, a refusal from 1 to 10; else [`Refusal::Page`] where there is no
+/// line or more than [`MAX_LINES`](crate::MAX_LINES); else what is wrong with the first line that is
+/// refused, 11 to 15, with its position.
+///
+/// # Cost
+///
+/// About as [`judge`] for each line, and the tables are read once. Lines with the same quantifiers share
+/// one walk where the tables do not allow too many choices, which takes clearly less time where many lines
+/// share their terms; a few lines about different things may take up to twice as long. At most 240 KiB of stack ([`STACK_JUDGE_PAGE`]).
+pub fn judge_page(tables: &[u8], page: &[u8]) -> Result<Page, PageRefusal> {
+    let mut out = [0; Page::MAX_BYTES];
+    let length = judge_page_into(tables, page, &mut out)?;
+    Ok(Page::from_bytes(&out[..length]).expect("the library writes the bytes of a page"))
+}
+
+/// Writes the verdict on a page into the first [`Page::bytes`] bytes of `out` and gives their number.
+/// [`Page::from_bytes`] reads them.
+///
+/// The rest of `out` keeps its contents, and all of it does on a refusal.
+///
+/// ```
+/// use rcl2000::{judge_page_into, Page, Refusal};
+///
+/// let nobody = [0; 9];
+/// let mut out = [0; Page::bytes(2)];
+/// assert_eq!(judge_page_into(&nobody, b"U=U\nR=R\n", &mut out)?, 70);
+/// let refused = judge_page_into(&nobody, b"U=U\nR=R\nS=S\n", &mut out).unwrap_err();
+/// assert_eq!((refused.refusal, refused.position), (Refusal::ShortSheet, 0));
+/// # Ok::<(), rcl2000::PageRefusal>(())
+/// ```
+///
+/// # Errors
+///
+/// As [`judge_page`]; then [`Refusal::ShortSheet`] where `out` has fewer bytes than the verdict. None
+/// has more than [`Page::MAX_BYTES`].
+///
+/// # Cost
+///
+/// As [`judge_page`].
+pub fn judge_page_into(tables: &[u8], page: &[u8], out: &mut [u8]) -> Result<usize, PageRefusal> {
+    let reply = library::judge_page(tables, page, out);
+    length(reply).map_err(|refusal| PageRefusal {
+        refusal,
+        // The low half of the number.
+        position: reply as u16,
+    })
+}
+
 /// How many variables a rule has: the quantifiers of its formula. The numbers from 1 up to it are
 /// an order for [`judge`].
 ///
@@ -309,7 +393,7 @@ fn allocated(
     Ok(out)
 }
 
-/// The library's one number: a length, or 65,536 times a refusal's number.
+/// The library's one number: a length, or 65,536 times a refusal's number, and then a position.
 fn length(reply: u32) -> Result<usize, Refusal> {
     match Refusal::from_number(reply >> 16) {
         None => Ok(reply as usize),
@@ -326,7 +410,7 @@ mod tests {
         assert_eq!(length(0), Ok(0));
         assert_eq!(length(65_535), Ok(65_535));
         assert_eq!(length(13 << 16), Err(Refusal::NotARule));
-        for number in 19..=25 {
+        for number in 20..=25 {
             let refusal = length(number << 16).unwrap_err();
             assert_eq!(refusal, Refusal::Unknown { number });
         }

@@ -2,8 +2,9 @@
 //!
 //! A rule such as `|(roles(OE(U))&OE(CR))|<=1` says what nobody may be able to do alone. This
 //! crate writes a rule as a formula with its choices spelled out, gives the rule of a formula, and
-//! judges a rule on tables of roles, users, sessions and permissions. The work is done by a
-//! library whose code is proved; here are safe calls over it, with Rust's types for its answers.
+//! judges a rule, or a page of them, on tables of roles, users, sessions and permissions. The work is
+//! done by a library whose code is proved; here are safe calls over it, with Rust's types for its
+//! answers.
 //!
 //! ```
 //! use rcl2000::{judge_in_turn, reduce, TablesBuilder, Word};
@@ -29,21 +30,22 @@
 //!
 //! # The calls
 //!
-//! [`reduce`], [`rebuild`] and [`judge`] allocate their answers; [`reduce_into`],
-//! [`rebuild_into`] and [`judge_into`] write them into bytes that the caller lends and allocate
-//! nothing. Any of them gives a [`Refusal`] where the input is turned back, and then no lent byte
-//! has changed. Nothing here panics, whatever the input.
+//! [`reduce`], [`rebuild`], [`judge`] and [`judge_page`] allocate their answers; [`reduce_into`],
+//! [`rebuild_into`], [`judge_into`] and [`judge_page_into`] write them into bytes that the caller
+//! lends and allocate nothing. Any of them gives a [`Refusal`] where the input is turned back, a page's
+//! with the line that it is for, and then no lent byte has changed. Nothing here panics, whatever the
+//! input.
 //!
 //! # What a call may cost
 //!
-//! - **Time.** All calls take microseconds but one: [`judge`] takes from microseconds to
+//! - **Time.** All calls take microseconds but two: [`judge`] takes from microseconds to
 //!   milliseconds for most rules, but there are rules of many variables for which it has to walk the
-//!   full choices, and these grow as 64 to the power of the number of variables. It cannot be
-//!   interrupted. Each call says what it may cost.
+//!   full choices, and these grow as 64 to the power of the number of variables; [`judge_page`] takes
+//!   about what its lines do, or less. Neither can be interrupted. Each call says what it may cost.
 //! - **Stack.** The library takes its memory from the stack of the thread that calls it:
-//!   at the most 16 KiB for [`reduce`], 48 KiB for [`rebuild`] and 112 KiB for [`judge`],
-//!   whatever the input ([`STACK_REDUCE`], [`STACK_REBUILD`], [`STACK_JUDGE`]; measured, not
-//!   proved). Rust's threads have 2 MiB unless asked for less.
+//!   at the most 16 KiB for [`reduce`], 48 KiB for [`rebuild`], 112 KiB for [`judge`] and 240 KiB for
+//!   [`judge_page`], whatever the input ([`STACK_REDUCE`], [`STACK_REBUILD`], [`STACK_JUDGE`],
+//!   [`STACK_JUDGE_PAGE`]; measured, not proved). Rust's threads have 2 MiB unless asked for less.
 //! - **Threads.** The library keeps no state between calls and shares none: any number of threads
 //!   may call at once.
 //! - **Aliasing.** The borrow checker sees to it that a lent output overlaps no input. Inputs may
@@ -54,7 +56,7 @@
 //!
 //! The crate links `librcl2000.a`, which `rt staticlib rcl2000` writes. Its build script looks for
 //! it in `target/staticlib` of the repository that the crate is in, or in the folder that
-//! `RCL2000_LIB_DIR` names, and tries it before it links it: an archive without the three calls,
+//! `RCL2000_LIB_DIR` names, and tries it before it links it: an archive without the four calls,
 //! or one that answers otherwise than this version of the crate says, is a build error.
 
 #![deny(missing_docs, unsafe_code)]
@@ -65,6 +67,7 @@ mod faults;
 mod items;
 #[allow(unsafe_code)]
 mod library;
+mod page;
 mod refusal;
 mod verdict;
 mod words;
@@ -72,9 +75,11 @@ mod words;
 pub use builder::TablesBuilder;
 pub use calls::{check_rule, check_tables, variables};
 pub use calls::{judge, judge_in_turn, judge_into, rebuild, rebuild_into, reduce, reduce_into};
+pub use calls::{judge_page, judge_page_into};
 pub use calls::{MAX_FORMULA, MAX_RULE, MAX_TABLES, MAX_VARIABLES};
-pub use calls::{STACK_JUDGE, STACK_REBUILD, STACK_REDUCE};
+pub use calls::{STACK_JUDGE, STACK_JUDGE_PAGE, STACK_REBUILD, STACK_REDUCE};
 pub use faults::{BuildError, Fault, Unencodable};
 pub use items::{Object, Operation, Permission, Role, Row, Section, Session, User};
+pub use page::{Page, PageRefusal, MAX_LINES};
 pub use refusal::Refusal;
 pub use verdict::{Verdict, Word};

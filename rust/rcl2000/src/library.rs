@@ -1,4 +1,4 @@
-//! The archive's three functions. All the unsafe code of this crate stands here.
+//! The archive's four functions. All the unsafe code of this crate stands here.
 
 mod archive {
     extern "C" {
@@ -17,10 +17,19 @@ mod archive {
             out: *mut u8,
             out_len: usize,
         ) -> u32;
+
+        pub fn judge_page(
+            tables: *const u8,
+            tables_len: usize,
+            page: *const u8,
+            page_len: usize,
+            out: *mut u8,
+            out_len: usize,
+        ) -> u32;
     }
 }
 
-// SAFETY of the three calls: the functions of the archive take a slice as a pointer and a length,
+// SAFETY of the four calls: the functions of the archive take a slice as a pointer and a length,
 // ask nothing else of their arguments, read nothing but the inputs, write nothing but the first
 // bytes of `out`, and keep no pointer; that is proved of them. Every pointer here is that of a
 // Rust slice with its own length, so it is valid for that many bytes and never null, and `out`,
@@ -44,6 +53,19 @@ pub fn judge(tables: &[u8], rule: &[u8], order: &[u8], out: &mut [u8]) -> u32 {
             rule.len(),
             order.as_ptr(),
             order.len(),
+            out.as_mut_ptr(),
+            out.len(),
+        )
+    }
+}
+
+pub fn judge_page(tables: &[u8], page: &[u8], out: &mut [u8]) -> u32 {
+    unsafe {
+        archive::judge_page(
+            tables.as_ptr(),
+            tables.len(),
+            page.as_ptr(),
+            page.len(),
             out.as_mut_ptr(),
             out.len(),
         )

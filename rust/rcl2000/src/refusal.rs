@@ -1,9 +1,9 @@
-//! The refusals, with document 01's number and word for each.
+//! The refusals, with the documents' number and word for each.
 
 use std::error::Error;
 use std::fmt;
 
-/// Says each refusal once: its number, its name here, document 01's word for it and its meaning.
+/// Says each refusal once: its number, its name here, the documents' word for it and its meaning.
 macro_rules! refusals {
     ($($number:literal $name:ident $word:literal $meaning:literal)*) => {
         /// Why an input was turned back.
@@ -44,7 +44,7 @@ macro_rules! refusals {
         const KNOWN: &[Refusal] = &[$(Refusal::$name),*];
 
         impl Refusal {
-            /// Document 01's number.
+            /// The documents' number.
             ///
             /// ```
             /// assert_eq!(rcl2000::Refusal::Twin.number(), 9);
@@ -56,7 +56,7 @@ macro_rules! refusals {
                 }
             }
 
-            /// Document 01's word for it.
+            /// The documents' word for it.
             ///
             /// ```
             /// assert_eq!(rcl2000::Refusal::Deep.word(), "deep");
@@ -97,6 +97,7 @@ refusals! {
     16 NoRulesFormula "no rule's formula" "no accepted rule has this formula"
     17 ShortSheet "short sheet" "the answer is longer than the space lent for it"
     18 Order "order" "the order does not list each variable once, after those that its set names"
+    19 Page "page" "the page has no line or more than 32"
 }
 
 impl Refusal {
@@ -108,9 +109,9 @@ impl Refusal {
     ///
     /// assert_eq!(Refusal::from_number(9), Some(Refusal::Twin));
     /// assert_eq!(Refusal::from_number(0), None);
-    /// let later = Refusal::from_number(19).unwrap();
-    /// assert!(matches!(later, Refusal::Unknown { number: 19, .. }));
-    /// assert_eq!(later.number(), 19);
+    /// let later = Refusal::from_number(20).unwrap();
+    /// assert!(matches!(later, Refusal::Unknown { number: 20, .. }));
+    /// assert_eq!(later.number(), 20);
     /// ```
     pub fn from_number(number: u32) -> Option<Refusal> {
         let place = number.checked_sub(1)? as usize;
@@ -138,12 +139,12 @@ mod tests {
             assert_eq!(refusal.number() as usize, place + 1);
             assert_eq!(Refusal::from_number(refusal.number()), Some(refusal));
         }
-        assert_eq!(KNOWN.len(), 18);
+        assert_eq!(KNOWN.len(), 19);
     }
 
     #[test]
     fn a_number_that_is_not_known_is_a_case_of_its_own() {
-        for number in [19, 25, 65_535, u32::MAX] {
+        for number in [20, 25, 65_535, u32::MAX] {
             let refusal = Refusal::from_number(number).unwrap();
             assert_eq!(refusal, Refusal::Unknown { number });
             assert_eq!(refusal.number(), number);

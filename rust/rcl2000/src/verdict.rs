@@ -31,6 +31,18 @@ pub enum Word {
     },
 }
 
+impl Word {
+    /// The word that the library writes as this number.
+    pub(crate) fn from_number(number: u8) -> Word {
+        match number {
+            0 => Word::Held,
+            1 => Word::Idle,
+            2 => Word::Broken,
+            number => Word::Unknown { number },
+        }
+    }
+}
+
 impl fmt::Display for Word {
     fn fmt(&self, f: &mut fmt::Formatter) -> fmt::Result {
         match self {
@@ -83,12 +95,7 @@ impl Verdict {
         let item = |byte: u8| (byte != 255).then_some(byte);
         let number = |at: usize| u64::from_le_bytes(std::array::from_fn(|i| bytes[at + i]));
         Verdict {
-            word: match bytes[0] {
-                0 => Word::Held,
-                1 => Word::Idle,
-                2 => Word::Broken,
-                number => Word::Unknown { number },
-            },
+            word: Word::from_number(bytes[0]),
             full: number(1),
             breaking: number(9),
             first: std::array::from_fn(|variable| item(bytes[17 + variable])),

@@ -1,8 +1,9 @@
-//! Document 01's own examples, A to K, its tables T and listing, and the edges that it names.
+//! Document 01's own examples, A to K, its tables T and listing, and the edges that it and document 02
+//! name.
 
 use rcl2000::{check_rule, check_tables, judge, judge_in_turn, judge_into, variables};
-use rcl2000::{rebuild, rebuild_into, reduce, reduce_into};
-use rcl2000::{Refusal, TablesBuilder, Verdict, Word, MAX_TABLES};
+use rcl2000::{judge_page, judge_page_into, rebuild, rebuild_into, reduce, reduce_into};
+use rcl2000::{Page, PageRefusal, Refusal, TablesBuilder, Verdict, Word, MAX_LINES, MAX_TABLES};
 
 const A: &str = "|(roles(OE(U))&OE(CR))|<=1";
 const B: &str = "OE(OE(CR))@roles(OE(U))=>(AO(OE(CR))&roles(OE(U)))={}";
@@ -94,6 +95,49 @@ fn the_listing() {
 }
 
 #[test]
+fn the_listing_as_a_page() {
+    let page = [A, "|(roles(OE(S))&OE(CR))|<=1", D].join("\n");
+    let page = judge_page(&tables(), page.as_bytes()).unwrap();
+    assert_eq!((page.word, page.full, page.breaking), (Word::Broken, 3, 1));
+    assert_eq!(page.walks, 3);
+    let lines: Vec<String> = page.lines().map(Verdict::to_string).collect();
+    let expected = ["broken 2 1 50 v1=0 v2=0", "idle 0 0 -", "held 1 0 0"];
+    assert_eq!(lines, expected);
+}
+
+#[test]
+fn pages_of_no_line_one_and_thirty_two() {
+    let rule = D.to_string() + "\n";
+    let page = |lines| judge_page(&tables(), rule.repeat(lines).as_bytes());
+    for lines in [1, MAX_LINES] {
+        let page = page(lines).unwrap();
+        assert_eq!((page.word, page.lines().len()), (Word::Held, lines));
+        assert_eq!((page.full, page.walks), (lines as u64, 1));
+    }
+    for lines in [0, MAX_LINES + 1] {
+        assert_eq!(page(lines), Err(PageRefusal::from(Refusal::Page)));
+    }
+}
+
+#[test]
+fn a_page_is_refused_for_its_first_refused_line() {
+    let refused = |tables: &[u8], page: &str| {
+        let refused = judge_page(tables, page.as_bytes()).unwrap_err();
+        (refused.refusal, refused.position)
+    };
+    let (all, last) = ("U=U\n".repeat(31), MAX_LINES as u16);
+    let at_last = |line: &str| refused(&tables(), &(all.clone() + line));
+    assert_eq!(at_last("U"), (Refusal::NotARule, last));
+    assert_eq!(at_last("\n"), (Refusal::RuleLength, last));
+    assert_eq!(at_last("U=U\r\n"), (Refusal::NotARule, last));
+    // The first of two; 19 before both; the tables before all.
+    assert_eq!(refused(&tables(), "U=R\nU=U\nU\n"), (Refusal::Kind, 1));
+    assert_eq!(at_last("U=U\nU"), (Refusal::Page, 0));
+    assert_eq!(refused(&[1], ""), (Refusal::CutShort, 0));
+    assert_eq!(refused(&[1], "U"), (Refusal::CutShort, 0));
+}
+
+#[test]
 fn sixty_four_users_and_one_more() {
     let mut users = TablesBuilder::new();
     for _ in 0..64 {
@@ -170,6 +214,18 @@ fn outputs_of_the_answers_length_and_one_less() {
     lent(Verdict::BYTES, |out| {
         judge_into(&tables(), C.as_bytes(), &[1], out)
     });
+    for lines in [1, 2, MAX_LINES] {
+        let page = (C.to_string() + "\n").repeat(lines);
+        lent(Page::bytes(lines), |out| {
+            judge_page_into(&tables(), page.as_bytes(), out).map_err(unplaced)
+        });
+    }
+}
+
+/// A refusal that is not a line's.
+fn unplaced(refused: PageRefusal) -> Refusal {
+    assert_eq!(refused.position, 0);
+    refused.refusal
 }
 
 /// The call writes its answer of `length` bytes, and refuses an output that is one shorter.

@@ -4,8 +4,9 @@ use std::collections::BTreeMap;
 use std::fs;
 use std::path::Path;
 
-use rcl2000::{Refusal, Verdict, MAX_FORMULA, MAX_RULE, MAX_TABLES, MAX_VARIABLES};
-use rcl2000::{STACK_JUDGE, STACK_REBUILD, STACK_REDUCE};
+use rcl2000::{Page, Refusal, Verdict};
+use rcl2000::{MAX_FORMULA, MAX_LINES, MAX_RULE, MAX_TABLES, MAX_VARIABLES};
+use rcl2000::{STACK_JUDGE, STACK_JUDGE_PAGE, STACK_REBUILD, STACK_REDUCE};
 
 /// Each name of the header that has a number, without its prefix: `NAME = N` and `NAME N`.
 fn numbers() -> BTreeMap<String, usize> {
@@ -43,7 +44,7 @@ fn the_header_has_every_refusal_by_its_word() {
         assert_eq!(numbers.get(&name), Some(&(number as usize)), "{name}");
         number += 1;
     }
-    assert!(number > 18);
+    assert!(number > 19);
 }
 
 #[test]
@@ -56,8 +57,11 @@ fn the_header_has_the_lengths_and_the_stacks() {
         ("MAX_VARIABLES", MAX_VARIABLES),
         ("STACK_REDUCE", STACK_REDUCE),
         ("STACK_REBUILD", STACK_REBUILD),
+        ("MAX_LINES", MAX_LINES),
         ("STACK_JUDGE", STACK_JUDGE),
+        ("STACK_JUDGE_PAGE", STACK_JUDGE_PAGE),
         ("VERDICT", Verdict::BYTES),
+        ("PAGE_HEAD", Page::HEAD),
         ("HELD", 0),
         ("IDLE", 1),
         ("BROKEN", 2),

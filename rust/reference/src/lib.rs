@@ -1,5 +1,5 @@
-//! Document 01 a second time, with N1 of document 02: tables, rules, formulas, verdicts and the day
-//! sheet in plain Rust.
+//! Document 01 a second time, with N1 to N3 of document 02: tables, rules, formulas, verdicts, the
+//! day sheet and pages in plain Rust.
 //!
 //! It was written from the documents alone and shares no code with the proved library, so that the
 //! two can be held against each other. The modules follow the document: a tree for rules, sets for
@@ -10,6 +10,7 @@ pub mod fast;
 pub mod formula;
 pub mod kind;
 pub mod number;
+pub mod page;
 pub mod protocol;
 pub mod rule;
 pub mod set;
@@ -20,15 +21,38 @@ pub mod verdict;
 /// An answer, or the number of a refusal.
 pub type Answer<T> = Result<T, u32>;
 
+/// A refusal as a call tells it.
+#[derive(Clone, Copy, PartialEq, Eq, Debug)]
+pub struct Refused {
+    pub number: u32,
+    /// The refused line of a page, counted from 1. "Every other refusal has position 0."
+    pub position: u32,
+}
+
+impl Refused {
+    /// What a call returns for it.
+    pub fn returned(self) -> u32 {
+        65_536 * self.number + self.position
+    }
+}
+
+impl From<u32> for Refused {
+    fn from(number: u32) -> Refused {
+        Refused {
+            number,
+            position: 0,
+        }
+    }
+}
+
 /// What one call leaves behind, for a caller that lends `out`: the number that the call returns.
 ///
 /// Success writes the first bytes and returns how many; a refusal, 17 among them, writes nothing
-/// and returns 65,536 times its number.
-pub fn lend(answer: Answer<Vec<u8>>, out: &mut [u8]) -> u32 {
-    let refused = |number: u32| 65_536 * number;
+/// and returns 65,536 times its number, with the position added.
+pub fn lend(answer: Result<Vec<u8>, impl Into<Refused>>, out: &mut [u8]) -> u32 {
     match answer {
-        Err(number) => refused(number),
-        Ok(bytes) if bytes.len() > out.len() => refused(number::SHORT_SHEET),
+        Err(refused) => refused.into().returned(),
+        Ok(bytes) if bytes.len() > out.len() => Refused::from(number::SHORT_SHEET).returned(),
         Ok(bytes) => {
             out[..bytes.len()].copy_from_slice(&bytes);
             bytes.len() as u32

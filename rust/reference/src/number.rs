@@ -1,4 +1,4 @@
-//! The numbers of document 01's table under "Turned back".
+//! The numbers of document 01's table under "Turned back", and of document 02.
 
 pub const CUT_SHORT: u32 = 1;
 pub const OVERFULL: u32 = 2;
@@ -18,3 +18,4 @@ pub const CHOICES: u32 = 15;
 pub const NO_RULES_FORMULA: u32 = 16;
 pub const SHORT_SHEET: u32 = 17;
 pub const ORDER: u32 = 18;
+pub const PAGE: u32 = 19;

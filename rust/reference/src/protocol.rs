@@ -1,6 +1,7 @@
 //! The commands of the vectors: one to a line, with an answer to each.
 
-use crate::{fast, formula, lend, rule, sheet, tables, verdict, Answer};
+use crate::page::{self, Page};
+use crate::{fast, formula, lend, rule, sheet, tables, verdict, Answer, Refused};
 
 /// The byte that fills a lent output before the call.
 pub const FILL: u8 = 0xa5;
@@ -25,6 +26,8 @@ pub enum Command {
     Judge([Vec<u8>; 3], usize),
     /// The day sheet of tables and rules.
     Sheet(Vec<u8>, Vec<u8>),
+    /// The verdict on tables and a page.
+    JudgePage(Vec<u8>, Vec<u8>),
 }
 
 use Command::*;
@@ -47,6 +50,7 @@ impl Command {
                 number(length)?,
             ),
             [b"sheet", tables, rules] => Sheet(unhex(tables)?, unhex(rules)?),
+            [b"page", tables, page] => JudgePage(unhex(tables)?, unhex(page)?),
             _ => return None,
         })
     }
@@ -63,6 +67,7 @@ impl Command {
                 lent(verdict.map(|verdict| verdict.bytes()), *length)
             }
             Sheet(tables, rules) => hex(sheet::sheet(tables, rules).as_bytes()),
+            JudgePage(tables, page) => shown(page::PLAIN.judge_page(tables, page)),
         }
     }
 
@@ -76,6 +81,7 @@ impl Command {
                 let verdict = fast::judge(tables, rule, order);
                 lent(verdict.map(|verdict| verdict.bytes()), *length)
             }
+            JudgePage(tables, page) => shown(page::FAST.judge_page(tables, page)),
             Rule(_) | Sheet(..) => self.plain(),
         }
     }
@@ -94,6 +100,22 @@ fn lent(answer: Answer<Vec<u8>>, length: usize) -> String {
     let mut out = vec![FILL; length];
     let returned = lend(answer, &mut out);
     format!("{returned} {}", hex(&out))
+}
+
+/// `refused N POS`, or the fields of a page and then those of each line.
+fn shown(answer: Result<Page, Refused>) -> String {
+    let page = match answer {
+        Err(Refused { number, position }) => return format!("refused {number} {position}"),
+        Ok(page) => page,
+    };
+    let word = |number: u8| ["held", "idle", "broken"][number as usize];
+    let (full, breaking) = (page.full(), page.breaking());
+    let mut shown = format!("{} {full} {breaking} {}", word(page.word()), page.walks);
+    for line in &page.lines {
+        let (word, share, choice) = (word(line.word()), line.share(), hex(&line.first));
+        shown += &format!(" {word}:{}:{}:{share}:{choice}", line.full, line.breaking);
+    }
+    shown
 }
 
 /// Lowercase hexadecimal; `-` for no bytes.

@@ -36,7 +36,7 @@ fn total(lines: &[String]) -> String {
 }
 
 /// The lines of a file; nothing after a final byte 10 is no line.
-fn lines(file: &[u8]) -> Vec<&[u8]> {
+pub fn lines(file: &[u8]) -> Vec<&[u8]> {
     let mut lines: Vec<&[u8]> = file.split(|&byte| byte == b'\n').collect();
     if lines.last().is_some_and(|last| last.is_empty()) {
         lines.pop();

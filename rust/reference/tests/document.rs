@@ -1,6 +1,7 @@
 //! Document 01's own examples, by the plain and by the fast modules.
 
 use reference::number::{NO_RULES_FORMULA, ORDER};
+use reference::protocol::{answer, hex, Command};
 use reference::{fast, formula, sheet, verdict};
 
 /// Tables T.
@@ -68,5 +69,35 @@ fn verdicts_in_any_order() {
         assert_eq!(counts(B, &[2, 1, 3]), Err(ORDER));
         assert_eq!(counts(b"AO(U)={}", &[1]), Ok((2, 2)));
         assert_eq!(counts(b"OE(U)=OE(U)", &[1]), Ok((2, 0)));
+    }
+}
+
+#[test]
+fn pages() {
+    let long = "U=U\n".repeat(33);
+    let cases: [(&[u8], &str, &str); 9] = [
+        (T, "", "refused 19 0"),
+        (T, &long, "refused 19 0"),
+        (&T[1..], "", "refused 5 0"),
+        (T, "\n", "refused 11 1"),
+        (T, "U=U\nU=U\r\n\n", "refused 13 2"),
+        (T, "|CR|=1\n|CR|=1", "held 2 0 1 held:1:0:0:ffffffffffffffff held:1:0:0:ffffffffffffffff"),
+        (T, "|OE(S)|=1", "refused 14 1"),
+        (
+            T,
+            "OE(S)=OE(S)\nU=U\n",
+            "idle 1 0 2 idle:0:0:255:ffffffffffffffff held:1:0:0:ffffffffffffffff",
+        ),
+        (
+            T,
+            "AO(U)={}\nOE(S)=OE(S)\nOE(U)@U",
+            "broken 4 2 2 broken:2:2:100:00ffffffffffffff idle:0:0:255:ffffffffffffffff held:2:0:0:ffffffffffffffff",
+        ),
+    ];
+    for (tables, page, expected) in cases {
+        let command = format!("page {} {}", hex(tables), hex(page.as_bytes()));
+        for respond in [Command::plain, Command::fast] {
+            assert_eq!(answer(command.as_bytes(), respond), expected, "{page:?}");
+        }
     }
 }

@@ -14,7 +14,7 @@ use differential::hold::Question;
 use differential::hurtful;
 use rcl2000::MAX_FORMULA;
 
-const CALLS: [&str; 3] = ["reduce", "rebuild", "judge"];
+const CALLS: [&str; 4] = ["reduce", "rebuild", "judge", "judge_page"];
 
 /// No call at all.
 const NOTHING: &str = "nothing";
@@ -101,5 +101,6 @@ fn name(question: &Question) -> &'static str {
         Question::Reduce(_) => CALLS[0],
         Question::Rebuild(_) => CALLS[1],
         Question::Judge(..) => CALLS[2],
+        Question::JudgePage(..) => CALLS[3],
     }
 }
