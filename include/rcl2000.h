@@ -62,8 +62,8 @@
 #define RCL2000_VERDICT_SHARE 25
 #define RCL2000_NONE 255
 
-/* A verdict on a page is the page's word, full and breaking, as a verdict has them, and the number of walks, one for each quantifier part; then the
-   verdict on each line. */
+/* A verdict on a page is the page's word, full and breaking, as a verdict has them, and the number of walks, one for each
+   quantifier part; then the verdict on each line. */
 #define RCL2000_PAGE_HEAD 18
 #define RCL2000_PAGE_WORD 0
 #define RCL2000_PAGE_FULL 1

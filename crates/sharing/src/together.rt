@@ -1,4 +1,5 @@
 // The counts of gathered lines: one plan of the rule that they make together, and one walk.
+// Where there may be too many choices nothing is counted, and the lines are judged one by one.
 use crate::counting::below;
 use crate::laying;
 use crate::lines::LINES;

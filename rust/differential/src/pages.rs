@@ -48,19 +48,8 @@ pub fn repeated(random: &mut Random, limit: u128) -> Question {
     let count = random.between(2, MOST);
     let texts = alike(random, count, |random| rules::joined(random).into_bytes());
     let rules: Vec<Rule> = texts.iter().flat_map(|text| rule::read(text)).collect();
-    let mut most = 64;
-    loop {
-        let tables = match random.below(2) {
-            0 => tables::filled(random, most),
-            _ => tables::office(random, most),
-        };
-        let tables = tables.bytes();
-        let read = reference::tables::read(&tables).expect("made to be accepted");
-        if most == 1 || walked(&read, &rules) <= limit {
-            return Question::judge_page(tables, texts.join(&b'\n'));
-        }
-        most = (most - most / 8 - 1).max(1);
-    }
+    let tables = tables::cut(random, |tables| walked(tables, &rules) <= limit);
+    Question::judge_page(tables, texts.join(&b'\n'))
 }
 
 fn walked(tables: &Tables, rules: &[Rule]) -> u128 {

@@ -169,19 +169,8 @@ fn repeated(random: &mut Random, limit: u128) -> Question {
     let text = rules::joined(random).into_bytes();
     let rule = reference::rule::read(&text).expect("made to be accepted");
     let order = orders::admissible(random, &rule);
-    let mut most = 64;
-    loop {
-        let tables = match random.below(2) {
-            0 => tables::filled(random, most),
-            _ => tables::office(random, most),
-        };
-        let tables = tables.bytes();
-        let read = reference::tables::read(&tables).expect("made to be accepted");
-        if steps(&read, &rule) <= limit {
-            return Question::judge(tables, text, order);
-        }
-        most = (most - most / 8 - 1).max(1);
-    }
+    let tables = tables::cut(random, |tables| steps(tables, &rule) <= limit);
+    Question::judge(tables, text, order)
 }
 
 /// A question whose verdict has more than [`LARGE`] full choices, with the fast modules' answer: one

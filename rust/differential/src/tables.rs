@@ -90,6 +90,23 @@ pub fn office(random: &mut Random, most: usize) -> Plain {
     }
 }
 
+/// Accepted tables, an office's or others, with fewer and fewer items until they are few enough.
+pub fn cut(random: &mut Random, few: impl Fn(&reference::tables::Tables) -> bool) -> Vec<u8> {
+    let mut most = 64;
+    loop {
+        let tables = match random.below(2) {
+            0 => filled(random, most),
+            _ => office(random, most),
+        };
+        let tables = tables.bytes();
+        let read = reference::tables::read(&tables).expect("made to be accepted");
+        if most == 1 || few(&read) {
+            return tables;
+        }
+        most = (most - most / 8 - 1).max(1);
+    }
+}
+
 /// At most `count` pairs of items that stand in different eighths.
 fn pairs(random: &mut Random, count: usize, items: usize) -> Vec<u64> {
     let mut words = Vec::new();
