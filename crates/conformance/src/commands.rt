@@ -53,6 +53,8 @@ fn command(line: &[u8], first: &[u8])
         sheet(line, first);
     } else if is_command(line, b"page", 3) {
         page(line, first);
+    } else if is_command(line, b"rankstep", 2) {
+        print_number(rcl2000::rank_step(first) as u64);
     } else {
         unknown();
     }

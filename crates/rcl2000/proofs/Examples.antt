@@ -16,7 +16,7 @@ use Rattle.answers.specs.declared.Refusal.the-variants.{NoRulesFormula}
 use Rattle.answers.proofs.AnswerLaws.{same-number}
 use Rattle.tables.specs.Tables.{Tables}
 use Rattle.tables.specs.Bytes.{lowestFirst}
-use Rattle.tables.specs.Checks.{allTo, reflexive, transitive, antisymmetric, ranked, inReach, apart, lateChecks, firstFailing}
+use Rattle.tables.specs.Checks.{allTo, reflexive, transitive, antisymmetric, rankSteps, failingFrom, rankStep, ranked, inReach, apart, lateChecks, firstFailing}
 use Rattle.tables.specs.Reading.{next as nextRead, refuse, front, byte, count as countRead, wordFrom, wordWithin, wordRow, markedRow, sessionRow, rows, section}
 use Rattle.tables.specs.Reading.{permissions as permissionsRead, rights, collections, sections, nothingLeft, settle, whole as wholeRead, taken, tablesOf}
 use Rattle.tables.proofs.FitsLaws.{accepted-sound}
@@ -80,7 +80,7 @@ tablesT = record {
 }
 
 reads-T : tablesOf bytesT ≡ taken tablesT
-unfolding nextRead refuse front byte countRead wordFrom wordWithin wordRow markedRow sessionRow rows section permissionsRead rights collections sections nothingLeft settle wholeRead tablesOf lateChecks firstFailing allTo reflexive transitive antisymmetric ranked inReach apart hasItem
+unfolding nextRead refuse front byte countRead wordFrom wordWithin wordRow markedRow sessionRow rows section permissionsRead rights collections sections nothingLeft settle wholeRead tablesOf lateChecks firstFailing allTo reflexive transitive antisymmetric rankSteps failingFrom rankStep ranked inReach apart hasItem
 reads-T = refl
 
 -- By the walk, which computes, and not by the count over all choices.

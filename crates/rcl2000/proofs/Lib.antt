@@ -7,4 +7,5 @@ pub mod RefusalLaws
 pub mod PageLaws
 pub mod Demands
 pub mod PageDemands
+pub mod StepDemands
 pub mod Examples

@@ -1,15 +1,18 @@
 -- What the tracker sees of its calls: the number that a call returns, and the lent bytes before (old) and after it (new).
 -- Assumes nothing.
 use mathlib.Core.Path.{_≡_}
+use mathlib.Core.Bool.{true, false}
+use mathlib.Core.List.{[]}
 use mathlib.Core.Option.{none, some}
 use Prim.Native.Nat.{ℕ, suc, _+_, _*_, _≤_, _<_}
 use lib.ListN.{length, getD, getElem?, take, drop}
 use Rattle.answers.specs.Refusal.{numberOf}
 use Rattle.answers.specs.Answer.{Answer, lent, reply, outputAfter}
 use Rattle.answers.specs.declared.Refusal.{Refusal}
-use Rattle.answers.specs.declared.Refusal.the-variants.{NoRulesFormula, ShortSheet, NotAnOrder, Page}
+use Rattle.answers.specs.declared.Refusal.the-variants.{Rank, NoRulesFormula, ShortSheet, NotAnOrder, Page}
 use Rattle.tables.specs.Tables.{Tables}
-use Rattle.tables.specs.Reading.{rejected, taken, tablesOf, wordFrom}
+use Rattle.tables.specs.Checks.{reflexive, transitive, antisymmetric}
+use Rattle.tables.specs.Reading.{took, sections, rejected, taken, tablesOf, rankStepOf, wordFrom}
 use Rattle.texts.specs.Pieces.{lines}
 use Rattle.syntax.specs.Bytes.{Bytes}
 use Rattle.syntax.specs.Rule.{Rule, ruleOf}
@@ -136,3 +139,20 @@ abbrev pub AsJudged : Bytes → Bytes → Bytes → Type 0
 AsJudged tables page new =
     (j : ℕ) (w : Bytes) → getElem? (lines page) j ≡ some w → (old₂ new₂ : Bytes) (r₂ : ℕ) → 26 ≤ length old₂
     → Judges tables w (turnOrder (ruleOf w)) old₂ new₂ r₂ → (r₂ ≡ 26) × (take 26 (drop (pageSize j) new) ≡ take 26 new₂)
+
+-- DOCUMENT 02, N4. r is what `rank_step` gives for tables. It lends nothing and refuses nothing.
+abbrev pub GivesStep : Bytes → ℕ → Type 0
+GivesStep tables r = r ≡ rankStepOf tables
+
+-- "where they are refused 7": the tables T that the bytes have, to their last byte, are refused so.
+pub record RefusedRank (tables : Bytes) (T : Tables) : Type 0 where
+  pub number : tablesOf tables ≡ rejected Rank
+  pub bytes : sections tables ≡ took T []
+
+-- "gives the first step that fails, 1, 2 or 3, where they are refused 7, and 0 for all others."
+pub data StepOf (tables : Bytes) : ℕ → Type 0 where
+  other : (tablesOf tables ≡ rejected Rank → ⊥) → StepOf tables 0
+  notReflexive : {T : Tables} → RefusedRank tables T → reflexive (T .roleRows) ≡ false → StepOf tables 1
+  notTransitive : {T : Tables} → RefusedRank tables T → reflexive (T .roleRows) ≡ true → transitive (T .roleRows) ≡ false → StepOf tables 2
+  notAntisymmetric : {T : Tables} → RefusedRank tables T → reflexive (T .roleRows) ≡ true → transitive (T .roleRows) ≡ true
+      → antisymmetric (T .roleRows) ≡ false → StepOf tables 3

@@ -1,8 +1,8 @@
 // The tracker's calls: byte slices and numbers. A call returns L, or 65,536 × the refusal's number; for a page the line's position is added.
-// Below these nothing knows the tracker's numbers.
+// `rank_step` alone refuses nothing. Below these nothing knows the tracker's numbers.
 ghost use mathlib.Core.Path.{_≡_};
 ghost use Prim.Native.Nat.{_<_};
-ghost use Rattle.rcl2000.specs.Calls.{Reduces, GivesBack, Judges, JudgesPage};
+ghost use Rattle.rcl2000.specs.Calls.{Reduces, GivesBack, Judges, JudgesPage, GivesStep};
 ghost use Rattle.rcl2000.specs.code.Reply.{replyOf, pageReplyOf};
 use answers::Written;
 use pages::Answered;
@@ -60,4 +60,12 @@ pub extern "C" fn judge_page(tables: &[u8], page: &[u8], out: &mut [u8]) -> u32
     ensures { λ r. ⌜ JudgesPage (now (tables .entry)) (now (page .entry)) (now (out .entry)) (now (out .exit)) r ⌝ }
 {
     page_number(pages::judge(tables, page, out))
+}
+
+// The first step of the hierarchy test that fails, where the tables are refused for it; 0 for all others.
+#[no_mangle]
+pub extern "C" fn rank_step(tables: &[u8]) -> u32
+    ensures { λ r. ⌜ GivesStep (now (tables .entry)) r ⌝ }
+{
+    tables::rank_step(tables)
 }

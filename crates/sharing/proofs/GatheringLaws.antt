@@ -1,6 +1,6 @@
 -- A sheaf of rules: the empty one, one with a line more, one as it was, and the rule that all make together.
 -- Assumes nothing.
-use mathlib.Core.Path.{_≡_, refl, ap, ap₂, sym, subst, _∙_}
+use mathlib.Core.Path.{_≡_, refl, ap, sym, subst, _∙_}
 use mathlib.Core.Bool.{Bool, true, false}
 use mathlib.Core.List.{List, [], _∷_, _++_}
 use mathlib.Core.Logic.{⊎-elim}
@@ -11,11 +11,11 @@ use lib.ListN.{length, getD, take, drop, set, length-append, length-set, length-
 use lib.Seq.{getD-take, getD-drop, getD-append-add, getD-append-seam, length-take-le, take-suc, ext-getD}
 use borrow.Rule.Slice.PartMut.{midOf, postOf, putMid}
 use Rattle.syntax.specs.Bytes.{Bytes}
-use Rattle.syntax.specs.Term.{Term, Choices}
+use Rattle.syntax.specs.Term.{Choices}
 use Rattle.syntax.specs.Rule.{Clause, Rule, last, ruleVars, ruleOf}
 use Rattle.syntax.specs.code.Arena.{HoldsAll, HoldsClause, HoldsRule, Tidy}
 use Rattle.syntax.specs.code.Reading.{mk, Stays, graft, ClauseList, Listing, Joinable, JoinedAt}
-use Rattle.syntax.proofs.ArenaLaws.{Kept, kept-later, holds-one, clause-kept, all-kept, all-later, tidy-kept, tidy-none}
+use Rattle.syntax.proofs.ArenaLaws.{Kept, kept-later, all-one, clause-kept, all-kept, all-later, tidy-kept, tidy-none}
 use Rattle.syntax.proofs.FormulaLaws.{knows-none}
 use Rattle.rules.specs.Accept.{ruleLimit, choicesLimit, refusal}
 use Rattle.rules.specs.declared.Found.{Found}
@@ -34,16 +34,6 @@ use Rattle.sharing.proofs.ClausesLaws.{clauses-count, count-some, claus
 use Rattle.sharing.proofs.ClausesLaws.{all-more, start-next, start-within, start-last, clauses-from}
 
 -- Nodes and lists.
-
--- The nodes of a list hold one list of terms.
-pub all-one : (ns vs : List ℕ) (σ τ : Choices) → HoldsAll ns vs σ → HoldsAll ns vs τ → σ ≡ τ
-all-one ns [] [] [] x y = refl
-all-one ns [] [] (b ∷ τ) x y = absurd y
-all-one ns [] (a ∷ σ) τ x y = absurd x
-all-one ns (v ∷ vs) [] τ x y = absurd x
-all-one ns (v ∷ vs) (a ∷ σ) [] x y = absurd y
-all-one ns (v ∷ vs) (a ∷ σ) (b ∷ τ) x y =
-    ap₂ (λ (t : Term) (r : Choices). t ∷ r) (holds-one ns v a b (x .0) (y .0)) (all-one ns vs σ τ (x .1) (y .1))
 
 pub copied-kept : {xs ys : List ℕ} {k : ℕ} → Copied xs ys k → Kept xs ys k
 copied-kept p = record { same = p .same }

@@ -14,19 +14,20 @@ use Rattle.words.specs.Words.{has, anyTo, joinOf}
 use Rattle.words.proofs.WordsLaws.{has-in, word-in, any-here, any-none, and-true}
 use Rattle.words.proofs.LoopLaws.{or-right}
 use Rattle.tables.specs.Tables.{Tables}
-use Rattle.syntax.specs.Rule.{Clause, plain, when, Rule, ruleVars}
-use Rattle.syntax.specs.code.Arena.{Low, Tidy}
+use Rattle.syntax.specs.Rule.{Rule, ruleVars}
+use Rattle.syntax.specs.code.Arena.{Tidy}
 use Rattle.syntax.proofs.NameLaws.{all-length}
 use Rattle.rules.specs.declared.Parsed.{Parsed}
 use Rattle.walks.specs.code.Context.{Covers, openIn, Context}
 use Rattle.walks.specs.code.Kept.{Masks}
 use Rattle.walks.proofs.ContextLaws.{covers-left, covers-right, context-from}
 use Rattle.values.specs.Sets.{setOf, names}
-use Rattle.values.specs.code.Clauses.{clauseCount, clauseAt, clauseNames, ClauseNodes}
+use Rattle.values.specs.code.Clauses.{clauseCount, clauseAt, clauseNames}
 use Rattle.values.specs.code.Nodes.{NamesTo, Variables, Named, SetsNamed}
 use Rattle.values.specs.code.Plan.{planRoom, levelsFrom, clausesAt, ClausesIn}
+use Rattle.values.proofs.PlanLaws.{clause-low}
 use Rattle.values.proofs.ClausesLaws.{clausesOf, names-small, clause-small}
-use Rattle.values.proofs.TruthLaws.{low-more, low-none}
+use Rattle.values.proofs.TruthLaws.{low-more}
 use Rattle.judging.specs.code.Lent.{varsOf}
 use Rattle.judging.specs.code.Planning.{variablesAt, Layout, Planned, Filled, ClausesLow, Scoped, ClausesNamed}
 use Rattle.judging.specs.code.Walking.{OwnNodes}
@@ -136,15 +137,10 @@ laid-more starts {plan} {scopes} {sets} {old} {new} r f t L h k l = go (ℕ-disc
 
 -- ---- what a plan gives
 
-tests-low : (ns : List ℕ) (n first second : ℕ) (q : Clause) → ClauseNodes ns n first second q → Low first n × Low second n
-unfolding ClauseNodes
-tests-low ns n first second (plain p) x = (x .0 .low, rw (x .1) (low-none n))
-tests-low ns n first second (when p q) x = (x .0 .low, x .1 .low)
-
 pub clauses-low : {plan ns : List ℕ} {n : ℕ} {ρ : Rule} → ClausesIn plan ns n ρ → (m : ℕ) → n ≤ m → ClausesLow plan (getD plan clausesAt 0) m
 clauses-low {plan} {ns} {n} {ρ} C m l = record {
-  firsts = λ i k. low-more (tests-low ns n _ _ (clauseAt ρ i) (C .each i (omega (arith, C .many))) .0) l;
-  seconds = λ i k. low-more (tests-low ns n _ _ (clauseAt ρ i) (C .each i (omega (arith, C .many))) .1) l;
+  firsts = λ i k. low-more (clause-low ns n _ _ (clauseAt ρ i) (C .each i (omega (arith, C .many))) .0) l;
+  seconds = λ i k. low-more (clause-low ns n _ _ (clauseAt ρ i) (C .each i (omega (arith, C .many))) .1) l;
 }
 
 pub order-in : {ts plan : List ℕ} {y : Layout} {T : Tables} {ρ : Rule} → Planned ts plan y T ρ → OrderIn plan

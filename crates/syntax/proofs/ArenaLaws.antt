@@ -323,6 +323,16 @@ holds-one ns k (two o t v) (two p u w) x y =
     let e : o ≡ p = two-one o p (sym (f .op) ∙ g .op) in
     cc (holds-one ns (y .0) t u h (y .3), holds-one ns (y .1) v w h′ (y .4))
 
+-- The nodes of a list hold one list of terms.
+pub all-one : (ns vs : List ℕ) (σ τ : Choices) → HoldsAll ns vs σ → HoldsAll ns vs τ → σ ≡ τ
+all-one ns [] [] [] x y = refl
+all-one ns [] [] (b ∷ τ) x y = absurd y
+all-one ns [] (a ∷ σ) τ x y = absurd x
+all-one ns (v ∷ vs) [] τ x y = absurd x
+all-one ns (v ∷ vs) (a ∷ σ) [] x y = absurd y
+all-one ns (v ∷ vs) (a ∷ σ) (b ∷ τ) x y =
+    ap₂ (λ (t : Term) (r : Choices). t ∷ r) (holds-one ns v a b (x .0) (y .0)) (all-one ns vs σ τ (x .1) (y .1))
+
 -- A node that no node below n is, and whose own indexes stand below n, may be put behind them.
 
 apart-more : (ns : List ℕ) (n v : ℕ) → n < length ns → Apart ns n → ((k : ℕ) → k < n → getD ns k 0 ≡ v → ⊥) → Apart (set ns n v) (n + 1)

@@ -1,7 +1,7 @@
 -- Document 01: "The largest tables take 3,785 bytes": how many bytes accepted tables have, and that tables of that length are accepted.
 -- Assumes nothing.
 use mathlib.Core.Path.{_≡_, refl, sym, ap, _∙_}
-use mathlib.Core.Bool.{true, _&&_}
+use mathlib.Core.Bool.{true}
 use mathlib.Core.List.{List, map}
 use Prim.Native.Nat.{ℕ, zero, suc, _^_, _≤_, _<_}
 use native.Mathlib.Omega.{arith}
@@ -10,10 +10,10 @@ use lib.ListN.{length, getD, replicate}
 use lib.Pow.{pow-pos}
 use borrow.Author.Tests.{eqb-true, eq-eqb, ne-eqb}
 use Rattle.words.specs.Words.{has, itemOf}
-use Rattle.words.proofs.WordsLaws.{has-zero, has-item, item-lt, and-both}
+use Rattle.words.proofs.WordsLaws.{has-zero, has-item, item-lt}
 use Rattle.tables.specs.Tables.{Session, Tables, sessionRoles}
 use Rattle.tables.specs.Functions.{dominates}
-use Rattle.tables.specs.Checks.{allTo, implies, reflexive, transitive, antisymmetric, ranked, inReach, apart, lateChecks, firstFailing}
+use Rattle.tables.specs.Checks.{rankStep, ranked, inReach, apart, lateChecks, firstFailing}
 use Rattle.tables.specs.Bytes.{Bytes, AreBytes}
 use Rattle.tables.specs.Accepted.{Below, Known, Every, Passes}
 use Rattle.tables.specs.Reading.{taken, tablesOf}
@@ -21,7 +21,7 @@ use Rattle.tables.specs.Flat.{tabulate}
 use Rattle.tables.specs.Encode.{encode, bytesOf}
 use Rattle.tables.proofs.FlatLaws.{length-tabulate, tabulate-at}
 use Rattle.tables.proofs.AllLaws.{all-every}
-use Rattle.tables.proofs.CheckLaws.{implied}
+use Rattle.tables.proofs.RankLaws.{reflexive-says, transitive-says, antisymmetric-says, step-none}
 use Rattle.tables.proofs.EncodeLaws.{passes-accepted, accepted-bytes}
 use Rattle.tables.proofs.EncodedLaws.{encode-length, encode-bytes}
 
@@ -68,8 +68,10 @@ tabulate-less b (suc n) f p h (suc i) = tabulate-less b n (λ j. f (suc j)) p (�
 
 -- Rows that are single items are ranked, and words that differ are apart.
 single-ranked : (rows : List ℕ) → length rows ≤ 64 → ((r : ℕ) → r < length rows → getD rows r 0 ≡ itemOf r) → ranked rows ≡ true
-unfolding ranked reflexive transitive antisymmetric
-single-ranked rows few h = and-both (all-every n _ self) (and-both (all-every n _ along) (all-every n _ not-both))
+unfolding ranked
+single-ranked rows few h =
+    eq-eqb (rankStep rows) 0
+    (step-none rows (reflexive-says rows .1 self) (transitive-says rows .1 along) (antisymmetric-says rows .1 not-both))
   where
     n : ℕ
     n = length rows
@@ -80,14 +82,11 @@ single-ranked rows few h = and-both (all-every n _ self) (and-both (all-every n 
     self : (r : ℕ) → r < n → dominates rows r r ≡ true
     self r l = is r r l l ∙ eq-eqb r r refl
 
-    along : (r : ℕ) → r < n → allTo n (λ q. allTo n (λ p. implies (dominates rows r q && dominates rows q p) (dominates rows r p))) ≡ true
-    along r lr = all-every n _ λ q lq. all-every n _ λ p lp.
-        implied (dominates rows r q) (dominates rows q p) (dominates rows r p) λ a b.
-        is r p lr lp ∙ eq-eqb p r (eqb-true p q (sym (is q p lq lp) ∙ b) ∙ eqb-true q r (sym (is r q lr lq) ∙ a))
+    along : (r q p : ℕ) → r < n → q < n → p < n → dominates rows r q ≡ true → dominates rows q p ≡ true → dominates rows r p ≡ true
+    along r q p lr lq lp a b = is r p lr lp ∙ eq-eqb p r (eqb-true p q (sym (is q p lq lp) ∙ b) ∙ eqb-true q r (sym (is r q lr lq) ∙ a))
 
-    not-both : (r : ℕ) → r < n → allTo n (λ q. implies (dominates rows r q && dominates rows q r) (eqb r q)) ≡ true
-    not-both r lr = all-every n _ λ q lq.
-        implied (dominates rows r q) (dominates rows q r) (eqb r q) λ a b. eq-eqb r q (eqb-true r q (sym (is q r lq lr) ∙ b))
+    not-both : (r q : ℕ) → r < n → q < n → dominates rows r q ≡ true → dominates rows q r ≡ true → r ≡ q
+    not-both r q lr lq a b = eqb-true r q (sym (is q r lq lr) ∙ b)
 
 differing-apart : (ws : List ℕ) → ((i : ℕ) → i < length ws → getD ws i 0 ≡ i) → apart ws ≡ true
 unfolding apart

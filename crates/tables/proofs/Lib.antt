@@ -6,7 +6,9 @@ pub mod SectionLaws
 pub mod SectionsLaws
 pub mod FlatLaws
 pub mod AllLaws
+pub mod TwinLaws
 pub mod CheckLaws
+pub mod RankLaws
 pub mod ReachLaws
 pub mod FitsLaws
 pub mod BytesLaws
@@ -16,5 +18,7 @@ pub mod LargestLaws
 pub mod LocalLaws
 pub mod PageLaws
 pub mod LaidLaws
+pub mod OneLaws
 pub mod PartLaws
 pub mod LoadLaws
+pub mod StopLaws

@@ -37,25 +37,28 @@ unfolding tablesOf whole next nothingLeft refuse
 left-over b {T} {t} q l = rw (q, lt-ltb 0 (length t) l)
 
 -- Once the sections are read, a refusal is one of 7 to 10.
-failing-late : (cs : List Check) → Every (λ c. 7 ≤ numberOf (c .refusal)) cs → {e : Refusal} → firstFailing cs ≡ Refused e → 7 ≤ numberOf e
+abbrev Late : Refusal → Type 0
+Late e = (7 ≤ numberOf e) × (numberOf e ≤ 10)
+
+failing-late : (cs : List Check) → Every (λ c. Late (c .refusal)) cs → {e : Refusal} → firstFailing cs ≡ Refused e → Late e
 unfolding firstFailing
 failing-late [] h q = never (sym q)
 failing-late (c ∷ cs) h {e} q = go (c .holds) refl (λ k. failing-late cs (h .1) k)
   where
-    go : (b : Bool) → c .holds ≡ b → (firstFailing cs ≡ Refused e → 7 ≤ numberOf e) → 7 ≤ numberOf e
+    go : (b : Bool) → c .holds ≡ b → (firstFailing cs ≡ Refused e → Late e) → Late e
     go true k on = on (rw k at q)
     go false k on = let d : c .refusal ≡ e = cc (rw k at q) in rw (← d) (h .0)
 
-late-refusals : (T : Tables) → Every (λ c. 7 ≤ numberOf (c .refusal)) (lateChecks T)
+late-refusals : (T : Tables) → Every (λ c. Late (c .refusal)) (lateChecks T)
 unfolding lateChecks
-late-refusals T = (omega arith, (omega arith, (omega arith, tt)))
+late-refusals T = ((omega arith, omega arith), ((omega arith, omega arith), ((omega arith, omega arith), tt)))
 
-pub late-refusal : (b : Bytes) {T : Tables} {t : Bytes} {e : Refusal} → sections b ≡ took T t → tablesOf b ≡ rejected e → 7 ≤ numberOf e
+pub late-refusal : (b : Bytes) {T : Tables} {t : Bytes} {e : Refusal} → sections b ≡ took T t → tablesOf b ≡ rejected e → Late e
 unfolding tablesOf whole next nothingLeft refuse settle
 late-refusal b {T} {t} {e} q h = go (ltb 0 (length t)) (late T) refl refl
   where
-    go : (w : Bool) (o : Outcome) → ltb 0 (length t) ≡ w → late T ≡ o → 7 ≤ numberOf e
-    go true o e₀ e₁ = let d : LeftOver ≡ e = cc (rw (q, e₀) at h) in rw (← d) (omega arith)
+    go : (w : Bool) (o : Outcome) → ltb 0 (length t) ≡ w → late T ≡ o → Late e
+    go true o e₀ e₁ = let d : LeftOver ≡ e = cc (rw (q, e₀) at h) in rw (← d) (omega arith, omega arith)
     go false (Refused f) e₀ e₁ = let d : f ≡ e = cc (rw (q, e₀, e₁) at h) in rw d at (failing-late (lateChecks T) (late-refusals T) e₁)
     go false Accepted e₀ e₁ = let o : _≡_ {A = ℕ} 0 1 = cc (rw (q, e₀, e₁) at h) in absurd (omega arith)
 
@@ -79,6 +82,17 @@ module _ (b : Bytes) {T : Tables} {n : ℕ} (q : sections b ≡ took T (drop n b
         go (Refused f) e = rw (q, none, e)
         go Accepted e = rw (q, none, e)
 
+-- The sections end in one way only: a refusal, bytes left over, or nothing behind them.
+module _ (b : Bytes) {T : Tables} (q : sections b ≡ took T []) where
+  pub read-stopped : {e : Refusal} {A : Type 0} → sections b ≡ stop e → A
+  read-stopped p = let z : _≡_ {A = ℕ} 0 1 = cc in absurd (omega arith)
+
+  pub read-left : {S : Tables} {n : ℕ} {A : Type 0} → sections b ≡ took S (drop n b) → n < length b → A
+  read-left {n = n} p l = let z : drop n b ≡ [] = cc in absurd (omega (arith, ap length z, length-drop n b))
+
+  pub read-once : {S : Tables} {t : Bytes} → sections b ≡ took S t → S ≡ T
+  read-once p = cc
+
 -- What reading the sections into empty words gives.
 pub record Stored (b : Bytes) (new : List ℕ) (n : ℕ) : Type 0 where
   pub tables : Tables
@@ -90,6 +104,13 @@ pub whole-of : {b : Bytes} {old new : List ℕ} {v n : ℕ} → old ≡ replicat
 whole-of {b} e g =
     let x = sections-sound b (g .reads) in
     record { tables = g .value; reads = g .reads; sound = x; flatly = filled-flat (x .fits) (rw e at (g .holds)) }
+
+pub refused-one : {f e : Refusal} → Refused f ≡ Refused e → f ≡ e
+refused-one q = cc
+
+pub refused-as : (R : Reading) {o : Outcome} {e : Refusal} → o ≡ readingOutcome R → o ≡ Refused e → R ≡ rejected e
+refused-as (rejected f) p q = ap rejected (refused-one (sym p ∙ q))
+refused-as (taken T) p q = never (sym q ∙ p)
 
 -- Refused tables have no words.
 pub refused-words : (r : Reading) {o : Outcome} {e : Refusal} → o ≡ readingOutcome r → o ≡ Refused e → replicate wholeLength 0 ≡ wordsOf r

@@ -190,7 +190,7 @@ refusal-stays s x e h l k = go (sections s) refl
     go (stop f) q =
         let d : f ≡ e = cc (load-stop s q) in
         first-refusal s x e (rw d at q) l
-    go (took T t) q = absurd (omega (arith, late-refusal s q h))
+    go (took T t) q = absurd (omega (arith, late-refusal s q h .0))
 
 -- 1: "bytes end where a count or row is due, or inside a row": accepted tables that are cut anywhere are cut short.
 pub cut-anywhere : (b : Bytes) {T : Tables} → tablesOf b ≡ taken T → (n : ℕ) → n < length b → tablesOf (take n b) ≡ rejected CutShort

@@ -12,7 +12,7 @@ use Rattle.answers.specs.declared.Refusal.the-variants.{CutShort, NotEntered, B
 use Rattle.words.specs.Words.{has, anyTo}
 use Rattle.words.proofs.WordsLaws.{has-out, word-self, word-more, any-here, any-witness, both, and-true, and-both, word-lt}
 use Rattle.tables.specs.Tables.{Tables}
-use Rattle.tables.specs.Checks.{allTo, reflexive, transitive, antisymmetric, ranked, inReach, apart, lateChecks, firstFailing}
+use Rattle.tables.specs.Checks.{allTo, reflexive, transitive, antisymmetric, rankSteps, failingFrom, rankStep, ranked, inReach, apart, lateChecks, firstFailing}
 use Rattle.tables.specs.Reading.{Bytes, stop, took, rejected, taken, tablesOf, next, refuse, front, byte, count, wordFrom, wordWithin, wordRow, markedRow, sessionRow}
 use Rattle.tables.specs.Reading.{rows, section, permissions, rights, collections, sections, nothingLeft, settle, whole}
 use Rattle.tables.proofs.ReadLaws.{nine, word-row-cut, marked-cut, session-cut, word-row, marked-none, marked-bad, marked-row, session-none, within-over, within-took}
@@ -72,7 +72,7 @@ oneUser mark low = 1 ∷ 1 ∷ replicate 7 0 ++ 1 ∷ mark ∷ low ∷ replicate
 
 -- Open the definitions of the checks, and all of reading.
 checking : Unit {0}
-unfolding lateChecks firstFailing ranked reflexive transitive antisymmetric inReach apart allTo has nothingLeft
+unfolding lateChecks firstFailing ranked rankStep rankSteps failingFrom reflexive transitive antisymmetric inReach apart allTo has nothingLeft
 checking = tt
 
 everything : Unit {0}

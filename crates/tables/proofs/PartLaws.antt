@@ -1,7 +1,7 @@
 -- Laws of taking a section out of the flat tables, by its count.
 -- Assumes nothing.
 use mathlib.Core.Path.{_≡_, refl, sym, ap, _∙_}
-use mathlib.Core.Bool.{Bool, true}
+use mathlib.Core.Bool.{true}
 use mathlib.Core.List.{List, [], _∷_, map}
 use Prim.Native.Nat.{ℕ, zero, suc, _+_, _*_, _≤_, _<_}
 use native.Mathlib.Omega.{arith}
@@ -9,7 +9,7 @@ use lib.ListN.{length, getD, take, drop, length-map, length-drop}
 use lib.Seq.{take-append-le, drop-append-add, length-take-le}
 use Rattle.words.specs.Words.{itemOf}
 use Rattle.tables.specs.Tables.{Tables, sessionUsers, sessionRoles}
-use Rattle.tables.specs.Checks.{ranked, inReach}
+use Rattle.tables.specs.Checks.{rankStep, ranked, inReach}
 use Rattle.tables.specs.code.Layout.{Whole, roleCountAt, userCountAt, sessionCountAt, crCountAt, cuCountAt, cpCountAt, roleRowsAt, userRowsAt}
 use Rattle.tables.specs.code.Layout.{sessionUsersAt, sessionRolesAt, crAt, cuAt, cpAt}
 use Rattle.tables.specs.Flat.{wholeLength, room, padded, counts, sections, laid, flat}
@@ -82,8 +82,8 @@ module _ (T : Tables) (fits : Fits T) {ws : List ℕ} (e : ws ≡ flat T) where
       → v ≡ take (getD ws sessionCountAt 0) (drop sessionRolesAt ws) → reaching r a o v ≡ inReach T
   reach-part b ok qr qa qo qv = rw (roles-part qr, users-part qa, owners-part qo, active-part qv) (reach-words T fits b ok)
 
-  pub rank-part : Bounded T → {p : List ℕ} {r : Bool} → p ≡ take (getD ws roleCountAt 0) (drop roleRowsAt ws) → (Below (length p) p → r ≡ ranked p)
-      → r ≡ ranked (T .roleRows)
+  pub rank-part : Bounded T → {p : List ℕ} {r : ℕ} → p ≡ take (getD ws roleCountAt 0) (drop roleRowsAt ws) → (Below (length p) p → r ≡ rankStep p)
+      → r ≡ rankStep (T .roleRows)
   rank-part b q h = let d = roles-part q in rw d at (h (rw d (b .roles)))
 
   pub counts-fit : CountsFit ws

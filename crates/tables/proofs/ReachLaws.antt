@@ -5,7 +5,6 @@ use mathlib.Core.Bool.{Bool, true, false, _&&_, _||_, not, and-true as and-yes}
 use mathlib.Core.List.{List, map}
 use Prim.Native.Nat.{ℕ, _<_, _^_}
 use native.Mathlib.Omega.{arith}
-use lib.Dec.{eqb}
 use lib.ListN.{length, getD, length-map}
 use borrow.Author.Tests.{eq-eqb, ne-eqb}
 use Rattle.words.specs.Words.{has, itemOf, joinOf, lessOf, imageOf}
@@ -14,13 +13,14 @@ use Rattle.words.proofs.LoopLaws.{image-turn, image-begin, image-end}
 use Rattle.words.proofs.RelationLaws.{reach, image-image, has-image}
 use Rattle.tables.specs.Tables.{Tables, sessionUsers, sessionRoles}
 use Rattle.tables.specs.Functions.{dominates, assigned, active, juniorsOfUsers}
-use Rattle.tables.specs.Checks.{implies, reflexive, transitive, antisymmetric, ranked, inReach}
+use Rattle.tables.specs.Checks.{implies, reflexive, ranked, inReach}
 use Rattle.tables.specs.Accepted.{Fits, Below, Bounded}
 use Rattle.tables.specs.code.Reads.{coveredBy, reachAt, reaching}
 use Rattle.tables.proofs.FlatLaws.{map-at}
 use Rattle.tables.proofs.FitsLaws.{active-below, users-below}
 use Rattle.tables.proofs.AllLaws.{all-every, all-at, all-ext}
 use Rattle.tables.proofs.CheckLaws.{less-zero, some-item}
+use Rattle.tables.proofs.RankLaws.{ranked-self}
 
 -- ---- the loop: what one role dominates is taken from the rest
 
@@ -108,10 +108,6 @@ module _ (T : Tables) (b : Bounded T) (self : reflexive (T .roleRows) ≡ true) 
       absorbed true false i h = refl
       absorbed false o i h = refl
 
-rank-self : (rows : List ℕ) → ranked rows ≡ true → reflexive rows ≡ true
-unfolding ranked
-rank-self rows ok = and-true (reflexive rows) (transitive rows && antisymmetric rows) ok .0
-
 pub reach-words : (T : Tables) → Fits T → Bounded T → ranked (T .roleRows) ≡ true
     → reaching (T .roleRows) (T .userRows) (map itemOf (sessionUsers T)) (sessionRoles T) ≡ inReach T
 unfolding reaching inReach Below
@@ -123,7 +119,7 @@ reach-words T f b ok =
     (λ s l.
     let u = itemOf (getD (sessionUsers T) s 0) in
     let k : s < length (sessionUsers T) = omega (arith, length-map (T .sessions) (λ s. s .user)) in
-    rw (map-at itemOf (sessionUsers T) s k, less-own T b (rank-self (T .roleRows) ok) u (getD (sessionRoles T) s 0), juniors-words T u)
+    rw (map-at itemOf (sessionUsers T) s k, less-own T b (ranked-self (T .roleRows) ok) u (getD (sessionRoles T) s 0), juniors-words T u)
     (less-zero R (getD (sessionRoles T) s 0) (juniorsOfUsers T u) (f .roles) (active-below (length (T .userRows)) R (T .sessions) (b .sessions) s))))
 
 -- Document 02, N2, moves no tables from accepted to 8: where each active role is assigned, as document 01 asked, no session overreaches.
@@ -142,4 +138,4 @@ assigned-reach T f b ok direct =
         let lu : u < 64 = omega (arith, users-below (length (T .userRows)) (length (T .roleRows)) (T .sessions) (b .sessions) s l, f .users) in
         let h : has (imageOf (T .userRows) (itemOf u)) r ≡ true =
         has-image (T .userRows) (itemOf u) r lr ∙ some-item u (λ i. has (getD (T .userRows) i 0) r) lu ∙ direct s r l e in
-        sym (ap (λ (w : ℕ). has w r) (juniors-words T (itemOf u))) ∙ own-dominated T b (rank-self (T .roleRows) ok) (itemOf u) r lr h
+        sym (ap (λ (w : ℕ). has w r) (juniors-words T (itemOf u))) ∙ own-dominated T b (ranked-self (T .roleRows) ok) (itemOf u) r lr h

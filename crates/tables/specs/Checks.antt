@@ -21,7 +21,7 @@ allTo (suc n) f = allTo n f && f n
 abbrev pub implies : Bool → Bool → Bool
 implies a b = not a || b
 
--- 7, rank: "role rows not reflexive, transitive, antisymmetric".
+-- 7, rank: "role rows not reflexive, transitive, antisymmetric"; each over the whole hierarchy.
 unfoldable pub reflexive : List ℕ → Bool
 reflexive rows = allTo (length rows) (λ r. dominates rows r r)
 
@@ -34,8 +34,21 @@ unfoldable pub antisymmetric : List ℕ → Bool
 antisymmetric rows =
     allTo (length rows) (λ r. allTo (length rows) (λ q. implies (dominates rows r q && dominates rows q r) (eqb r q)))
 
+-- Document 02, N4: "reflexive, transitive and antisymmetric, in that sequence. Let the rank test .. take those steps in that sequence."
+unfoldable pub rankSteps : List ℕ → List Bool
+rankSteps rows = reflexive rows ∷ transitive rows ∷ antisymmetric rows ∷ []
+
+-- "the first step that fails", of steps that are numbered from k on; 0 where none does.
+unfoldable pub failingFrom : ℕ → List Bool → ℕ
+failingFrom k [] = 0
+failingFrom k (holds ∷ steps) = cond holds (failingFrom (suc k) steps) k
+
+unfoldable pub rankStep : List ℕ → ℕ
+rankStep rows = failingFrom 1 (rankSteps rows)
+
+-- "All three still give 7."
 unfoldable pub ranked : List ℕ → Bool
-ranked rows = reflexive rows && (transitive rows && antisymmetric rows)
+ranked rows = eqb (rankStep rows) 0
 
 -- 8, overreach, as document 02, N2, moves it: "exactly when an active role is not in `roles*` of the session's user" (document 01: "its user is not assigned").
 unfoldable pub inReach : Tables → Bool

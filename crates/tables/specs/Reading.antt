@@ -1,4 +1,4 @@
--- Document 01, "Tables" and "Turned back" 1 to 10: from bytes to a refusal or the tables, front to back.
+-- Document 01, "Tables" and "Turned back" 1 to 10: from bytes to a refusal or the tables, front to back; document 02, N4: to a step of the rank test.
 -- Assumes nothing.
 use mathlib.Core.Bool.{Bool, true, false, not, cond}
 use mathlib.Core.List.{List, [], _∷_}
@@ -7,11 +7,11 @@ use lib.Dec.{eqb, ltb, leb}
 use lib.ListN.{length, getD, take, drop, replicate}
 use Rattle.answers.specs.Refusal.{numberOf}
 use Rattle.answers.specs.declared.Refusal.{Refusal}
-use Rattle.answers.specs.declared.Refusal.the-variants.{CutShort, Overfull, NotEntered, BadMark, NoSuchItem, Miscounted, LeftOver}
+use Rattle.answers.specs.declared.Refusal.the-variants.{CutShort, Overfull, NotEntered, BadMark, NoSuchItem, Miscounted, Rank, LeftOver}
 use Rattle.tables.specs.declared.Outcome.{Outcome}
 use Rattle.tables.specs.declared.Outcome.the-variants.{Refused, Accepted}
 use Rattle.tables.specs.Tables.{Session, Tables}
-use Rattle.tables.specs.Checks.{late}
+use Rattle.tables.specs.Checks.{rankStep, late}
 use Rattle.tables.specs.Flat.{wholeLength, flat}
 unfoldable pub use Rattle.tables.specs.Bytes.{Bytes, wordFrom}
 
@@ -102,6 +102,10 @@ section row = do
   n ← count 64
   rows (row n) n
 
+-- Section 1: "Roles". A role's row is held against the count of roles just read.
+abbrev pub roles : Reader (List ℕ)
+roles = section (λ n. wordRow n)
+
 -- Section 6: "Permissions, exactly operations × objects." 6: "permissions not operations × objects";
 -- "For permissions 2 is never given: 6 covers its count."
 unfoldable pub permissions : ℕ → ℕ → Reader (List ℕ)
@@ -136,7 +140,7 @@ collections roles users permissions = do
   p ← section (λ _. wordRow permissions)
   give (record { cr = r; cu = u; cp = p })
 
--- The nine sections. A role's row is held against the count of roles just read.
+-- The nine sections.
 abbrev pub assembled : List ℕ → List ℕ → List Session → Rights → Collections → Tables
 assembled rs us ss q c =
     record {
@@ -153,7 +157,7 @@ assembled rs us ss q c =
 
 unfoldable pub sections : Reader Tables
 sections = do
-  rs ← section (λ n. wordRow n)
+  rs ← roles
   us ← section (λ _. markedRow (length rs))
   ss ← section (λ _. sessionRow (length us) (length rs))
   q ← rights (length rs)
@@ -202,3 +206,11 @@ readingNumber (taken T) = 0
 abbrev pub wordsOf : Reading → List ℕ
 wordsOf (rejected e) = replicate wholeLength 0
 wordsOf (taken T) = flat T
+
+-- Document 02, N4: "takes tables' bytes and gives the first step that fails, 1, 2 or 3, where they are refused 7, and 0 for all others."
+abbrev pub rowsRead : Taken (List ℕ) → List ℕ
+rowsRead (stop e) = []
+rowsRead (took rs s) = rs
+
+unfoldable pub rankStepOf : Bytes → ℕ
+rankStepOf s = cond (eqb (readingNumber (tablesOf s)) (numberOf Rank)) (rankStep (rowsRead (roles s))) 0

@@ -2,53 +2,24 @@
 // Each check takes the very rows that it is about.
 ghost use mathlib.Core.Path.{_≡_};
 ghost use mathlib.Core.Bool.{true};
-ghost use Prim.Native.Nat.{_+_, _≤_, _<_};
+ghost use Prim.Native.Nat.{_+_, _≤_};
 ghost use lib.ListN.{length, take, drop};
-ghost use Rattle.tables.specs.Checks.{ranked as rankedOf, inReach as inReachOf, apart as apartOf, noTwin, late};
-ghost use Rattle.tables.specs.code.Reads.{rankAt, coveredBy, reaching, newAt, CountsFit};
+ghost use Rattle.tables.specs.Checks.{rankStep, ranked, inReach as inReachOf, noTwin, late};
+ghost use Rattle.tables.specs.code.Reads.{coveredBy, reaching, CountsFit};
 ghost use Rattle.tables.specs.Tables.{Tables};
-ghost use Rattle.tables.specs.Accepted.{Fits, Below, Bounded};
+ghost use Rattle.tables.specs.Accepted.{Fits, Bounded};
 ghost use Rattle.tables.specs.code.Layout.{Whole};
 ghost use Rattle.tables.specs.Flat.{wholeLength, room, flat};
 use crate::Outcome;
+use crate::hierarchy::first_failing;
 use crate::layout;
+use crate::twins::apart;
 use answers::Refusal;
-use words::contains;
 use words::image;
 use words::item;
 use words::less;
 use words::lowest;
 use words::row;
-
-// Role r dominates itself; what it dominates besides dominates nothing that r does not, and not r.
-pub fn rank(rows: &[u64], r: usize) -> bool
-    requires { ⌜ (length (now rows) ≤ 64) × (r < length (now rows)) ⌝ }
-    ensures { λ b. ⌜ b ≡ rankAt (now (rows .entry)) r ⌝ }
-{
-    let dominates = rows[r];
-    let below = image(rows, less(dominates, item(r)));
-    if !contains(dominates, r) {
-        return false;
-    }
-    if less(below, dominates) != 0 {
-        return false;
-    }
-    !contains(below, r)
-}
-
-pub fn ranked(rows: &[u64]) -> bool
-    requires { ⌜ length (now rows) ≤ 64 ⌝ }
-    ensures { λ b. ⌜ (Below (length (now (rows .entry))) (now (rows .entry)) → b ≡ rankedOf (now (rows .entry))) ⌝ }
-{
-    let mut r: usize = 0;
-    while r < rows.len() {
-        if !rank(rows, r) {
-            return false;
-        }
-        r += 1;
-    }
-    true
-}
 
 // Whether the roles of `over` are dominated by roles of `own`. No more rows are looked at than that takes.
 pub fn covered(rows: &[u64], own: u64, over: u64) -> bool
@@ -83,36 +54,6 @@ pub fn in_reach(rows: &[u64], assigned: &[u64], users: &[u64], active: &[u64]) -
     true
 }
 
-// No word before i is word i. All are looked at, which is faster than to stop at a twin.
-pub fn new(words: &[u64], i: usize) -> bool
-    requires { ⌜ i < length (now words) ⌝ }
-    ensures { λ b. ⌜ b ≡ newAt (now (words .entry)) i ⌝ }
-{
-    let word = words[i];
-    let mut twin = false;
-    let mut j: usize = 0;
-    while j < i {
-        if words[j] == word {
-            twin = true;
-        }
-        j += 1;
-    }
-    !twin
-}
-
-pub fn apart(words: &[u64]) -> bool
-    ensures { λ b. ⌜ b ≡ apartOf (now (words .entry)) ⌝ }
-{
-    let mut i: usize = 0;
-    while i < words.len() {
-        if !new(words, i) {
-            return false;
-        }
-        i += 1;
-    }
-    true
-}
-
 // n words from word `from` on.
 pub fn part(words: &[u64], from: usize, n: usize) -> &[u64]
     requires { ⌜ (Whole (now words)) × ((from + room ≤ wholeLength) × (n ≤ room)) ⌝ }
@@ -122,10 +63,18 @@ pub fn part(words: &[u64], from: usize, n: usize) -> &[u64]
     &words[from..end]
 }
 
+// The first step of the hierarchy test that fails on the tables' roles, 0 where none does.
+pub fn failing_step(words: &[u64]) -> u32
+    requires { ⌜ CountsFit (now words) ⌝ }
+    ensures { λ r. ⌜ ((T : Tables) → Fits T → Bounded T → now (words .entry) ≡ flat T → r ≡ rankStep (T .roleRows)) ⌝ }
+{
+    first_failing(part(words, layout::ROLE_ROWS, words[layout::ROLE_COUNT] as usize))
+}
+
 // Whether no session of the tables overreaches, where the rank check has passed: a role dominates itself.
 pub fn reaches(words: &[u64]) -> bool
     requires { ⌜ CountsFit (now words) ⌝ }
-    ensures { λ b. ⌜ ((T : Tables) → Fits T → Bounded T → rankedOf (T .roleRows) ≡ true → now (words .entry) ≡ flat T → b ≡ inReachOf T) ⌝ }
+    ensures { λ b. ⌜ ((T : Tables) → Fits T → Bounded T → ranked (T .roleRows) ≡ true → now (words .entry) ≡ flat T → b ≡ inReachOf T) ⌝ }
 {
     let roles = words[layout::ROLE_COUNT] as usize;
     let users = words[layout::USER_COUNT] as usize;
@@ -156,7 +105,7 @@ pub fn checked(words: &[u64]) -> Outcome
     requires { ⌜ CountsFit (now words) ⌝ }
     ensures { λ r. ⌜ ((T : Tables) → Fits T → Bounded T → now (words .entry) ≡ flat T → r ≡ late T) ⌝ }
 {
-    if !ranked(part(words, layout::ROLE_ROWS, words[layout::ROLE_COUNT] as usize)) {
+    if failing_step(words) != 0 {
         return Outcome::Refused(Refusal::Rank);
     }
     if !reaches(words) {

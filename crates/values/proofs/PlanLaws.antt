@@ -107,7 +107,7 @@ holds-all T ρ levels d c m =
 
 -- ---- what is in a plan keeps evaluating within its slices
 
-clause-low : (ns : List ℕ) (n first second : ℕ) (q : Clause) → ClauseNodes ns n first second q → Low first n × Low second n
+pub clause-low : (ns : List ℕ) (n first second : ℕ) (q : Clause) → ClauseNodes ns n first second q → Low first n × Low second n
 unfolding ClauseNodes
 clause-low ns n first second (plain p) x = (x .0 .low, rw (x .1) (low-none n))
 clause-low ns n first second (when p q) x = (x .0 .low, x .1 .low)

@@ -12,6 +12,7 @@ use Rattle.tables.specs.Tables.{Tables}
 use Rattle.syntax.specs.Bytes.{Bytes}
 use Rattle.syntax.specs.Term.{Choices}
 use Rattle.syntax.specs.Rule.{Rule, ruleVars, ruleOf}
+use Rattle.syntax.proofs.ArenaLaws.{all-one}
 use Rattle.rules.specs.declared.Checked.the-variants.{Refused, Accepted}
 use Rattle.rules.specs.declared.Parsed.{Parsed}
 use Rattle.walks.specs.Choices.{nothingChosen, each, ifBreaks}
@@ -29,8 +30,8 @@ use Rattle.verdicts.specs.Verdict.{refusedBy, verdictAlong, turnOrder, t
 use Rattle.verdicts.specs.code.Judging.{ruledBy, Loaded, ParsedFrom, KnownCounts, JudgesInTurn}
 use Rattle.verdicts.proofs.VerdictLaws.{walk-full, walk-breaking}
 use Rattle.verdicts.proofs.RulingLaws.{tally-fits, tally-verdict}
-use Rattle.verdicts.proofs.HeldLaws.{held-rule, held-terms}
-use Rattle.verdicts.proofs.TablesLaws.{all-sound}
+use Rattle.verdicts.proofs.HeldLaws.{held-rule}
+use Rattle.verdicts.proofs.LoadedLaws.{all-sound}
 use Rattle.verdicts.proofs.ParsedLaws.{parsed-few, parsed-refused, parsed-accepts, parsed-rule, rule-case}
 use Rattle.verdicts.proofs.TurnLaws.{take-up, judged-in-turn}
 
@@ -80,7 +81,7 @@ module _ {p : Parsed} {s : Bytes} (P : ParsedFrom s p) where
             small = λ i k. omega (arith, all, order-small (names (ruleVars [] ρ)) many listed is-order i k);
           };
           turn = λ σ w.
-              let same : ruleVars [] ρ ≡ σ = held-terms (p .nodes) (varsOf p) (ruleVars [] ρ) σ (parsed-rule P h .knows .holds) (w .holds) in
+              let same : ruleVars [] ρ ≡ σ = all-one (p .nodes) (varsOf p) (ruleVars [] ρ) σ (parsed-rule P h .knows .holds) (w .holds) in
               subst (λ (τ : Choices). After (names τ) listed) same (admissible .after);
           once = subst (λ (k : ℕ). Once k listed) (sym all) (admissible .once);
         }

@@ -5,9 +5,9 @@ use mathlib.Core.List.{List, [], _∷_}
 use Prim.Native.Nat.{ℕ, _<_}
 use native.Mathlib.Omega.{arith}
 use lib.ListN.{getD}
-use Rattle.syntax.specs.Term.{Term, Choices}
+use Rattle.syntax.specs.Term.{Term}
 use Rattle.syntax.specs.Rule.{Cmp, lt, le, gt, ge, eq, ne, Sign, is, isnt, number, count, Test, member, alike, empty, sized, Clause, plain, when, Rule, last, also}
-use Rattle.syntax.specs.code.Arena.{alikeOp, emptyOp, cmpNumber, Both, Holds, HoldsTest, HoldsClause, HoldsRule, HoldsAll}
+use Rattle.syntax.specs.code.Arena.{alikeOp, emptyOp, cmpNumber, Both, Holds, HoldsTest, HoldsClause, HoldsRule}
 use Rattle.syntax.specs.code.Nodes.{alsoOp, opAt, opRoom}
 use Rattle.syntax.proofs.ArenaLaws.{one-parts, numbered-parts, both-parts, holds-one}
 use Rattle.syntax.proofs.TestLaws.{cmp-small}
@@ -113,7 +113,7 @@ unfolding HoldsClause
 clause-op ns k (plain p) x = omega (arith, test-range ns k p x .most)
 clause-op ns k (when p r) x = omega (arith, both-parts (x .2) (omega arith) .op)
 
--- one rule;
+-- one rule.
 pub held-rule : (ns : List ℕ) (k : ℕ) (ρ κ : Rule) → HoldsRule ns k ρ → HoldsRule ns k κ → ρ ≡ κ
 unfolding HoldsRule
 held-rule ns k (last c) (last d) x y = ap last (clause-one ns k c d x y)
@@ -125,13 +125,3 @@ held-rule ns k (also c ρ) (also d κ) x y =
     let h : HoldsClause ns (y .0) c = rw (sym (f .left) ∙ g .left) at (x .3) in
     let h′ : HoldsRule ns (y .1) ρ = rw (sym (f .right) ∙ g .right) at (x .4) in
     ap₂ also (clause-one ns (y .0) c d h (y .3)) (held-rule ns (y .1) ρ κ h′ (y .4))
-
--- a list of nodes one list of terms.
-pub held-terms : (ns vs : List ℕ) (σ τ : Choices) → HoldsAll ns vs σ → HoldsAll ns vs τ → σ ≡ τ
-held-terms ns [] [] [] x y = refl
-held-terms ns [] [] (b ∷ τ) x y = absurd y
-held-terms ns [] (a ∷ σ) τ x y = absurd x
-held-terms ns (v ∷ vs) [] τ x y = absurd x
-held-terms ns (v ∷ vs) (a ∷ σ) [] x y = absurd y
-held-terms ns (v ∷ vs) (a ∷ σ) (b ∷ τ) x y =
-    ap₂ (λ (t : Term) (r : Choices). t ∷ r) (holds-one ns v a b (x .0) (y .0)) (held-terms ns vs σ τ (x .1) (y .1))

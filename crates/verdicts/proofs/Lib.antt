@@ -5,7 +5,6 @@ pub mod RulingLaws
 pub mod SheetLaws
 pub mod LoadedLaws
 pub mod HeldLaws
-pub mod TablesLaws
 pub mod ParsedLaws
 pub mod TurnLaws
 pub mod CountedLaws

@@ -6,11 +6,14 @@ use Prim.Native.Nat.{ℕ}
 use native.Mathlib.Omega.{arith}
 use Rattle.answers.specs.declared.Refusal.{Refusal}
 use Rattle.tables.specs.Tables.{Tables}
+use Rattle.tables.specs.Accepted.{Fits}
+use Rattle.tables.specs.Flat.{flat}
 use Rattle.tables.specs.Reading.{Reading, rejected, taken, tablesOf, outcomeNumber, readingNumber, wordsOf}
 use Rattle.tables.specs.code.Reads.{readingOutcome}
 use Rattle.tables.specs.declared.Outcome.{Outcome}
 use Rattle.tables.specs.declared.Outcome.the-variants.{Refused, Accepted}
-use Rattle.tables.proofs.LoadLaws.{outcome-case}
+use Rattle.tables.proofs.LoadLaws.{refused-as, outcome-case}
+use Rattle.tables.proofs.OneLaws.{tables-one}
 use Rattle.tables.proofs.FitsLaws.{accepted-sound}
 use Rattle.syntax.specs.Bytes.{Bytes}
 use Rattle.rules.specs.Accept.{refusal}
@@ -26,13 +29,13 @@ pub record Took (b : Bytes) (ts : List ℕ) : Type 0 where
 pub took-loaded : {b : Bytes} {ts : List ℕ} → Took b ts → Loaded ts
 took-loaded q = record { tables = q .tables; holds = q .holds }
 
+-- Whatever tables loaded words hold are sound: the words are those of no others.
+pub all-sound : {ts : List ℕ} (T : Tables) → Loaded ts → Fits T → ts ≡ flat T → TablesAt ts T
+all-sound T L F w = rw (tables-one T (L .tables) (sym w ∙ L .holds .words) F (L .holds .sound)) (L .holds)
+
 module _ (b : Bytes) {o : Outcome} (n : outcomeNumber o ≡ readingNumber (tablesOf b)) where
   pub was-rejected : {e : Refusal} → o ≡ Refused e → tablesOf b ≡ rejected e
-  was-rejected {e} h = go (tablesOf b) (sym (outcome-case (tablesOf b) o n) ∙ h)
-    where
-      go : (q : Reading) → readingOutcome q ≡ Refused e → q ≡ rejected e
-      go (rejected p) k = let same : p ≡ e = cc in ap rejected same
-      go (taken T) k = let z : _≡_ {A = ℕ} 0 1 = cc in absurd (omega arith)
+  was-rejected h = refused-as (tablesOf b) (outcome-case (tablesOf b) o n) h
 
   pub was-taken : {ts : List ℕ} → ts ≡ wordsOf (tablesOf b) → o ≡ Accepted → Took b ts
   was-taken {ts} w h = go (tablesOf b) refl (sym (outcome-case (tablesOf b) o n) ∙ h)

@@ -13,7 +13,7 @@ on-tables-requires c κs =
     let at-start = c .before .before .before .before .before .before .before .before .before .before in
     let tables = at-start .args .tables .now in
     let told = c .before .before .enum-told .given .1 in
-    took-loaded (was-taken tables (outcome-number (tablesOf tables) (c .before .before .before .before .before .load .ensures .0)) (c .before .before .before .before .before .load .ensures .1 told) told)
+    took-loaded (was-taken tables (outcome-number (tablesOf tables) (c .before .before .before .before .before .load .ensures .0)) (c .before .before .before .before .before .load .ensures .1 .0 told) told)
 
 returns : tie.Need-returns
 returns c =
@@ -27,7 +27,7 @@ returns-2 c =
     let at-start = at-load .before .before .before .before .before in
     let tables = at-start .args .tables .now in
     let told = c .before .before .before .before .before .enum-told .given .1 in
-    let q = was-taken tables (outcome-number (tablesOf tables) (at-load .load .ensures .0)) (at-load .load .ensures .1 told) told in
+    let q = was-taken tables (outcome-number (tablesOf tables) (at-load .load .ensures .0)) (at-load .load .ensures .1 .0 told) told in
     rw (tables-taken tables (at-start .args .page .now) (q .is)) (c .before .before .on-tables .ensures (q .tables) (q .holds))
 
 pub judge-spec : {M : Type 1} → statement M

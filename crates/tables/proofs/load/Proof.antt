@@ -1,9 +1,10 @@
 -- `tables::load`: the sections, then what is left over, then the checks of the whole.
 -- Assumes nothing.
-use mathlib.Core.Path.{sym, _∙_}
+use mathlib.Core.Path.{sym, ap, _∙_}
+use Rattle.tables.specs.Flat.{flat}
 use Rattle.tables.proofs.ReadLaws.{as-took, as-stop}
 use Rattle.tables.proofs.PartLaws.{counts-fit}
-use Rattle.tables.proofs.LoadLaws.{load-stop, load-left, late-outcome, late-taken, whole-of, never}
+use Rattle.tables.proofs.LoadLaws.{load-stop, load-left, late-outcome, late-taken, whole-of, never, read-stopped, read-left, read-once}
 use borrow.Author.Needs.{needs}
 use Rattle.tables.proofs.load.Statement.{statement}
 use Rattle.tables.proofs.load.Tie as tie
@@ -15,7 +16,7 @@ returns c =
     let sections = c .before .before .before .before .before .before .sections in
     let read2 = c .before .before .read2 in
     let w = whole-of pre (as-took (sections .ensures) (read2 .given .1)) in
-    (rw (load-left (args .bytes .now) (w .reads) (c .if1 .taken)), λ z. never z)
+    (rw (load-left (args .bytes .now) (w .reads) (c .if1 .taken)), (λ z. never z, λ T q. read-left (args .bytes .now) q (w .reads) (c .if1 .taken)))
 
 checked-requires : tie.Need-checked-requires
 checked-requires c κs =
@@ -29,7 +30,8 @@ returns-2 : tie.Need-returns-2
 returns-2 c =
     let args = c .before .before .before .before .before .before .before .before .before .args in
     let sections = c .before .before .before .before .before .sections in
-    (rw (load-stop (args .bytes .now) (as-stop (sections .ensures) (c .before .read .given .1))), λ z. never z)
+    let stops = as-stop (sections .ensures) (c .before .read .given .1) in
+    (rw (load-stop (args .bytes .now) stops), (λ z. never z, λ T q. read-stopped (args .bytes .now) q stops))
 
 returns-3 : tie.Need-returns-3
 returns-3 c =
@@ -41,7 +43,7 @@ returns-3 c =
     let w = whole-of pre (as-took (sections .ensures) (read2 .given .1)) in
     let o = c .checked .ensures (w .tables) (w .sound .fits) (w .sound .bounded) (w .flatly) in (
       o ∙ late-outcome (args .bytes .now) (w .reads) (if1 .left),
-      λ z. rw (late-taken (args .bytes .now) (w .reads) (if1 .left) (sym o ∙ z)) (w .flatly),
+      (λ z. rw (late-taken (args .bytes .now) (w .reads) (if1 .left) (sym o ∙ z)) (w .flatly), λ T q. w .flatly ∙ ap flat (read-once (args .bytes .now) q (w .reads))),
     )
 
 pub load-spec : {M : Type 1} → statement M

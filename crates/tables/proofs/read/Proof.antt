@@ -17,7 +17,7 @@ returns-2 : tie.Need-returns-2
 returns-2 c =
     let args = c .before .before .before .before .before .before .args in
     let load = c .before .before .before .load in
-    (outcome-number (tablesOf (args .bytes .now)) (load .ensures .0), load .ensures .1 (c .enum-told .given .1))
+    (outcome-number (tablesOf (args .bytes .now)) (load .ensures .0), load .ensures .1 .0 (c .enum-told .given .1))
 
 pub read-spec : {M : Type 1} → statement M
 read-spec =

@@ -2,12 +2,12 @@
 -- Assumes nothing.
 use mathlib.Core.Path.{_≡_}
 use mathlib.Core.List.{List, [], _∷_, map}
-use mathlib.Core.Bool.{Bool, _&&_, not}
+use mathlib.Core.Bool.{Bool, not}
 use Prim.Native.Nat.{ℕ, suc, _%_, _/_, _≤_, _<_}
 use lib.Dec.{eqb}
 use lib.ListN.{length, getD, drop, set}
 use Rattle.answers.specs.declared.Refusal.{Refusal}
-use Rattle.words.specs.Words.{has, itemOf, lessOf, imageOf}
+use Rattle.words.specs.Words.{itemOf, lessOf, imageOf}
 use Rattle.tables.specs.declared.Row.{Row}
 use Rattle.tables.specs.declared.Row.the-variants.{Plain, Marked}
 use Rattle.tables.specs.declared.Step.{Step}
@@ -16,7 +16,6 @@ use Rattle.tables.specs.declared.Outcome.{Outcome}
 use Rattle.tables.specs.declared.Outcome.the-variants.{Refused, Accepted}
 use Rattle.tables.specs.Tables.{Session, Tables}
 use Rattle.tables.specs.Reading.{Bytes, Taken, Reader, stop, took, wordRow, markedRow, Rights, Collections, Reading, rejected, taken}
-use Rattle.tables.specs.Functions.{dominates}
 use Rattle.tables.specs.Checks.{allTo}
 use Rattle.tables.specs.code.Layout.{Whole, roleCountAt, userCountAt, sessionCountAt, operationCountAt, objectCountAt, permissionCountAt}
 use Rattle.tables.specs.code.Layout.{crCountAt, cuCountAt, cpCountAt, roleRowsAt, userRowsAt, sessionUsersAt, sessionRolesAt}
@@ -126,8 +125,9 @@ pub record Filled (old new : List ℕ) (T : Tables) (v : ℕ) : Type 0 where
 abbrev pub belowAt : List ℕ → ℕ → ℕ
 belowAt rows r = imageOf rows (lessOf (getD rows r 0) (itemOf r))
 
-unfoldable pub rankAt : List ℕ → ℕ → Bool
-rankAt rows r = dominates rows r r && (eqb (lessOf (belowAt rows r) (getD rows r 0)) 0 && not (has (belowAt rows r) r))
+-- They dominate nothing that r does not.
+unfoldable pub closedAt : List ℕ → ℕ → Bool
+closedAt rows r = eqb (lessOf (belowAt rows r) (getD rows r 0)) 0
 
 -- The roles of `over` are dominated by roles of `own`.
 abbrev pub coveredBy : List ℕ → ℕ → ℕ → Bool
@@ -144,6 +144,17 @@ reaching rows assigned users active = allTo (length active) (reachAt rows assign
 
 unfoldable pub newAt : List ℕ → ℕ → Bool
 newAt ws i = allTo i (λ j. not (eqb (getD ws j 0) (getD ws i 0)))
+
+-- Words are sorted into slots; those of the first i words are taken.
+abbrev pub slots : ℕ
+slots = 1021
+
+abbrev pub slotOf : ℕ → ℕ
+slotOf w = w % slots
+
+pub record SlotsTaken (ws : List ℕ) (i : ℕ) (taken : List ℕ) : Type 0 where
+  pub room : length taken ≡ slots
+  pub theirs : (j : ℕ) → j < i → getD taken (slotOf (getD ws j 0)) 0 ≡ 1
 
 -- The counts that the code takes parts of the words by.
 pub record CountsFit (ws : List ℕ) : Type 0 where

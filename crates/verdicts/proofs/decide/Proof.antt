@@ -14,7 +14,7 @@ on-tables-requires : tie.Need-on-tables-requires
 on-tables-requires c κs =
     let at-load = c .before .before .before .before in
     let at-start = at-load .before .before .before .before .before in
-    took-loaded (was-taken (at-start .args .tables .now) (outcome-number (tablesOf (at-start .args .tables .now)) (at-load .load .ensures .0)) (at-load .load .ensures .1 (c .before .enum-told .given .1)) (c .before .enum-told .given .1))
+    took-loaded (was-taken (at-start .args .tables .now) (outcome-number (tablesOf (at-start .args .tables .now)) (at-load .load .ensures .0)) (at-load .load .ensures .1 .0 (c .before .enum-told .given .1)) (c .before .enum-told .given .1))
 
 returns : tie.Need-returns
 returns c =
@@ -31,7 +31,7 @@ returns-2 c =
     let at-load = at-enum-told .before .before .before in
     let at-start = at-load .before .before .before .before .before in
     let told = at-enum-told .enum-told .given .1 in
-    let q = was-taken (at-start .args .tables .now) (outcome-number (tablesOf (at-start .args .tables .now)) (at-load .load .ensures .0)) (at-load .load .ensures .1 told) told in
+    let q = was-taken (at-start .args .tables .now) (outcome-number (tablesOf (at-start .args .tables .now)) (at-load .load .ensures .0)) (at-load .load .ensures .1 .0 told) told in
     same-gives (took-judged q (at-start .args .rule .now) (at-start .args .order .now) (c .on-tables .ensures (q .tables) (q .holds)))
 
 pub decide-spec : {M : Type 1} → statement M

@@ -1,4 +1,4 @@
--- The words of sound tables hold no other tables.
+-- The flat words of sound tables are those of no other tables.
 -- Assumes nothing.
 use mathlib.Core.Path.{_≡_, refl, sym, ap, ap₂, _∙_}
 use mathlib.Core.Bool.{true}
@@ -11,12 +11,11 @@ use lib.Seq.{ext-getD}
 use borrow.Author.Tests.{eq-eqb, eqb-true}
 use Rattle.words.specs.Words.{has, itemOf}
 use Rattle.words.proofs.WordsLaws.{has-item}
 use Rattle.tables.specs.Tables.{Session, Tables, sessionUsers, sessionRoles}
 use Rattle.tables.specs.Flat.{room, counts, sections, flat}
 use Rattle.tables.specs.Accepted.{Fits, Known, Every, Sound}
 use Rattle.tables.proofs.FlatLaws.{flat-at}
 use Rattle.tables.proofs.SectionsLaws.{product-few}
-use Rattle.verdicts.specs.code.Judging.{TablesAt, Loaded}
 
 -- An item's word is that of no other number.
 item-one : (x y : ℕ) → y < 64 → itemOf x ≡ itemOf y → x ≡ y
@@ -65,7 +64,7 @@ module _ (T U : Tables) (e : flat T ≡ flat U) where
       → getD (sections T) k [] ≡ getD (sections U) k []
   list-one k l q = ext-getD 0 (getD (sections T) k []) (getD (sections U) k []) q (λ i h. word-one k i (omega arith))
 
-  tables-one : Fits T → Sound U → T ≡ U
+  pub tables-one : Fits T → Sound U → T ≡ U
   unfolding sections counts
   tables-one F S =
       let held : length (T .permissionRows) ≤ 64 = rw (F .permissions) (product-few (F .operations) (F .objects)) in
@@ -87,7 +86,3 @@ module _ (T U : Tables) (e : flat T ≡ flat U) where
       let cps : T .cp ≡ U .cp = list-one 8 (F .cps) (count-one 8 (omega arith)) in
       let same : again T ≡ again U = rw (roleRows, userRows, sessions, operations, objects, permissions, crs, cus, cps) in
       same
-
--- So whatever tables loaded words hold are sound.
-pub all-sound : {ts : List ℕ} (T : Tables) → Loaded ts → Fits T → ts ≡ flat T → TablesAt ts T
-all-sound T L F w = rw (tables-one T (L .tables) (sym w ∙ L .holds .words) F (L .holds .sound)) (L .holds)

@@ -1,4 +1,4 @@
--- `tables::checks::new`: what is noted of the words passed.
+-- `tables::twins::new`: what is noted of the words passed.
 -- Assumes nothing.
 use Prim.Native.Nat.{_-_}
 use mathlib.Core.Path.{ap}
@@ -10,8 +10,8 @@ use borrow.Author.Tests.{eq-eqb, ne-eqb}
 use borrow.Author.Needs.{needs}
 use Rattle.tables.specs.code.Reads.{newAt}
 use Rattle.tables.proofs.AllLaws.{Noted, noted-none, noted-more, noted-not, noted-all}
-use Rattle.tables.proofs.checks.new.Statement.{statement}
-use Rattle.tables.proofs.checks.new.Tie as tie
+use Rattle.tables.proofs.twins.new.Statement.{statement}
+use Rattle.tables.proofs.twins.new.Tie as tie
 
 abbrev Inv-loop : tie.InvT-loop
 Inv-loop words i word twin₀ j₀ twin j = Noted i (λ j. not (eqb (getD words j 0) (getD words i 0))) j twin
