@@ -6,26 +6,27 @@
  *
  * A call takes byte slices, each as a pointer and a length, and returns one number: L, how many bytes it wrote to the
  * first of the lent output, or 65,536 times the number of a refusal, to which judge_page adds the position of the line
- * that it refuses. The other lent bytes keep their contents, and on a refusal all of them do. The calls ask nothing of
- * the bytes that they are handed: every input has its answer.
+ * that it refuses. The other lent bytes keep their contents, and on a refusal all of them do. rank_step writes and
+ * refuses nothing, and returns a step. The calls ask nothing of the bytes that they are handed: every input has its
+ * answer.
  *
  * What a caller has to know:
  *
  * - Pointers. Each points to as many bytes as its length says, and is not NULL, also where the length is 0.
  * - Aliasing. `out` overlaps no input. Inputs may overlap each other. Nothing else may write to any of them before the
  *   call returns. No pointer is kept after that.
- * - Time. reduce and rebuild take microseconds, judge a tenth of a millisecond with two variables and a few milliseconds
- *   for most rules with more, whatever the order. A rule with one clause over many variables, or with sets inside sets, can
- *   still take some 20 to 100 ns for each full choice on a present machine, and there may be as many as 64 to the power of
- *   the number of variables: 16 million with four, 2.8e14 with eight, which takes months. A call cannot be interrupted.
- *   Whoever judges rules that others wrote counts the variables first (the `[` in the formula that reduce writes).
- *   judge_page takes about what judge takes for its lines, and less where many lines choose alike.
+ * - Time. reduce, rebuild and rank_step take microseconds, judge a tenth of a millisecond with two variables and a few
+ *   milliseconds for most rules with more, whatever the order. A rule with one clause over many variables, or with sets
+ *   inside sets, can still take some 20 to 100 ns for each full choice on a present machine, and there may be as many as
+ *   64 to the power of the number of variables: 16 million with four, 2.8e14 with eight, which takes months. A call cannot
+ *   be interrupted. Whoever judges rules that others wrote counts the variables first (the `[` in the formula that reduce
+ *   writes). judge_page takes about what judge takes for its lines, and less where many lines choose alike.
  * - Stack. All memory comes from the stack of the thread that calls, at the most RCL2000_STACK_REDUCE,
- *   RCL2000_STACK_REBUILD, RCL2000_STACK_JUDGE and RCL2000_STACK_JUDGE_PAGE bytes, whatever the input. (Measured and
- *   tested, not proved.)
+ *   RCL2000_STACK_REBUILD, RCL2000_STACK_JUDGE, RCL2000_STACK_JUDGE_PAGE and RCL2000_STACK_RANK_STEP bytes, whatever the
+ *   input. (Measured and tested, not proved.)
  * - Threads. No state is kept between calls or shared: any number of threads may call at once.
- * - Names. The archive defines the four names below and no other, and needs memcpy and memset. A program with a
- *   function of its own called reduce, rebuild, judge or judge_page cannot link it.
+ * - Names. The archive defines the five names below and no other, and needs memcpy and memset. A program with a
+ *   function of its own called reduce, rebuild, judge, judge_page or rank_step cannot link it.
  * - Machine. x86-64 Linux.
  */
 #ifndef RCL2000_H
@@ -51,6 +52,7 @@
 #define RCL2000_STACK_REBUILD (48 * 1024)
 #define RCL2000_STACK_JUDGE (112 * 1024)
 #define RCL2000_STACK_JUDGE_PAGE (240 * 1024)
+#define RCL2000_STACK_RANK_STEP (16 * 1024)
 
 /* A verdict is 26 bytes: the word, full and breaking as numbers of 8 bytes, lowest byte first, the first breaking choice
    by variable, and the share in a hundred. Unused items of the choice, and the share of an idle rule, are 255. */
@@ -89,7 +91,7 @@ enum rcl2000_refusal {
     RCL2000_BAD_MARK = 4,          /* a mark is neither 0 nor 1 */
     RCL2000_NO_SUCH_ITEM = 5,      /* a row names an item that the tables do not have */
     RCL2000_MISCOUNTED = 6,        /* the permissions are not operations times objects */
-    RCL2000_RANK = 7,              /* role rows are not reflexive, transitive, antisymmetric */
+    RCL2000_RANK = 7,              /* role rows are not reflexive, transitive, antisymmetric: see rank_step */
     RCL2000_OVERREACH = 8,         /* a session has a role that is neither assigned to its user nor junior to one that is */
     RCL2000_TWIN = 9,              /* two words of one collection are equal */
     RCL2000_LEFT_OVER = 10,        /* there are bytes after the tables */
@@ -102,6 +104,13 @@ enum rcl2000_refusal {
     RCL2000_SHORT_SHEET = 17,      /* the lent output is shorter than L */
     RCL2000_ORDER = 18,            /* the order does not list each variable once, after those that its set names */
     RCL2000_PAGE = 19              /* the page has no line or more than 32 */
+};
+
+/* The steps of the rank test, in the order in which they are taken, each over all roles. */
+enum rcl2000_rank_step {
+    RCL2000_STEP_REFLEXIVE = 1,    /* every role dominates itself */
+    RCL2000_STEP_TRANSITIVE = 2,   /* a role dominates what the roles that it dominates do */
+    RCL2000_STEP_ANTISYMMETRIC = 3 /* no two roles dominate each other */
 };
 
 #ifdef __cplusplus
@@ -124,6 +133,10 @@ uint32_t judge(const uint8_t *tables, size_t tables_length, const uint8_t *rule,
    its position, 17. */
 uint32_t judge_page(const uint8_t *tables, size_t tables_length, const uint8_t *page, size_t page_length, uint8_t *out,
                     size_t out_length);
+
+/* The first step of the rank test that fails, where the tables are refused 7; 0 for all others, accepted or refused by
+   another number. It returns no refusal. */
+uint32_t rank_step(const uint8_t *tables, size_t tables_length);
 
 #ifdef __cplusplus
 }

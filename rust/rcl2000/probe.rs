@@ -18,6 +18,10 @@ const JUNIOR: &[u8] = b"\x02\x03\0\0\0\0\0\0\0\x02\0\0\0\0\0\0\0\
 const SENIOR: &[u8] = b"\x02\x03\0\0\0\0\0\0\0\x02\0\0\0\0\0\0\0\
     \x01\x01\x02\0\0\0\0\0\0\0\x01\0\x01\0\0\0\0\0\0\0\0\0\0\0\0\0";
 
+/// Three roles: the first misses a junior's junior, the last one itself.
+const MISSING: &[u8] = b"\x03\x03\0\0\0\0\0\0\0\x06\0\0\0\0\0\0\0\0\0\0\0\0\0\0\0\
+    \0\0\0\0\0\0\0\0";
+
 /// A user with mark 2.
 const MARK: &[u8] = b"\0\x01\x02\0\0\0\0\0\0\0\0\0\0\0\0\0\0\0";
 
@@ -57,7 +61,8 @@ fn main() {
     holds("17", refused(17), |out| library::reduce(A, &mut out[..32]));
     // By what the requests after document 01 change, their archives are told apart: a junior role is
     // accepted (N2), a senior one is 8; a page (N3) has its counts and the position of a refused line;
-    // still to come: 4 for a mark of 2 (N6), a half in a hundred upward (N7).
+    // the rank test goes step by step over all roles (N4), behind what is left over; still to come: 4
+    // for a mark of 2 (N6), a half in a hundred upward (N7).
     let (rule, eighth) = (b"roles(OE(U))={}", half_of_a_hundred_upward());
     holds("N2", (26, &HELD), |out| {
         library::judge(JUNIOR, b"U=U", &[], out)
@@ -72,6 +77,9 @@ fn main() {
     holds("a page's second line", (65_536 * 11 + 2, b""), |out| {
         library::judge_page(T, b"U=U\n\nU=U\n", out)
     });
+    holds("N4", (1, b""), |_| library::rank_step(MISSING));
+    let longer = [MISSING, b"\0"].concat();
+    holds("10 before 7", (0, b""), |_| library::rank_step(&longer));
     holds("N6", refused(4), |out| {
         library::judge(MARK, A, &[1, 2], out)
     });

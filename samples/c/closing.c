@@ -95,6 +95,14 @@ static uint32_t refused_tables(const uint8_t *tables, size_t t) {
     return RCL2000_REFUSAL(judge(tables, t, (const uint8_t *)"U=U", 3, in_turn, 0, verdict, sizeof verdict));
 }
 
+/* The sheet of refused tables. It has their number alone; what their roles are not goes to standard error. */
+static void print_refused(const uint8_t *tables, size_t t) {
+    static const char *const steps[] = {NULL, "reflexive", "transitive", "antisymmetric"};
+    uint32_t step = rank_step(tables, t);
+    printf("tables refused %" PRIu32 "\n", refused_tables(tables, t));
+    if (step != 0) fprintf(stderr, "the roles are not %s\n", steps[step]);
+}
+
 int main(int count, char **given) {
     static uint8_t tables[4096], rules[32768];
     size_t t = 0, r = 0;
@@ -104,7 +112,7 @@ int main(int count, char **given) {
         return 2;
     }
     if (refused_tables(tables, t) != 0)
-        printf("tables refused %" PRIu32 "\n", refused_tables(tables, t));
+        print_refused(tables, t);
     else
         print_sheet(tables, t, rules, r);
     return fflush(stdout) == 0 && !ferror(stdout) ? 0 : 1;

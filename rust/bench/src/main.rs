@@ -90,6 +90,10 @@ fn others(tables: &Plain) -> Vec<(String, Question)> {
             read(juniors),
         ),
         (
+            "rank_step on the first tables".to_string(),
+            Question::RankStep(tables.bytes().into()),
+        ),
+        (
             "reduce 256 bytes".to_string(),
             Question::Reduce(rule.into_bytes().into()),
         ),

@@ -1,13 +1,14 @@
 //! Calls of the proved library held against an expected answer, byte by byte.
 
-use rcl2000::PageRefusal;
+use rcl2000::{PageRefusal, RankStep};
 use reference::page::{FAST, PLAIN};
 use reference::protocol::{hex, FILL};
 use reference::Refused;
 
 use crate::random::Random;
 
-/// The bytes of an answer, or a refusal.
+/// The bytes of an answer, or a refusal. A step of the rank test is one byte, which is not written but
+/// returned.
 pub type Expected = Result<Vec<u8>, Refused>;
 
 /// The number that the library gave, from what the crate makes of it.
@@ -18,6 +19,11 @@ pub fn reply(answer: Result<usize, PageRefusal>) -> u32 {
     }
 }
 
+/// The number of a step, or 0 for none.
+pub fn step(step: Option<RankStep>) -> u32 {
+    step.map_or(0, RankStep::number)
+}
+
 /// One question to the library.
 #[derive(Clone, Debug)]
 pub enum Question {
@@ -25,6 +31,7 @@ pub enum Question {
     Rebuild(Box<[u8]>),
     Judge(Box<[u8]>, Box<[u8]>, Box<[u8]>),
     JudgePage(Box<[u8]>, Box<[u8]>),
+    RankStep(Box<[u8]>),
 }
 
 impl Question {
@@ -36,7 +43,7 @@ impl Question {
         Question::JudgePage(tables.into(), page.into())
     }
 
-    /// The library's answer into lent bytes.
+    /// The library's answer into lent bytes; a step alone.
     pub fn ask(&self, out: &mut [u8]) -> Result<usize, PageRefusal> {
         let answer = match self {
             Question::Reduce(rule) => rcl2000::reduce_into(rule, out),
@@ -45,6 +52,7 @@ impl Question {
             Question::JudgePage(tables, page) => {
                 return rcl2000::judge_page_into(tables, page, out)
             }
+            Question::RankStep(tables) => Ok(step(rcl2000::rank_step(tables)) as usize),
         };
         answer.map_err(PageRefusal::from)
     }
@@ -60,6 +68,7 @@ impl Question {
             Question::JudgePage(tables, page) => {
                 return FAST.judge_page(tables, page).map(|page| page.bytes());
             }
+            Question::RankStep(tables) => Ok(vec![reference::fast::rank_step(tables) as u8]),
         };
         answer.map_err(Refused::from)
     }
@@ -75,11 +84,29 @@ impl Question {
             Question::JudgePage(tables, page) => {
                 return PLAIN.judge_page(tables, page).map(|page| page.bytes());
             }
+            Question::RankStep(tables) => Ok(vec![reference::tables::rank_step(tables) as u8]),
         };
         answer.map_err(Refused::from)
     }
 
-    /// The command that asks this, as the vectors write it; that of a page has no length.
+    /// What the call is to return, and to leave in lent bytes.
+    fn leave(&self, expected: &Expected, out: &mut [u8]) -> u32 {
+        match (self, expected) {
+            (Question::RankStep(_), Ok(step)) => u32::from(step[0]),
+            _ => reference::lend(expected.clone(), out),
+        }
+    }
+
+    /// The number by which an answer is counted: a step's, else a refusal's, or 0.
+    pub fn counted(&self, expected: &Expected) -> usize {
+        match (self, expected) {
+            (Question::RankStep(_), Ok(step)) => usize::from(step[0]),
+            (_, Ok(_)) => 0,
+            (_, Err(refused)) => refused.number as usize,
+        }
+    }
+
+    /// The command that asks this, as the vectors write it; those of a page and of a step have no length.
     pub fn command(&self, length: usize) -> String {
         match self {
             Question::Reduce(rule) => format!("reduce {} {length}", hex(rule)),
@@ -89,6 +116,7 @@ impl Question {
                 format!("judge {tables} {rule} {order} {length}")
             }
             Question::JudgePage(tables, page) => format!("page {} {}", hex(tables), hex(page)),
+            Question::RankStep(tables) => format!("rankstep {}", hex(tables)),
         }
     }
 
@@ -98,7 +126,7 @@ impl Question {
         let mut lent = vec![FILL; guard + length + guard].into_boxed_slice();
         let mut after = lent.clone();
         let reply = reply(self.ask(&mut lent[guard..guard + length]));
-        let wanted = reference::lend(expected.clone(), &mut after[guard..guard + length]);
+        let wanted = self.leave(expected, &mut after[guard..guard + length]);
         assert!(
             reply == wanted && lent == after,
             "{}\nexpected {wanted} {}\ngot      {reply} {}\n{guard} bytes at either end are guards",
@@ -123,14 +151,13 @@ impl Question {
     }
 }
 
-/// How often each answer was met: by refusal number, and 0 for acceptance.
+/// How often each answer was met, by its number.
 #[derive(Default)]
 pub struct Met([u64; 20]);
 
 impl Met {
-    pub fn note(&mut self, answer: &Expected) {
-        let number = answer.as_ref().err().map_or(0, |refused| refused.number);
-        self.0[number as usize] += 1;
+    pub fn note(&mut self, number: usize) {
+        self.0[number] += 1;
     }
 
     /// Fails where one of these was hardly met: then the inputs try too little.

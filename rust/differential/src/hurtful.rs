@@ -18,11 +18,13 @@ pub fn questions() -> Vec<Question> {
         generated(),
         largest(),
         long_pages(),
+        last_roles(),
     ]
     .concat()
 }
 
-/// The same text as a rule, as a formula, as tables, a rule and an order, and as a page.
+/// The same text as a rule, as a formula, as tables, a rule and an order, and as a page; as tables for the
+/// rank test, too.
 fn everywhere(text: Vec<u8>) -> Vec<Question> {
     let nobody = vec![0; 9];
     vec![
@@ -32,7 +34,8 @@ fn everywhere(text: Vec<u8>) -> Vec<Question> {
         Question::judge(nobody.clone(), text.clone(), vec![]),
         Question::judge(nobody.clone(), b"U=U".to_vec(), text.clone()),
         Question::judge_page(text.clone(), b"U=U".to_vec()),
-        Question::judge_page(nobody, text),
+        Question::judge_page(nobody, text.clone()),
+        Question::RankStep(text.into()),
     ]
 }
 
@@ -153,6 +156,28 @@ fn largest() -> Vec<Question> {
             let order = (1..=count as u8).collect();
             Question::judge(tables.clone(), rule.as_bytes().to_vec(), order)
         })
+        .collect()
+}
+
+/// The largest tables, whose roles are a chain, and that chain with one step of the rank test failed by
+/// its last roles alone.
+fn last_roles() -> Vec<Question> {
+    let chain: Vec<u64> = (0..64).map(|role| u64::MAX >> (63 - role)).collect();
+    // Role 63 misses itself; it misses role 0; roles 62 and 63 have one row.
+    let ends = [chain[63], chain[62], chain[63] - 1];
+    let mut hierarchies: Vec<Vec<u64>> = ends
+        .iter()
+        .map(|&end| [&chain[..63], &[end]].concat())
+        .collect();
+    hierarchies.push([&chain[..62], &[chain[63]; 2]].concat());
+    let plain = tables::full(&mut Random::new(17));
+    let with = |roles| tables::Plain {
+        roles,
+        ..plain.clone()
+    };
+    let tables = hierarchies.into_iter().map(|roles| with(roles).bytes());
+    tables
+        .map(|bytes| Question::RankStep(bytes.into()))
         .collect()
 }
 

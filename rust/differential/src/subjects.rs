@@ -27,15 +27,15 @@ pub struct Subject {
     /// How many questions the gate asks, and the seed that it asks them from.
     pub count: u64,
     pub seed: u64,
-    /// The answers that so many must meet: refusals by number, and 0 for acceptance.
+    /// The answers that so many must meet: refusals by number, or steps, and 0 for acceptance.
     pub answers: &'static [usize],
     /// Whether the plain modules answer too, or the fast ones alone.
     plain: bool,
     ask: fn(&mut Random) -> Question,
 }
 
-/// Tables, rules, formulas, verdicts and pages, in turn.
-pub const SUBJECTS: [Subject; 9] = [
+/// Tables, rules, formulas, verdicts, pages and steps of the rank test, in turn.
+pub const SUBJECTS: [Subject; 10] = [
     Subject {
         name: "tables",
         count: 70_000,
@@ -114,6 +114,14 @@ pub const SUBJECTS: [Subject; 9] = [
         plain: false,
         ask: |random| pages::repeated(random, MANY_ON_A_PAGE),
     },
+    Subject {
+        name: "rank steps",
+        count: 33_000,
+        seed: 10,
+        answers: &[0, 1, 2, 3],
+        plain: true,
+        ask: ranked,
+    },
 ];
 
 impl Subject {
@@ -128,10 +136,21 @@ impl Subject {
                 assert_eq!(question.plain(), expected, "{}", question.command(26));
             }
             question.hold_all(&expected, random);
-            met.note(&expected);
+            met.note(question.counted(&expected));
         }
         met
     }
+}
+
+/// Tables whose hierarchy mostly fails a step, alone or beside other faults.
+fn ranked(random: &mut Random) -> Question {
+    let unranked = tables::unranked(random);
+    let tables = match random.below(4) {
+        0 => tables::any(random),
+        1 => unranked.bytes(),
+        _ => tables::spoiled(random, unranked),
+    };
+    Question::RankStep(tables.into())
 }
 
 /// Tables, a rule and an order with at most `limit` steps, each now and then refused.

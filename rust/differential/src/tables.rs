@@ -284,6 +284,33 @@ impl Plain {
         seniors.fold(0, |word, role| word | 1 << role)
     }
 
+    /// Changes the hierarchy, where there are roles to do it with: a role misses itself, or a junior's
+    /// junior, or two are above each other, with all that either dominates, or one is above another more.
+    fn unrank(&mut self, random: &mut Random) {
+        let rows = &mut self.roles;
+        if rows.is_empty() {
+            return;
+        }
+        let (one, other) = (random.below(rows.len()), random.below(rows.len()));
+        // A role that misses itself settles the step, so it is rarer than the others.
+        match random.below(6) {
+            0 => rows[one] &= !(1 << one),
+            1 | 2 => {
+                let below = |role: usize| items(rows[role] & !(1 << role));
+                let beyond: Vec<usize> = below(one).flat_map(below).collect();
+                if !beyond.is_empty() {
+                    rows[one] &= !(1 << random.pick(&beyond));
+                }
+            }
+            3 | 4 => {
+                let (both, all) = (1 << one | 1 << other, rows[one] | rows[other]);
+                let above = rows.iter_mut().filter(|row| **row & both != 0);
+                above.for_each(|row| *row |= all);
+            }
+            _ => rows[one] |= 1 << other,
+        }
+    }
+
     /// Makes one thing wrong that a check looks for, where there is a row to do it in.
     pub fn spoil(&mut self, random: &mut Random) {
         let stray = 1u64 << random.below(64);
@@ -356,5 +383,27 @@ pub fn any(random: &mut Random) -> Vec<u8> {
             damage::bytes(random, &mut bytes);
         }
     }
+    bytes
+}
+
+/// Tables that are accepted but for their hierarchy, which one to three changes let fail a step, mostly.
+pub fn unranked(random: &mut Random) -> Plain {
+    let most = [1, 3, 5, 9, 20, 40, 64][random.below(7)];
+    let mut plain = filled(random, most);
+    for _ in 0..random.between(1, 3) {
+        plain.unrank(random);
+    }
+    plain
+}
+
+/// The bytes of tables with one thing more wrong, in a row or in a byte, of those that are looked for
+/// before the rank test or after it.
+pub fn spoiled(random: &mut Random, mut plain: Plain) -> Vec<u8> {
+    if random.once_in(2) {
+        plain.spoil(random);
+        return plain.bytes();
+    }
+    let mut bytes = plain.bytes();
+    damage::bytes(random, &mut bytes);
     bytes
 }

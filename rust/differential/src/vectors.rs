@@ -3,7 +3,7 @@
 use rcl2000::Word;
 use reference::protocol::{answer, hex, Command, FILL};
 
-use crate::hold::{reply, Question};
+use crate::hold::{reply, step, Question};
 
 /// Holds the library, the plain modules and the fast ones to the answers of a file of commands.
 /// Gives the number of lines.
@@ -77,6 +77,7 @@ fn library(command: &Command) -> String {
         ),
         Command::Sheet(tables, rules) => return hex(sheet(tables, rules).as_bytes()),
         Command::JudgePage(tables, page) => return page_fields(tables, page),
+        Command::RankStep(tables) => return step(rcl2000::rank_step(tables)).to_string(),
     };
     let mut out = vec![FILL; length].into_boxed_slice();
     let returned = reply(question.ask(&mut out));

@@ -6,8 +6,9 @@
 use differential::hold::Question;
 use differential::random::Random;
 use differential::subjects::{full, large, LARGE, SUBJECTS};
+use differential::tables::Plain;
 use differential::{pages, rules, scaled, tables};
-use rcl2000::{BuildError, Unencodable, Verdict};
+use rcl2000::{BuildError, Refusal, Unencodable, Verdict};
 use reference::page::PLAIN;
 use reference::sheet::lines;
 use reference::Refused;
@@ -15,11 +16,11 @@ use reference::Refused;
 /// How many large verdicts are compared.
 const LARGE_ONES: u64 = 8;
 
-/// The gate asks 347,000 questions.
+/// The gate asks 380,000 questions.
 #[test]
 fn the_gate_asks_enough() {
     let asked: u64 = SUBJECTS.iter().map(|subject| subject.count).sum();
-    assert_eq!(asked, 347_000);
+    assert_eq!(asked, 380_000);
 }
 
 /// Asks a subject's questions, which must meet each of its answers.
@@ -75,6 +76,89 @@ fn wide_pages_agree() {
 #[test]
 fn pages_of_many_variables_agree() {
     agree("pages of many variables");
+}
+
+#[test]
+fn rank_steps_agree() {
+    agree("rank steps");
+}
+
+/// Every relation of at most three roles, alone and with a byte left over. Of the relations of 0, 1, 2 and
+/// 3 roles, 1, 1, 4 and 64 are reflexive, 1, 1, 4 and 29 of these transitive, 1, 1, 3 and 19 of these orders.
+#[test]
+fn every_small_hierarchy_agrees() {
+    let (all, reflexive, transitive, orders) = (531, 70, 35, 24);
+    let (mut alone, mut longer) = ([0; 4], [0; 4]);
+    for count in 0..=3 {
+        for relation in 0..1u64 << (count * count) {
+            let row = |role: usize| relation >> (role * count) & ((1 << count) - 1);
+            let mut plain = Plain::default();
+            plain.roles.extend((0..count).map(row));
+            let mut bytes = plain.bytes();
+            alone[held_step(&bytes)] += 1;
+            bytes.push(0);
+            longer[held_step(&bytes)] += 1;
+        }
+    }
+    let failing = [all - reflexive, reflexive - transitive, transitive - orders];
+    assert_eq!((alone[0], &alone[1..]), (orders, &failing[..]));
+    assert_eq!(longer, [all, 0, 0, 0]);
+}
+
+/// The step of tables, on which all agree.
+fn held_step(tables: &[u8]) -> usize {
+    let question = Question::RankStep(tables.into());
+    let expected = question.plain();
+    assert_eq!(question.fast(), expected, "{}", question.command(0));
+    question.hold(&expected, 0, 0);
+    question.counted(&expected)
+}
+
+/// A step fails exactly where tables are refused 7. The generated hierarchies fail each step often, in
+/// many of them the first role at fault fails a later step, and faults beside them hide each step often
+/// and leave it often.
+#[test]
+fn each_step_fails_shown_and_hidden() {
+    let random = &mut Random::new(18);
+    let (mut alone, mut hidden, mut left, mut later) = ([0; 4], [0; 4], [0; 4], 0);
+    for _ in 0..4_000 {
+        let plain = tables::unranked(random);
+        let step = refused_step(&plain.bytes());
+        alone[step] += 1;
+        later += u32::from(first_role_step(&plain.roles) > step);
+        match refused_step(&tables::spoiled(random, plain)) {
+            0 => hidden[step] += 1,
+            beside => left[beside] += 1,
+        }
+    }
+    for times in [alone, hidden, left] {
+        assert!(times[1..].iter().all(|&times| times >= 100), "{times:?}");
+    }
+    assert!(later >= 100, "{later}");
+}
+
+/// The library's step of tables, which is 0 unless it refuses them 7.
+fn refused_step(tables: &[u8]) -> usize {
+    let step = rcl2000::rank_step(tables);
+    let refused = rcl2000::check_tables(tables) == Err(Refusal::Rank);
+    assert_eq!(step.is_some(), refused, "{tables:x?}");
+    step.map_or(0, |step| step.number() as usize)
+}
+
+/// The first step that the first role at fault fails, or 0.
+fn first_role_step(rows: &[u64]) -> usize {
+    let fails = |role: usize| {
+        let (row, others) = (rows[role], (0..rows.len()).filter(|&other| other != role));
+        let juniors = others.filter(|junior| row >> junior & 1 == 1);
+        let steps = [
+            row >> role & 1 == 0,
+            juniors.clone().any(|junior| rows[junior] & !row != 0),
+            juniors.clone().any(|junior| rows[junior] >> role & 1 == 1),
+        ];
+        steps.iter().position(|&fails| fails)
+    };
+    let first = (0..rows.len()).find_map(fails);
+    first.map_or(0, |place| place + 1)
 }
 
 /// Of the generated pages of several lines, many have fewer walks than lines, and of these most have

@@ -1,13 +1,18 @@
 //! Inputs that are meant to hurt cost little: on the stack that the crate states, and in little
 //! time. `cargo run --release -p differential --bin stack` says how much stack each takes.
 
+use std::sync::Mutex;
 use std::thread;
 use std::time::{Duration, Instant};
 
 use differential::hold::{Expected, Question};
 use differential::hurtful;
 use differential::random::Random;
-use rcl2000::{STACK_JUDGE, STACK_JUDGE_PAGE, STACK_REBUILD, STACK_REDUCE};
+use rcl2000::{STACK_JUDGE, STACK_JUDGE_PAGE, STACK_RANK_STEP, STACK_REBUILD, STACK_REDUCE};
+
+/// Held while a small stack is tried: a frame that reaches beyond the page that guards the stack would
+/// else land in another test's, and not end the process.
+static ALONE: Mutex<()> = Mutex::new(());
 
 /// For the thread itself and for comparing.
 const OWN: usize = 16 * 1024;
@@ -46,6 +51,13 @@ fn judging_pages_on_a_small_stack() {
     });
 }
 
+#[test]
+fn steps_of_the_rank_test_on_a_small_stack() {
+    on_stack(STACK_RANK_STEP, |question| {
+        matches!(question, Question::RankStep(_))
+    });
+}
+
 /// The chosen questions are answered rightly on a thread with that much stack.
 fn on_stack(stack: usize, chosen: impl Fn(&Question) -> bool) {
     let questions: Vec<(Question, Expected)> = hurtful::questions()
@@ -53,6 +65,7 @@ fn on_stack(stack: usize, chosen: impl Fn(&Question) -> bool) {
         .filter(chosen)
         .map(|question| (question.clone(), question.fast()))
         .collect();
+    let alone = ALONE.lock();
     let small = thread::Builder::new().stack_size(stack + OWN);
     let thread = small.spawn(move || {
         let random = &mut Random::new(8);
@@ -64,4 +77,5 @@ fn on_stack(stack: usize, chosen: impl Fn(&Question) -> bool) {
         }
     });
     thread.unwrap().join().unwrap();
+    drop(alone);
 }

@@ -31,10 +31,11 @@ fn eight_threads_agree() {
 fn questions(random: &mut Random) -> Vec<(Question, Expected)> {
     (0..scaled(QUESTIONS))
         .map(|_| {
-            let question = match random.below(4) {
+            let question = match random.below(5) {
                 0 => Question::Reduce(rules::any(random).into()),
                 1 => Question::Rebuild(formulas::any(random).into()),
                 2 => pages::judged(random, 3, PAGE_STEPS),
+                3 => Question::RankStep(tables::unranked(random).bytes().into()),
                 _ => judged(random),
             };
             let expected = question.fast();

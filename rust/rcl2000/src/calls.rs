@@ -1,6 +1,6 @@
-//! The safe calls, each with an allocated answer or into lent bytes.
+//! The safe calls, those that write with an allocated answer or into lent bytes.
 
-use crate::{library, Page, PageRefusal, Refusal, Verdict};
+use crate::{library, Page, PageRefusal, RankStep, Refusal, Verdict};
 
 /// The most bytes that an accepted rule has.
 pub const MAX_RULE: usize = 256;
@@ -25,6 +25,9 @@ pub const STACK_JUDGE: usize = 112 * 1024;
 
 /// The stack that [`judge_page`] takes at the most, in bytes.
 pub const STACK_JUDGE_PAGE: usize = 240 * 1024;
+
+/// The stack that [`rank_step`] takes at the most, in bytes.
+pub const STACK_RANK_STEP: usize = 16 * 1024;
 
 /// The order that lists every variable in turn.
 const IN_TURN: [u8; MAX_VARIABLES] = [1, 2, 3, 4, 5, 6, 7, 8];
@@ -364,13 +367,50 @@ pub fn check_rule(rule: &[u8]) -> Result<(), Refusal> {
 ///
 /// # Errors
 ///
-/// What is wrong with the tables: a refusal from 1 to 10.
+/// What is wrong with the tables: a refusal from 1 to 10. For 7, [`rank_step`] says more.
 ///
 /// # Cost
 ///
 /// Microseconds; stack as for [`judge`].
 pub fn check_tables(tables: &[u8]) -> Result<(), Refusal> {
     accepted(judge_into(tables, NO_CHOICE, &[], &mut []))
+}
+
+/// The first step of the rank test that tables fail, where they are refused 7; `None` for all others,
+/// accepted or refused by another number. It refuses nothing.
+///
+/// A hierarchy is reflexive, transitive and antisymmetric, tested in that sequence, each step over all
+/// roles. [`TablesBuilder::build`](crate::TablesBuilder::build) names the rows at fault.
+///
+/// ```
+/// use rcl2000::{check_tables, rank_step, RankStep, Refusal, Role, TablesBuilder};
+///
+/// let mut tables = TablesBuilder::new();
+/// let [hand, leader, owner] = [0, 1, 2].map(Role::numbered);
+/// tables.role_row([hand]);
+/// tables.role_row([hand, leader]);
+/// tables.role_row([leader, owner]);
+/// let mut tables = tables.encode()?;
+/// assert_eq!(check_tables(&tables), Err(Refusal::Rank));
+/// let step = rank_step(&tables);
+/// assert_eq!(step, Some(RankStep::Transitive));
+/// assert_eq!(
+///     step.unwrap().to_string(),
+///     "not transitive: a role does not dominate a junior's junior"
+/// );
+///
+/// // A byte too many is refused before the roles are looked at.
+/// tables.push(0);
+/// assert_eq!(check_tables(&tables), Err(Refusal::LeftOver));
+/// assert_eq!(rank_step(&tables), None);
+/// # Ok::<(), rcl2000::Unencodable>(())
+/// ```
+///
+/// # Cost
+///
+/// Microseconds; at most 16 KiB of stack ([`STACK_RANK_STEP`]).
+pub fn rank_step(tables: &[u8]) -> Option<RankStep> {
+    RankStep::from_number(library::rank_step(tables))
 }
 
 /// Whether a call with an empty output accepted its inputs: no answer is empty, and the output's

@@ -33,8 +33,9 @@
 //! [`reduce`], [`rebuild`], [`judge`] and [`judge_page`] allocate their answers; [`reduce_into`],
 //! [`rebuild_into`], [`judge_into`] and [`judge_page_into`] write them into bytes that the caller
 //! lends and allocate nothing. Any of them gives a [`Refusal`] where the input is turned back, a page's
-//! with the line that it is for, and then no lent byte has changed. Nothing here panics, whatever the
-//! input.
+//! with the line that it is for, and then no lent byte has changed. [`rank_step`] refuses nothing: of
+//! tables that are refused 7 it says what their hierarchy of roles is not. Nothing here panics,
+//! whatever the input.
 //!
 //! # What a call may cost
 //!
@@ -43,9 +44,10 @@
 //!   full choices, and these grow as 64 to the power of the number of variables; [`judge_page`] takes
 //!   about what its lines do, or less. Neither can be interrupted. Each call says what it may cost.
 //! - **Stack.** The library takes its memory from the stack of the thread that calls it:
-//!   at the most 16 KiB for [`reduce`], 48 KiB for [`rebuild`], 112 KiB for [`judge`] and 240 KiB for
-//!   [`judge_page`], whatever the input ([`STACK_REDUCE`], [`STACK_REBUILD`], [`STACK_JUDGE`],
-//!   [`STACK_JUDGE_PAGE`]; measured, not proved). Rust's threads have 2 MiB unless asked for less.
+//!   at the most 16 KiB for [`reduce`], 48 KiB for [`rebuild`], 112 KiB for [`judge`], 240 KiB for
+//!   [`judge_page`] and 16 KiB for [`rank_step`], whatever the input ([`STACK_REDUCE`],
+//!   [`STACK_REBUILD`], [`STACK_JUDGE`], [`STACK_JUDGE_PAGE`], [`STACK_RANK_STEP`]; measured, not
+//!   proved). Rust's threads have 2 MiB unless asked for less.
 //! - **Threads.** The library keeps no state between calls and shares none: any number of threads
 //!   may call at once.
 //! - **Aliasing.** The borrow checker sees to it that a lent output overlaps no input. Inputs may
@@ -56,7 +58,7 @@
 //!
 //! The crate links `librcl2000.a`, which `rt staticlib rcl2000` writes. Its build script looks for
 //! it in `target/staticlib` of the repository that the crate is in, or in the folder that
-//! `RCL2000_LIB_DIR` names, and tries it before it links it: an archive without the four calls,
+//! `RCL2000_LIB_DIR` names, and tries it before it links it: an archive without the five calls,
 //! or one that answers otherwise than this version of the crate says, is a build error.
 
 #![deny(missing_docs, unsafe_code)]
@@ -68,18 +70,20 @@ mod items;
 #[allow(unsafe_code)]
 mod library;
 mod page;
+mod rank;
 mod refusal;
 mod verdict;
 mod words;
 
 pub use builder::TablesBuilder;
-pub use calls::{check_rule, check_tables, variables};
+pub use calls::{check_rule, check_tables, rank_step, variables};
 pub use calls::{judge, judge_in_turn, judge_into, rebuild, rebuild_into, reduce, reduce_into};
 pub use calls::{judge_page, judge_page_into};
 pub use calls::{MAX_FORMULA, MAX_RULE, MAX_TABLES, MAX_VARIABLES};
-pub use calls::{STACK_JUDGE, STACK_JUDGE_PAGE, STACK_REBUILD, STACK_REDUCE};
+pub use calls::{STACK_JUDGE, STACK_JUDGE_PAGE, STACK_RANK_STEP, STACK_REBUILD, STACK_REDUCE};
 pub use faults::{BuildError, Fault, Unencodable};
 pub use items::{Object, Operation, Permission, Role, Row, Section, Session, User};
 pub use page::{Page, PageRefusal, MAX_LINES};
+pub use rank::RankStep;
 pub use refusal::Refusal;
 pub use verdict::{Verdict, Word};

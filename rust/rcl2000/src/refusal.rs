@@ -3,9 +3,10 @@
 use std::error::Error;
 use std::fmt;
 
-/// Says each refusal once: its number, its name here, the documents' word for it and its meaning.
+/// Says each refusal once: its number, its name here, the documents' word for it and its meaning, below
+/// what its page says besides.
 macro_rules! refusals {
-    ($($number:literal $name:ident $word:literal $meaning:literal)*) => {
+    ($($(#[$besides:meta])* $number:literal $name:ident $word:literal $meaning:literal)*) => {
         /// Why an input was turned back.
         ///
         /// Its `Display` is a sentence for whoever has to put the input right.
@@ -29,6 +30,7 @@ macro_rules! refusals {
         pub enum Refusal {
             $(
                 #[doc = concat!($number, ", ", $word, ": ", $meaning, ".")]
+                $(#[$besides])*
                 $name,
             )*
             /// A number that this version of the crate does not know. Only the crate makes it,
@@ -85,6 +87,7 @@ refusals! {
     4 BadMark "bad mark" "the mark of a user or a permission is neither 0 nor 1"
     5 NoSuchItem "no such item" "a row names a role, user or permission that the tables do not have"
     6 Miscounted "miscounted" "there is not one permission for each operation on each object"
+    /// [`rank_step`](crate::rank_step) says which comes first.
     7 Rank "rank" "one role misses itself or a junior's junior, or two dominate each other"
     8 Overreach "overreach" "a session has a role active that is neither assigned to its user nor junior to one that is"
     9 Twin "twin" "a conflict set is listed twice"

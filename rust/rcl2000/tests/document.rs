@@ -2,8 +2,9 @@
 //! name.
 
 use rcl2000::{check_rule, check_tables, judge, judge_in_turn, judge_into, variables};
-use rcl2000::{judge_page, judge_page_into, rebuild, rebuild_into, reduce, reduce_into};
-use rcl2000::{Page, PageRefusal, Refusal, TablesBuilder, Verdict, Word, MAX_LINES, MAX_TABLES};
+use rcl2000::{judge_page, judge_page_into, rank_step, rebuild, rebuild_into, reduce, reduce_into};
+use rcl2000::{Page, PageRefusal, RankStep, Refusal, Role, TablesBuilder, Verdict, Word};
+use rcl2000::{MAX_LINES, MAX_TABLES};
 
 const A: &str = "|(roles(OE(U))&OE(CR))|<=1";
 const B: &str = "OE(OE(CR))@roles(OE(U))=>(AO(OE(CR))&roles(OE(U)))={}";
@@ -135,6 +136,43 @@ fn a_page_is_refused_for_its_first_refused_line() {
     assert_eq!(at_last("U=U\nU"), (Refusal::Page, 0));
     assert_eq!(refused(&[1], ""), (Refusal::CutShort, 0));
     assert_eq!(refused(&[1], "U"), (Refusal::CutShort, 0));
+}
+
+/// Tables of roles alone, each by the roles that it dominates.
+fn roles(rows: &[&[usize]]) -> Vec<u8> {
+    let mut tables = TablesBuilder::new();
+    for row in rows {
+        tables.role_row(row.iter().copied().map(Role::numbered));
+    }
+    tables.encode().unwrap()
+}
+
+#[test]
+fn the_first_step_that_the_roles_fail() {
+    let step = |rows: &[&[usize]]| rank_step(&roles(rows));
+    assert_eq!((step(&[]), step(&[&[0], &[0, 1]])), (None, None));
+    assert_eq!(step(&[&[0], &[0]]), Some(RankStep::Reflexive));
+    let missing: [&[usize]; 3] = [&[0, 1], &[1, 2], &[2]];
+    assert_eq!(step(&missing), Some(RankStep::Transitive));
+    assert_eq!(step(&[&[0, 1], &[0, 1]]), Some(RankStep::Antisymmetric));
+    // An earlier role fails a later step.
+    let each_other: [&[usize]; 5] = [&[0, 1], &[0, 1], &[2, 3], &[3, 4], &[4]];
+    assert_eq!(step(&each_other), Some(RankStep::Transitive));
+    assert_eq!(step(&[&[0, 1], &[0, 1], &[]]), Some(RankStep::Reflexive));
+}
+
+#[test]
+fn no_step_where_another_refusal_comes_first_or_none() {
+    let bytes = roles(&[&[]]);
+    assert_eq!(check_tables(&bytes), Err(Refusal::Rank));
+    assert_eq!(rank_step(&bytes), Some(RankStep::Reflexive));
+    let longer = [&bytes[..], &[0]].concat();
+    assert_eq!(check_tables(&longer), Err(Refusal::LeftOver));
+    assert_eq!(rank_step(&longer), None);
+    for length in 0..bytes.len() {
+        assert_eq!(rank_step(&bytes[..length]), None);
+    }
+    assert_eq!(rank_step(&tables()), None);
 }
 
 #[test]

@@ -4,9 +4,9 @@ use std::collections::BTreeMap;
 use std::fs;
 use std::path::Path;
 
-use rcl2000::{Page, Refusal, Verdict};
+use rcl2000::{Page, RankStep, Refusal, Verdict};
 use rcl2000::{MAX_FORMULA, MAX_LINES, MAX_RULE, MAX_TABLES, MAX_VARIABLES};
-use rcl2000::{STACK_JUDGE, STACK_JUDGE_PAGE, STACK_REBUILD, STACK_REDUCE};
+use rcl2000::{STACK_JUDGE, STACK_JUDGE_PAGE, STACK_RANK_STEP, STACK_REBUILD, STACK_REDUCE};
 
 /// Each name of the header that has a number, without its prefix: `NAME = N` and `NAME N`.
 fn numbers() -> BTreeMap<String, usize> {
@@ -48,6 +48,19 @@ fn the_header_has_every_refusal_by_its_word() {
 }
 
 #[test]
+fn the_header_has_the_steps_of_the_rank_test() {
+    let numbers = numbers();
+    let steps = [
+        ("STEP_REFLEXIVE", RankStep::Reflexive),
+        ("STEP_TRANSITIVE", RankStep::Transitive),
+        ("STEP_ANTISYMMETRIC", RankStep::Antisymmetric),
+    ];
+    for (name, step) in steps {
+        assert_eq!(numbers.get(name), Some(&(step.number() as usize)), "{name}");
+    }
+}
+
+#[test]
 fn the_header_has_the_lengths_and_the_stacks() {
     let numbers = numbers();
     let ours = [
@@ -60,6 +73,7 @@ fn the_header_has_the_lengths_and_the_stacks() {
         ("MAX_LINES", MAX_LINES),
         ("STACK_JUDGE", STACK_JUDGE),
         ("STACK_JUDGE_PAGE", STACK_JUDGE_PAGE),
+        ("STACK_RANK_STEP", STACK_RANK_STEP),
         ("VERDICT", Verdict::BYTES),
         ("PAGE_HEAD", Page::HEAD),
         ("HELD", 0),

@@ -28,6 +28,8 @@ pub enum Command {
     Sheet(Vec<u8>, Vec<u8>),
     /// The verdict on tables and a page.
     JudgePage(Vec<u8>, Vec<u8>),
+    /// The step of the rank test that tables fail.
+    RankStep(Vec<u8>),
 }
 
 use Command::*;
@@ -51,6 +53,7 @@ impl Command {
             ),
             [b"sheet", tables, rules] => Sheet(unhex(tables)?, unhex(rules)?),
             [b"page", tables, page] => JudgePage(unhex(tables)?, unhex(page)?),
+            [b"rankstep", tables] => RankStep(unhex(tables)?),
             _ => return None,
         })
     }
@@ -68,6 +71,7 @@ impl Command {
             }
             Sheet(tables, rules) => hex(sheet::sheet(tables, rules).as_bytes()),
             JudgePage(tables, page) => shown(page::PLAIN.judge_page(tables, page)),
+            RankStep(tables) => tables::rank_step(tables).to_string(),
         }
     }
 
@@ -82,6 +86,7 @@ impl Command {
                 lent(verdict.map(|verdict| verdict.bytes()), *length)
             }
             JudgePage(tables, page) => shown(page::FAST.judge_page(tables, page)),
+            RankStep(tables) => fast::rank_step(tables).to_string(),
             Rule(_) | Sheet(..) => self.plain(),
         }
     }

@@ -1,5 +1,5 @@
 //! Document 01, "Tables" and "Functions": reading tables front to back, and Figure 2 on them.
-//! Document 02, N2: which roles a session may have active.
+//! Document 02, N2: which roles a session may have active; N4: the steps of the rank test.
 
 use crate::number::*;
 use crate::set::Set;
@@ -95,6 +95,21 @@ fn word(bytes: &[u8], items: usize) -> Answer<Set> {
 
 /// Tables from their bytes, or the first refusal met.
 pub fn read(bytes: &[u8]) -> Answer<Tables> {
+    let tables = sections(bytes)?;
+    tables.examine()?;
+    Ok(tables)
+}
+
+/// "the first step that fails, 1, 2 or 3, where they are refused 7, and 0 for all others"
+pub fn rank_step(bytes: &[u8]) -> u32 {
+    match (read(bytes), sections(bytes)) {
+        (Err(RANK), Ok(tables)) => tables.failing_step(),
+        _ => 0,
+    }
+}
+
+/// The sections front to back, and nothing behind them; the whole is not yet looked at.
+fn sections(bytes: &[u8]) -> Answer<Tables> {
     let mut rest = Rest(bytes);
     let roles = rest.count(64)?;
     let dominated = rest.words(roles, roles)?;
@@ -129,14 +144,13 @@ pub fn read(bytes: &[u8]) -> Answer<Tables> {
     if !rest.0.is_empty() {
         return Err(LEFT_OVER);
     }
-    tables.examine()?;
     Ok(tables)
 }
 
 impl Tables {
     /// The checks over whole tables: 7, 8, 9.
     fn examine(&self) -> Answer<()> {
-        if !self.ranked() {
+        if self.failing_step() != 0 {
             return Err(RANK);
         }
         let overreaches = |s: &Session| !s.roles.within(&self.juniors(&self.assigned[s.user]));
@@ -152,17 +166,33 @@ impl Tables {
         Ok(())
     }
 
-    /// Whether the role rows are reflexive, transitive and antisymmetric.
-    fn ranked(&self) -> bool {
-        let roles = 0..self.dominated.len();
+    /// "reflexive, transitive and antisymmetric, in that sequence": the first step that some roles
+    /// fail, from 1, and 0 where none does.
+    fn failing_step(&self) -> u32 {
+        let roles = self.dominated.len();
         let over = |a: usize, b: usize| self.dominated[a].contains(b);
-        roles.clone().all(|a| over(a, a))
-            && roles.clone().all(|a| {
-                roles.clone().all(|b| {
-                    !over(a, b)
-                        || (a == b || !over(b, a)) && self.dominated[b].within(&self.dominated[a])
-                })
-            })
+        for a in 0..roles {
+            if !over(a, a) {
+                return 1;
+            }
+        }
+        for a in 0..roles {
+            for b in 0..roles {
+                for c in 0..roles {
+                    if over(a, b) && over(b, c) && !over(a, c) {
+                        return 2;
+                    }
+                }
+            }
+        }
+        for a in 0..roles {
+            for b in 0..roles {
+                if a != b && over(a, b) && over(b, a) {
+                    return 3;
+                }
+            }
+        }
+        0
     }
 
     pub fn permissions(&self) -> usize {

@@ -1,4 +1,4 @@
-//! Document 01's own examples, by the plain and by the fast modules.
+//! Document 01's own examples, and what document 02 adds, by the plain and by the fast modules.
 
 use reference::number::{NO_RULES_FORMULA, ORDER};
 use reference::protocol::{answer, hex, Command};
@@ -98,6 +98,45 @@ fn pages() {
         let command = format!("page {} {}", hex(tables), hex(page.as_bytes()));
         for respond in [Command::plain, Command::fast] {
             assert_eq!(answer(command.as_bytes(), respond), expected, "{page:?}");
+        }
+    }
+}
+
+/// Tables of roles alone, by the low byte of each row.
+fn roles(rows: &[u8]) -> Vec<u8> {
+    let mut bytes = vec![rows.len() as u8];
+    for &row in rows {
+        bytes.extend([row, 0, 0, 0, 0, 0, 0, 0]);
+    }
+    bytes.extend([0; 8]);
+    bytes
+}
+
+#[test]
+fn steps_of_the_rank_test() {
+    let longer = [roles(&[0]), vec![0]].concat();
+    let cases = [
+        (roles(&[]), 0),
+        (T.to_vec(), 0),
+        (vec![], 0),
+        // Each step alone.
+        (roles(&[0]), 1),
+        (roles(&[0b011, 0b110, 0b100]), 2),
+        (roles(&[0b11, 0b11]), 3),
+        // Two of them: the earlier one, also where an earlier role fails the later one.
+        (roles(&[0b011, 0b110, 0]), 1),
+        (roles(&[0b011, 0b011, 0]), 1),
+        (roles(&[0b0011, 0b0011, 0b0110, 0b1000]), 2),
+        // A refusal that comes before 7.
+        (longer, 0),
+        (roles(&[0])[..16].to_vec(), 0),
+        (roles(&[0b10]), 0),
+    ];
+    for (tables, step) in cases {
+        let command = format!("rankstep {}", hex(&tables));
+        for respond in [Command::plain, Command::fast] {
+            let answered = answer(command.as_bytes(), respond);
+            assert_eq!(answered, step.to_string(), "{command}");
         }
     }
 }

@@ -14,7 +14,7 @@ use differential::hold::Question;
 use differential::hurtful;
 use rcl2000::MAX_FORMULA;
 
-const CALLS: [&str; 4] = ["reduce", "rebuild", "judge", "judge_page"];
+const CALLS: [&str; 5] = ["reduce", "rebuild", "judge", "judge_page", "rank_step"];
 
 /// No call at all.
 const NOTHING: &str = "nothing";
@@ -102,5 +102,6 @@ fn name(question: &Question) -> &'static str {
         Question::Rebuild(_) => CALLS[1],
         Question::Judge(..) => CALLS[2],
         Question::JudgePage(..) => CALLS[3],
+        Question::RankStep(_) => CALLS[4],
     }
 }

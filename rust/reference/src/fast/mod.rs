@@ -10,4 +10,4 @@ mod tables;
 
 pub use formula::{rebuild, reduce};
 pub use judge::judge;
-pub use tables::{read, Tables};
+pub use tables::{rank_step, read, Tables};

@@ -87,6 +87,19 @@ fn word(bytes: [u8; 8], items: usize) -> Answer<u64> {
 
 /// Tables from their bytes, or the first refusal met.
 pub fn read(bytes: &[u8]) -> Answer<Tables> {
+    let tables = sections(bytes)?;
+    tables.examine()?;
+    Ok(tables)
+}
+
+/// The first step of the rank test that fails, where the tables are refused 7; else 0. No other
+/// check comes between the sections and the rank.
+pub fn rank_step(bytes: &[u8]) -> u32 {
+    sections(bytes).map_or(0, |tables| failing_step(&tables.dominated))
+}
+
+/// The sections alone, and nothing behind them.
+fn sections(bytes: &[u8]) -> Answer<Tables> {
     let mut rest = Rest(bytes);
     let roles = rest.count(64)?;
     let dominated = rest.words(roles, roles)?;
@@ -121,7 +134,6 @@ pub fn read(bytes: &[u8]) -> Answer<Tables> {
     if !rest.0.is_empty() {
         return Err(LEFT_OVER);
     }
-    tables.examine()?;
     Ok(tables)
 }
 
@@ -129,7 +141,7 @@ impl Tables {
     /// The checks over whole tables: 7, 8, 9.
     fn examine(&self) -> Answer<()> {
         let mut sessions = self.session_user.iter().zip(&self.active);
-        if !ranked(&self.dominated) {
+        if failing_step(&self.dominated) != 0 {
             Err(RANK)
         } else if sessions.any(|(user, roles)| self.overreaches(user.trailing_zeros(), *roles)) {
             Err(OVERREACH)
@@ -156,11 +168,20 @@ impl Tables {
     }
 }
 
-fn ranked(rows: &[u64]) -> bool {
-    rows.iter().enumerate().all(|(a, &row)| {
-        row >> a & 1 == 1
-            && items(row).all(|b| rows[b] & !row == 0 && (a == b || rows[b] >> a & 1 == 0))
-    })
+/// The first of the steps reflexive, transitive, antisymmetric that the rows fail, from 1, or 0. Roles
+/// that dominate each other have equal rows where the first two steps hold, and no others have.
+fn failing_step(rows: &[u64]) -> u32 {
+    let reflexive = rows.iter().enumerate().all(|(a, row)| row >> a & 1 == 1);
+    let within = |row: u64| items(row).all(|b| rows[b] & !row == 0);
+    if !reflexive {
+        1
+    } else if !rows.iter().all(|&row| within(row)) {
+        2
+    } else if twins(rows) {
+        3
+    } else {
+        0
+    }
 }
 
 fn twins(words: &[u64]) -> bool {
