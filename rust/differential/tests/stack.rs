@@ -10,7 +10,7 @@ use differential::hurtful;
 use differential::random::Random;
 use rcl2000::{STACK_JUDGE, STACK_JUDGE_PAGE, STACK_RANK_STEP, STACK_REBUILD, STACK_REDUCE};
 
-/// Held while a small stack is tried: a frame that reaches beyond the page that guards the stack would
+/// Held while a small stack is tried: a frame that reaches beyond the page that guards the stack may
 /// else land in another test's, and not end the process.
 static ALONE: Mutex<()> = Mutex::new(());
 
