@@ -1,19 +1,22 @@
 -- Document 02, N4, of what the tracker sees of `rank_step`: the number r that it returns. Its contract says `GivesStep`.
 -- Assumes nothing.
 use mathlib.Core.Path.{_≡_, refl, sym, ap, _∙_}
-use mathlib.Core.Bool.{Bool, true, false}
-use mathlib.Core.List.{List}
+use mathlib.Core.Bool.{Bool, true, false, _&&_}
+use mathlib.Core.List.{List, []}
 use mathlib.Core.Logic.{_↔_}
 use Prim.Native.Nat.{ℕ, _*_, _≤_}
 use native.Mathlib.Omega.{arith}
 use lib.Dec.{eqb}
 use lib.ListN.{length}
-use borrow.Author.Tests.{eqb-true, eqb-false}
+use borrow.Author.Tests.{eqb-true, eqb-false, ne-eqb}
 use Rattle.answers.specs.Refusal.{numberOf}
 use Rattle.answers.specs.declared.Refusal.{Refusal}
 use Rattle.answers.specs.declared.Refusal.the-variants.{Rank}
-use Rattle.tables.specs.Checks.{reflexive, transitive, antisymmetric, rankStep}
-use Rattle.tables.specs.Reading.{rejected, tablesOf, readingNumber}
+use Rattle.tables.specs.Tables.{Tables}
+use Rattle.tables.specs.Checks.{reflexive, transitive, antisymmetric, rankStep, ranked, lateChecks, firstFailing}
+use Rattle.tables.specs.Reading.{took, next, refuse, sections, nothingLeft, settle, whole, rejected, tablesOf, readingNumber}
+use Rattle.tables.proofs.CheckLaws.{clash}
+use Rattle.tables.proofs.LoadLaws.{read-once}
 use Rattle.tables.proofs.RankLaws.{step-one, step-two, step-three, step-none}
 use Rattle.tables.proofs.StopLaws.{RankRefused, rank-refused, rank-step, rank-number, rank-other}
 use Rattle.syntax.specs.Bytes.{Bytes}
@@ -21,6 +24,36 @@ use Rattle.rules.proofs.AcceptLaws.{refused-early}
 use Rattle.rcl2000.specs.Calls.{Judges, JudgeRefuses, tablesRefused, judgedRefused, orderRefused, verdictLonger}
 use Rattle.rcl2000.specs.Calls.{GivesStep, StepOf, RefusedRank, other, notReflexive, notTransitive, notAntisymmetric}
 use Rattle.rcl2000.proofs.Demands.{judge-refuses}
+
+-- "All three still give 7": tables that have all their sections, and nothing behind them, are refused 7 exactly where a step fails.
+module _ (tables : Bytes) {T : Tables} (reads : sections tables ≡ took T []) where
+  abbrev rows : List ℕ
+  rows = T .roleRows
+
+  steps-fail : (reflexive rows && (transitive rows && antisymmetric rows)) ≡ false → rankStep rows ≡ 0 → ⊥
+  steps-fail h z = go (reflexive rows) (transitive rows) (antisymmetric rows) refl refl refl
+    where
+      go : (a b d : Bool) → reflexive rows ≡ a → transitive rows ≡ b → antisymmetric rows ≡ d → ⊥
+      go false b d e f g = absurd (omega (arith, step-one rows e))
+      go true false d e f g = absurd (omega (arith, step-two rows e f))
+      go true true false e f g = absurd (omega (arith, step-three rows e f g))
+      go true true true e f g = clash (rw (e, f, g) at h)
+
+  pub step-seven : (tablesOf tables ≡ rejected Rank) ↔ ((reflexive rows && (transitive rows && antisymmetric rows)) ≡ false)
+  unfolding tablesOf whole next nothingLeft refuse settle lateChecks firstFailing ranked
+  step-seven = (
+    λ q. go q (reflexive rows) (transitive rows) (antisymmetric rows) refl refl refl,
+    λ h. rw (reads, ne-eqb (rankStep rows) 0 (steps-fail h)),
+  )
+    where
+      go : tablesOf tables ≡ rejected Rank → (a b d : Bool) → reflexive rows ≡ a → transitive rows ≡ b → antisymmetric rows ≡ d → (a && (b && d)) ≡ false
+      go q false b d e f g = refl
+      go q true false d e f g = refl
+      go q true true false e f g = refl
+      go q true true true e f g =
+          let w = rank-refused tables q in
+          let same : w .tables ≡ T = read-once tables reads (w .reads) in
+          absurd (w .fails (rw same (step-none rows e f g)))
 
 module _ (tables : Bytes) (r : ℕ) (s : GivesStep tables r) where
   at-rank : tablesOf tables ≡ rejected Rank → StepOf tables r
