@@ -1,7 +1,9 @@
 // The tracker's calls: each function makes one and prints its number and what the lent output holds.
 use crate::fields::print_bytes;
+use crate::output::word;
 use crate::page::PAGE_ROOM;
 use crate::page::print_page;
+use forecasts::FORECAST;
 use libc::STDOUT_FILENO;
 ghost use Prim.Native.Nat.{_≤_};
 ghost use lib.ListN.{length};
@@ -39,12 +41,30 @@ pub fn judge_page(tables: &[u8], page: &[u8]) {
     if reply < 65536 {
         print_page(&output, reply as usize);
     } else {
-        io::write_all(STDOUT_FILENO, b"refused ");
-        io::print_decimal(STDOUT_FILENO, (reply / 65536) as u64);
+        print_refused(reply);
         io::write_all(STDOUT_FILENO, b" ");
         io::print_decimal(STDOUT_FILENO, (reply % 65536) as u64);
     }
     io::write_all(STDOUT_FILENO, b"\n");
+}
+
+// `refused N`, or the formula's length and the ceiling.
+pub fn forecast(tables: &[u8], rule: &[u8]) {
+    let mut output = [0u8; FORECAST];
+    let reply = rcl2000::forecast(tables, rule, &mut output);
+    if reply < 65536 {
+        io::print_decimal(STDOUT_FILENO, word(&output, 0));
+        io::write_all(STDOUT_FILENO, b" ");
+        io::print_decimal(STDOUT_FILENO, word(&output, 8));
+    } else {
+        print_refused(reply);
+    }
+    io::write_all(STDOUT_FILENO, b"\n");
+}
+
+fn print_refused(reply: u32) {
+    io::write_all(STDOUT_FILENO, b"refused ");
+    io::print_decimal(STDOUT_FILENO, (reply / 65536) as u64);
 }
 
 fn print_reply(reply: u32, output: &[u8])

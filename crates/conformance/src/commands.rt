@@ -52,7 +52,9 @@ fn command(line: &[u8], first: &[u8])
     } else if is_command(line, b"sheet", 3) {
         sheet(line, first);
     } else if is_command(line, b"page", 3) {
-        page(line, first);
+        told(line, first, true);
+    } else if is_command(line, b"forecast", 3) {
+        told(line, first, false);
     } else if is_command(line, b"rankstep", 2) {
         print_number(rcl2000::rank_step(first) as u64);
     } else {
@@ -147,18 +149,22 @@ fn sheet(line: &[u8], tables: &[u8])
     io::write_all(STDOUT_FILENO, b"\n");
 }
 
-// `page T PAGE`: the verdict on a page.
-fn page(line: &[u8], tables: &[u8])
+// `page T PAGE`, or before judging, `forecast T RULE`.
+fn told(line: &[u8], tables: &[u8], page: bool)
     requires { ⌜ length (now line) ≤ 80000 ⌝ }
 {
-    let mut page = room();
-    let p = read_bytes(line, 2, &mut page);
-    if !p.good {
+    let mut text = room();
+    let t = read_bytes(line, 2, &mut text);
+    if !t.good {
         unknown();
         return;
     }
-    let n = p.n;
-    calls::judge_page(tables, &page[..n]);
+    let n = t.n;
+    if page {
+        calls::judge_page(tables, &text[..n]);
+    } else {
+        calls::forecast(tables, &text[..n]);
+    }
 }
 
 // Prints the lines: no more than the rules have bytes, and the total behind them.

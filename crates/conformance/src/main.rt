@@ -3,6 +3,7 @@
 mod calls;
 mod commands;
 mod fields;
+mod output;
 mod page;
 
 ghost use Prim.Native.Nat.{_≤_};

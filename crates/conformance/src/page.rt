@@ -1,6 +1,8 @@
 // The verdict on a page, printed from the bytes that the tracker's call writes, as `page T PAGE` asks for it.
 // A line is its word, its counts, its share and its choice; the page has walks in the place of the last two.
 use crate::fields::print_bytes;
+use crate::output::wide;
+use crate::output::word;
 use libc::STDOUT_FILENO;
 ghost use Prim.Native.Nat.{_+_, _≤_};
 ghost use lib.ListN.{length};
@@ -60,21 +62,4 @@ fn print_counts(out: &[u8], at: usize, sign: &[u8])
     io::print_decimal(STDOUT_FILENO, word(out, at + 1));
     io::write_all(STDOUT_FILENO, sign);
     io::print_decimal(STDOUT_FILENO, word(out, at + 9));
-}
-
-// The word whose lowest byte stands at `at`.
-fn word(out: &[u8], at: usize) -> u64
-    requires { ⌜ at + 8 ≤ length (now out) ⌝ }
-{
-    let mut w: u64 = 0;
-    let mut i = 8;
-    while 0 < i {
-        i -= 1;
-        w = (w << 8) | wide(out[at + i]);
-    }
-    w
-}
-
-fn wide(x: u8) -> u64 {
-    x as u64
 }

@@ -13,7 +13,7 @@ use Rattle.answers.specs.declared.Refusal.{Refusal}
 use Rattle.answers.specs.declared.Refusal.the-variants.{NoRulesFormula, ShortSheet}
 use Rattle.syntax.specs.Bytes.{Bytes, same}
 use Rattle.syntax.specs.Rule.{Rule, ruleText, ruleVars, formula, readFormula, whole}
-use Rattle.syntax.specs.code.Arena.{HoldsRule, Tidy}
+use Rattle.syntax.specs.code.Arena.{HoldsRule}
 use Rattle.syntax.specs.code.Printing.{printed}
 use Rattle.syntax.proofs.Closed.{formula-in}
 use Rattle.syntax.specs.code.Reading.{clauseRoom, Rooted}
@@ -22,7 +22,7 @@ use Rattle.rules.specs.declared.Found.{Found}
 use Rattle.rules.specs.declared.Found.the-variants.{Rejected, Rule as Tree}
 use Rattle.rules.specs.Accept.{deep, refusal}
 use Rattle.rules.specs.code.Parsed.{RuleAt, Finds}
-use Rattle.rules.specs.code.Lengths.{capped, LengthsOf, FormulaLength}
+use Rattle.rules.specs.code.Lengths.{capped, LengthsOf, FormulaIn}
 use Rattle.rules.specs.code.Thing.{rule}
 use Rattle.syntax.proofs.FormulaLaws.{knows-none}
 use Rattle.rules.proofs.ParseLaws.{as-rejected, as-found, formula-exact}
@@ -38,7 +38,6 @@ use Rattle.formulas.proofs.RebuildLaws.{wrote-reduced, accepted-formula
 use Rattle.formulas.proofs.RebuildLaws.{rule-accepted, rule-formula, rule-reduced, rule-read, rule-only}
 use Rattle.formulas.proofs.DepthLaws.{formula-shallow}
 use Rattle.formulas.proofs.WrittenLaws.{answers-refusal, answers-wrote, answers-refused}
-use Rattle.syntax.proofs.NameLaws.{all-length}
 
 -- Rule to formula.
 
@@ -55,15 +54,8 @@ module _ {s ns ks vs : List ℕ} {f : Found} {n root count : ℕ} (p : Finds s n
   at = as-found p e .1
 
   -- Where it is accepted its tree may be written.
-  pub reduce-few : count ≤ length vs
-  reduce-few = omega (arith, at .counted, all-length ns (take count vs) (ruleVars [] (at .tree)) (at .knows .holds), length-take count vs)
-
   pub reduce-ready : Printable ns root (take count vs)
   reduce-ready = record { n = n; tidy = at .tidy; node = at .within; below = at .knows .below; few = simp length-take (omega (arith, at .few)) }
-
-  -- Its length is known before it is written.
-  pub reduce-measured : Tidy ns n
-  reduce-measured = at .tidy
 
   formula-is : reduced s ≡ wrote (formula (at .tree))
   formula-is =
@@ -71,9 +63,9 @@ module _ {s ns ks vs : List ℕ} {f : Found} {n root count : ℕ} (p : Finds s n
       let i : a .rule ≡ at .tree = cc (a .reads, at .reads) in
       wrote-reduced s (formula (at .tree)) accepted (accepted-formula a ∙ ap (λ (ρ : Rule). some (formula ρ)) i)
 
-  module _ {ls : List ℕ} {l : ℕ} (x : LengthsOf ns n (take count vs) ls) (y : FormulaLength ls (take count vs) root l) where
+  module _ {l : ℕ} (x : FormulaIn ns n (take count vs) root l) where
     long : l ≡ length (formula (at .tree))
-    long = formula-exact accepted at x y
+    long = formula-exact accepted at x
 
     pub reduce-short : {old : Bytes} → length old < l → Answers (lent (length old) (reduced s)) old old (Refused ShortSheet)
     reduce-short {old} h = rw formula-is (kept-short (formula (at .tree)) old (omega (arith, long)))

@@ -58,9 +58,7 @@ pub fn reduce(rule: &[u8], out: &mut [u8]) -> Written
         Found::Rejected(r) => Written::Refused(r),
         Found::Rule { n, root, count } => {
             let known = &vars[..count];
-            let mut lens = [0u16; RULE_LIMIT];
-            lengths(&nodes, n, known, &mut lens);
-            let l = formula_length(&lens, known, root) as usize;
+            let l = formula_length(&nodes, n, known, root) as usize;
             if out.len() < l {
                 return Written::Refused(Refusal::ShortSheet);
             }

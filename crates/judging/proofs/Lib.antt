@@ -4,3 +4,4 @@ pub mod PlannedLaws
 pub mod CountingLaws
 pub mod DescendLaws
 pub mod WalkingLaws
+pub mod NothingLaws

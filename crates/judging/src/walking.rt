@@ -8,15 +8,17 @@ use crate::planning;
 use crate::planning::ORDER;
 use rules::Parsed;
 use rules::RULE_LIMIT;
+use values::ceiling::ceiling;
 use walks::Tally;
 use walks::kept;
 ghost use mathlib.Core.Path.{_≡_};
 ghost use Prim.Native.Nat.{_+_, _<_, _≤_};
 ghost use lib.ListN.{length};
 ghost use Rattle.values.specs.code.Plan.{planLength};
+ghost use Rattle.values.specs.code.Multiplied.{CeilingBy};
 ghost use Rattle.judging.specs.code.Counting.{noChoice};
 ghost use Rattle.judging.specs.code.Walking.{Ordered, Lays, Stands, Descends, CountsBy, WalksBy};
-ghost use Rattle.judging.specs.code.Lent.{LentBy};
+ghost use Rattle.judging.specs.code.Lent.{varsOf, LentBy};
 
 // So few choices do with few slots.
 const FEW: u64 = 128;
@@ -58,23 +60,26 @@ fn lay(t: &[u64], parsed: Parsed, order: &[u8], begun: usize, plan: &mut [u64])
     );
 }
 
-// The plan for the counts: along the caller's order, unless another is worth it. How many choices there are at the most, of which nothing is shown.
+// The plan for the counts: along the caller's order, unless another is worth it. The ceiling on full choices.
 pub fn lay_first(t: &[u64], parsed: Parsed, order: &[u8], plan: &mut [u64]) -> u64
     requires { ⌜ LentBy (now t) parsed × Ordered parsed (now order) × (length (now plan) ≡ planLength) ⌝ }
     ensures { λ _. ⌜ Lays (now (t .entry)) parsed (now (order .entry)) 0 (now (plan .exit)) ⌝ }
+    ensures { λ r. ⌜ CeilingBy (now (t .entry)) (parsed .kinds) (varsOf parsed) r ⌝ }
 {
     let kinds = parsed.kinds;
     let all = parsed.vars;
+    let count = parsed.count;
+    let vars = &all[..count];
     planning::plan(
         &parsed.nodes,
         parsed.n,
         &kinds,
-        &all[..parsed.count],
+        vars,
         parsed.root,
         order,
         plan,
     );
-    let many = orders::choices(t, &plan[..], order);
+    let many = ceiling(t, &kinds, vars);
     if many < orders::FEW {
         return many;
     }
@@ -181,7 +186,8 @@ fn counted(
     }
 }
 
-// Judging along an order, from nothing chosen. A rule without variables has one choice, and nothing to keep.
+// Judging along an order, from nothing chosen. Where a variable has no item there is nothing to walk, however many the others have. A rule without
+// variables has one choice, and nothing to keep.
 pub fn whole(t: &[u64], parsed: Parsed, order: &[u8]) -> Tally
     requires { ⌜ LentBy (now t) parsed × Ordered parsed (now order) ⌝ }
     ensures { λ r. ⌜ WalksBy (now (t .entry)) parsed (now (order .entry)) r ⌝ }
@@ -189,6 +195,9 @@ pub fn whole(t: &[u64], parsed: Parsed, order: &[u8]) -> Tally
     let mut plan = [0u64; planning::LENGTH];
     let mut cache = [0u64; RULE_LIMIT];
     let many = lay_first(t, parsed, order, &mut plan);
+    if many == 0 {
+        return known(t, parsed, order, 0, 0);
+    }
     let mode = entered(t, &plan, 0, kept::NOTHING, &mut cache);
     if order.len() == 0 {
         return Tally {

@@ -2,16 +2,14 @@
 // before it is used.
 use rules::CHOICES_LIMIT;
 use rules::RULE_LIMIT;
-use rules::kinds::FIRST_COLLECTION;
-use rules::kinds::FIRST_SET;
-use rules::kinds::NO_KIND;
 use syntax::nodes;
 use syntax::nodes::AO;
 use syntax::nodes::FIRST_CALL;
 use syntax::nodes::MEMBER;
 use syntax::nodes::OE;
-use values::items;
+use values::ceiling;
 use values::plan::CLAUSE_COUNT;
+use values::plan::KIND_ROOM;
 use values::plan::KINDS;
 use values::plan::NAMES;
 use values::plan::NODE_COUNT;
@@ -266,17 +264,11 @@ fn seek(plan: &[u64], desk: &mut [u64], n: usize, begun: usize, d: usize, chosen
     }
 }
 
-// How many items a variable may have whose set has that kind: those of its sort, or the words of its collection.
-fn items_of(t: &[u64], kind: u64) -> u64
-    requires { ⌜ Whole (now t) ⌝ }
+// How many items the variable v may have.
+fn items_of(t: &[u64], plan: &[u64], v: usize) -> u64
+    requires { ⌜ Whole (now t) × (length (now plan) ≡ planLength) × (v < choicesLimit) ⌝ }
 {
-    if kind < FIRST_COLLECTION as u64 {
-        return words::size(items::base(t, (kind % (FIRST_SET as u64)) as usize)) as u64;
-    }
-    if kind < NO_KIND as u64 {
-        return words::size(items::base(t, (kind - FIRST_SET as u64) as usize)) as u64;
-    }
-    0
+    ceiling::count(t, (plan[KINDS + v] % KIND_ROOM) as u8) as u64
 }
 
 // The caller's order on the desk, with how many items its variables have. All but the last of those it has begun with are chosen already.
@@ -288,7 +280,7 @@ fn lay_out(t: &[u64], plan: &[u64], order: &[u8], begun: usize, desk: &mut [u64]
     while i < order.len() {
         let v = (order[i] % LIMIT) as usize;
         desk[AT + i] = v as u64;
-        let size = items_of(t, plan[KINDS + v]);
+        let size = items_of(t, plan, v);
         desk[SIZES + v] = if i + 1 < begun { 1 } else { size };
         i += 1;
     }
@@ -399,20 +391,6 @@ pub fn own(t: &[u64], plan: &[u64], order: &[u8], begun: usize) -> [u8; CHOICES_
     desk[TRIES] = capped(cost / SHARE, TRIES_LIMIT);
     seek(plan, &mut desk, order.len(), begun, 0, 0, 0);
     cheapest(&desk)
-}
-
-// How many choices there are at the most: the product of how many items the variables may have.
-pub fn choices(t: &[u64], plan: &[u64], order: &[u8]) -> u64
-    requires { ⌜ Whole (now t) × (length (now plan) ≡ planLength) × (length (now order) ≤ choicesLimit) ⌝ }
-{
-    let mut found = 1;
-    let mut i = 0;
-    while i < order.len() {
-        let v = (order[i] % LIMIT) as usize;
-        found = times(found, items_of(t, plan[KINDS + v]));
-        i += 1;
-    }
-    found
 }
 
 // Whether another order is worth another plan: the search finds a cheaper one.

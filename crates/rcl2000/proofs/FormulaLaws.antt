@@ -31,9 +31,19 @@ short-lent n b {e} q = go (leb (length b) n) refl q
     go true i q = let z : _≡_ {A = ℕ} 0 1 = cc in absurd (omega arith)
     go false i q = (cc, leb-false (length b) n i)
 
--- A refusal stays as it is, whatever is lent.
+-- A refusal stays as it is, whatever is lent: it is no other, and nothing is written.
 pub same-lent : (n : ℕ) {d e : Refusal} → lent n (refused d) ≡ refused e → d ≡ e
 same-lent n {d} q = let s = sym (lent-refused n d) ∙ q in cc
+
+module _ (n : ℕ) {a : Answer} {d : Refusal} (is : a ≡ refused d) where
+  pub stays-refused : lent n a ≡ refused d
+  stays-refused = ap (lent n) is ∙ lent-refused n d
+
+  pub same-refused : {e : Refusal} → lent n a ≡ refused e → d ≡ e
+  same-refused q = same-lent n (sym (ap (lent n) is) ∙ q)
+
+  pub never-wrote : {b : Bytes} {A : Type 0} → lent n a ≡ wrote b → A
+  never-wrote q = let z : _≡_ {A = ℕ} 0 1 = cc (sym stays-refused ∙ q) in absurd (omega arith)
 
 -- The texts written are short.
 pub reduced-short : (rule : Bytes) → Short (reduced rule)
@@ -60,14 +70,14 @@ module _ (rule : Bytes) where
   reduce-refused n e = (λ q. there (refusal rule) refl q, λ x. back x)
     where
       there : (o : Option Refusal) → refusal rule ≡ o → lent n (reduced rule) ≡ refused e → ReduceRefuses rule n e
-      there (some g) i q = ruleRefused (i ∙ ap some (same-lent n (sym (ap (lent n) (rule-answered i)) ∙ q)))
+      there (some g) i q = ruleRefused (i ∙ ap some (same-refused n (rule-answered i) q))
       there none i q =
           let f = has-formula i in
           let s = short-lent n (f .0) (sym (ap (lent n) (formula-answered (f .1))) ∙ q) in
           rw (← (s .0)) (formulaLonger (f .1) (s .1))
 
       back : {e : Refusal} → ReduceRefuses rule n e → lent n (reduced rule) ≡ refused e
-      back {e} (ruleRefused h) = ap (lent n) (rule-answered h) ∙ lent-refused n e
+      back (ruleRefused h) = stays-refused n (rule-answered h)
       back (formulaLonger {f} h l) = ap (lent n) (formula-answered h) ∙ lent-short n f l
 
 -- An accepted rule on an output long enough: its formula is written.

@@ -10,7 +10,7 @@ use lib.ListN.{length, drop, take-append-drop}
 use Rattle.answers.specs.Answer.{refused, wrote, lent}
 use Rattle.answers.specs.declared.Refusal.{Refusal}
 use Rattle.answers.specs.declared.Refusal.the-variants.{NotAnOrder}
-use Rattle.answers.proofs.AnswerLaws.{lent-refused, lent-fits, lent-short, lent-wrote}
+use Rattle.answers.proofs.AnswerLaws.{lent-fits, lent-short, lent-wrote}
 use Rattle.tables.specs.Tables.{Tables}
 use Rattle.tables.specs.Reading.{rejected}
 use Rattle.syntax.specs.Bytes.{Bytes}
@@ -21,7 +21,7 @@ use Rattle.verdicts.proofs.JudgedLaws.{tables-rejected, rule-rejected, order-re
 use Rattle.verdicts.proofs.ReportLaws.{judged-reports}
 use Rattle.rcl2000.specs.Calls.{Judges, Reported, JudgeRefuses, tablesRefused, judgedRefused, orderRefused, verdictLonger}
 use Rattle.rcl2000.proofs.CallLaws.{Short, lent-room, sees-wrote}
-use Rattle.rcl2000.proofs.FormulaLaws.{short-lent, same-lent}
+use Rattle.rcl2000.proofs.FormulaLaws.{short-lent, stays-refused, same-refused, never-wrote}
 
 module _ (tables rule order : Bytes) where
   pub judged-short : Short (judged tables rule order)
@@ -30,31 +30,25 @@ module _ (tables rule order : Bytes) where
   pub judge-refused : (n : ℕ) (e : Refusal) → (lent n (judged tables rule order) ≡ refused e) ↔ JudgeRefuses tables rule order n e
   judge-refused n e = (λ q. there (met tables rule order) q, λ x. back x)
     where
-      same : {d : Refusal} → judged tables rule order ≡ refused d → lent n (judged tables rule order) ≡ refused e → d ≡ e
-      same is q = same-lent n (sym (ap (lent n) is) ∙ q)
-
       there : Met tables rule order → lent n (judged tables rule order) ≡ refused e → JudgeRefuses tables rule order n e
       there (badTables d t) q =
-          let s = same (judged-rejected tables rule order d (tables-rejected tables rule order d t)) q in
+          let s = same-refused n (judged-rejected tables rule order d (tables-rejected tables rule order d t)) q in
           tablesRefused (t ∙ ap rejected s)
       there (badRule T d t r) q =
-          let s = same (judged-rejected tables rule order d (rule-rejected tables rule order T d t r)) q in
+          let s = same-refused n (judged-rejected tables rule order d (rule-rejected tables rule order T d t r)) q in
           judgedRefused t (r ∙ ap some s)
       there (badOrder T ρ t r h bad) q =
-          let s = same (judged-rejected tables rule order NotAnOrder (order-rejected tables rule order T ρ t r h bad)) q in
+          let s = same-refused n (judged-rejected tables rule order NotAnOrder (order-rejected tables rule order T ρ t r h bad)) q in
           rw (← s) (orderRefused t r h bad)
       there (good T ρ a) q =
           let (b, is, told) = judged-reports a in
           let s = short-lent n b (sym (ap (lent n) is) ∙ q) in
           rw (← (s .0)) (verdictLonger a (omega (arith, s .1, told .long)))
 
-      refuse : (d : Refusal) → judged tables rule order ≡ refused d → lent n (judged tables rule order) ≡ refused d
-      refuse d is = ap (lent n) is ∙ lent-refused n d
-
       back : {e : Refusal} → JudgeRefuses tables rule order n e → lent n (judged tables rule order) ≡ refused e
-      back {e} (tablesRefused t) = refuse e (judged-rejected tables rule order e (tables-rejected tables rule order e t))
-      back {e} (judgedRefused {T} t r) = refuse e (judged-rejected tables rule order e (rule-rejected tables rule order T e t r))
-      back (orderRefused {T} {ρ} t r h bad) = refuse NotAnOrder (judged-rejected tables rule order NotAnOrder (order-rejected tables rule order T ρ t r h bad))
+      back {e} (tablesRefused t) = stays-refused n (judged-rejected tables rule order e (tables-rejected tables rule order e t))
+      back {e} (judgedRefused {T} t r) = stays-refused n (judged-rejected tables rule order e (rule-rejected tables rule order T e t r))
+      back (orderRefused {T} {ρ} t r h bad) = stays-refused n (judged-rejected tables rule order NotAnOrder (order-rejected tables rule order T ρ t r h bad))
       back (verdictLonger a l) =
           let (b, is, told) = judged-reports a in
           ap (lent n) is ∙ lent-short n b (omega (arith, told .long))
@@ -74,11 +68,8 @@ pub written-admitted : {tables rule order : Bytes} (n : ℕ) (b : Bytes) → len
     → (T : Tables) × (ρ : Rule) × Admitted tables rule order T ρ × (26 ≤ n)
 written-admitted {tables} {rule} {order} n b q = go (met tables rule order)
   where
-    never : {d : Refusal} {A : Type 0} → judged tables rule order ≡ refused d → A
-    never {d} is = let z : _≡_ {A = ℕ} 0 1 = cc (sym (lent-refused n d) ∙ ap (lent n) (sym is) ∙ q) in absurd (omega arith)
-
     go : Met tables rule order → (T : Tables) × (ρ : Rule) × Admitted tables rule order T ρ × (26 ≤ n)
-    go (badTables d t) = never (judged-rejected tables rule order d (tables-rejected tables rule order d t))
-    go (badRule T d t r) = never (judged-rejected tables rule order d (rule-rejected tables rule order T d t r))
-    go (badOrder T ρ t r h bad) = never (judged-rejected tables rule order NotAnOrder (order-rejected tables rule order T ρ t r h bad))
+    go (badTables d t) = never-wrote n (judged-rejected tables rule order d (tables-rejected tables rule order d t)) q
+    go (badRule T d t r) = never-wrote n (judged-rejected tables rule order d (rule-rejected tables rule order T d t r)) q
+    go (badOrder T ρ t r h bad) = never-wrote n (judged-rejected tables rule order NotAnOrder (order-rejected tables rule order T ρ t r h bad)) q
     go (good T ρ a) = (T, ρ, a, omega (arith, lent-room n (judged tables rule order) b q, written-length tables rule order b (lent-wrote n (judged tables rule order) b q)))

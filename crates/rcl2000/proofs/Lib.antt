@@ -8,4 +8,6 @@ pub mod PageLaws
 pub mod Demands
 pub mod PageDemands
 pub mod StepDemands
+pub mod ForecastLaws
+pub mod ForecastDemands
 pub mod Examples

@@ -15,11 +15,13 @@ use Rattle.tables.specs.Checks.{reflexive, transitive, antisymmetric}
 use Rattle.tables.specs.Reading.{took, sections, rejected, taken, tablesOf, rankStepOf, wordFrom}
 use Rattle.texts.specs.Pieces.{lines}
 use Rattle.syntax.specs.Bytes.{Bytes}
-use Rattle.syntax.specs.Rule.{Rule, ruleOf}
+use Rattle.syntax.specs.Rule.{Rule, ruleVars, formula, ruleOf}
 use Rattle.rules.specs.Accept.{refusal}
 use Rattle.formulas.specs.Formulas.{RuleOf, reduced, Rebuilds}
+use Rattle.values.specs.Ceiling.{ceilingOf}
 use Rattle.verdicts.specs.Verdict.{wordNumber, turnOrder, judged}
 use Rattle.verdicts.specs.Report.{OrderOf, ReportsIn, Admitted}
+use Rattle.forecasts.specs.Forecast.{forecastSize, forecastOf, Given}
 use Rattle.pages.specs.Page.{PageAnswer, pageOf, pageLent, pageReply, pageAfter, walksOf, verdictsOn, pageOutcome, fullSum, breakingSum}
 use Rattle.pages.specs.Met.{Sized, FirstRefused, PageAdmitted}
 
@@ -156,3 +158,27 @@ pub data StepOf (tables : Bytes) : ℕ → Type 0 where
   notTransitive : {T : Tables} → RefusedRank tables T → reflexive (T .roleRows) ≡ true → transitive (T .roleRows) ≡ false → StepOf tables 2
   notAntisymmetric : {T : Tables} → RefusedRank tables T → reflexive (T .roleRows) ≡ true → transitive (T .roleRows) ≡ true
       → antisymmetric (T .roleRows) ≡ false → StepOf tables 3
+
+-- DOCUMENT 02, N5. r and new are what `forecast` gives for tables and a rule.
+abbrev pub Forecasts : Bytes → Bytes → Bytes → Bytes → ℕ → Type 0
+Forecasts tables rule old new r = Sees (forecastOf tables rule) old new r
+
+-- "Refused tables and rules give document 01's numbers", the tables' first; 17 after all others, where n bytes are lent.
+pub data ForecastRefuses (tables rule : Bytes) (n : ℕ) : Refusal → Type 0 where
+  forecastTables : {e : Refusal} → tablesOf tables ≡ rejected e → ForecastRefuses tables rule n e
+  forecastRule : {T : Tables} {e : Refusal} → tablesOf tables ≡ taken T → refusal rule ≡ some e → ForecastRefuses tables rule n e
+  forecastLonger : {T : Tables} {ρ : Rule} → Given tables rule T ρ → n < forecastSize → ForecastRefuses tables rule n ShortSheet
+
+-- The first word of a forecast, and the second.
+abbrev pub toldLength : Bytes → ℕ
+toldLength new = wordFrom (take 8 new)
+
+abbrev pub toldCeiling : Bytes → ℕ
+toldCeiling new = wordFrom (take 8 (drop 8 new))
+
+-- The lent bytes after a forecast was written: "the exact length of the formula", the "ceiling on full choices", and the rest as it was.
+pub record Foretold (T : Tables) (ρ : Rule) (old new : Bytes) : Type 0 where
+  pub size : toldLength new ≡ length (formula ρ)
+  pub most : toldCeiling new ≡ ceilingOf T (ruleVars [] ρ)
+  pub kept : drop forecastSize new ≡ drop forecastSize old
+  pub same : length new ≡ length old

@@ -2,7 +2,7 @@
 // `rank_step` alone refuses nothing. Below these nothing knows the tracker's numbers.
 ghost use mathlib.Core.Path.{_≡_};
 ghost use Prim.Native.Nat.{_<_};
-ghost use Rattle.rcl2000.specs.Calls.{Reduces, GivesBack, Judges, JudgesPage, GivesStep};
+ghost use Rattle.rcl2000.specs.Calls.{Reduces, GivesBack, Judges, JudgesPage, GivesStep, Forecasts};
 ghost use Rattle.rcl2000.specs.code.Reply.{replyOf, pageReplyOf};
 use answers::Written;
 use pages::Answered;
@@ -68,4 +68,12 @@ pub extern "C" fn rank_step(tables: &[u8]) -> u32
     ensures { λ r. ⌜ GivesStep (now (tables .entry)) r ⌝ }
 {
     tables::rank_step(tables)
+}
+
+// What is told of a rule before it is judged: the length of its formula, and a ceiling on its full choices.
+#[no_mangle]
+pub extern "C" fn forecast(tables: &[u8], rule: &[u8], out: &mut [u8]) -> u32
+    ensures { λ r. ⌜ Forecasts (now (tables .entry)) (now (rule .entry)) (now (out .entry)) (now (out .exit)) r ⌝ }
+{
+    number(forecasts::forecast(tables, rule, out))
 }

@@ -6,14 +6,15 @@ use mathlib.Core.List.{List, []}
 use mathlib.Core.Option.{Option, none, some}
 use Prim.Native.Nat.{ℕ, _<_, _≤_}
 use native.Mathlib.Omega.{arith}
-use lib.ListN.{length, getD, take}
+use lib.ListN.{length, getD, take, length-take}
 use lib.Seq.{getD-take, length-take-le}
 use Rattle.answers.specs.declared.Refusal.{Refusal}
 use Rattle.answers.specs.declared.Refusal.the-variants.{KindMismatch, Choices}
 use Rattle.syntax.specs.Bytes.{Bytes}
 use Rattle.syntax.specs.Rule.{Rule, ruleVars, formula, ruleOf}
-use Rattle.syntax.specs.code.Arena.{HoldsRule}
+use Rattle.syntax.specs.code.Arena.{HoldsRule, Tidy}
 use Rattle.syntax.specs.code.Reading.{Rooted}
+use Rattle.syntax.proofs.NameLaws.{all-length}
 use Rattle.rules.specs.declared.Checked.{Checked}
 use Rattle.rules.specs.declared.Checked.the-variants.{Refused, Accepted}
 use Rattle.rules.specs.declared.Found.{Found}
@@ -22,7 +23,7 @@ use Rattle.rules.specs.Kind.{ruleKinds}
 use Rattle.rules.specs.Accept.{choicesLimit, refusal}
 use Rattle.rules.specs.code.Numbers.{Fills}
 use Rattle.rules.specs.code.Variables.{VarsOf}
-use Rattle.rules.specs.code.Lengths.{LengthsOf, FormulaLength}
+use Rattle.rules.specs.code.Lengths.{FormulaIn}
 use Rattle.rules.specs.code.Parsed.{FitText, ChecksText, turned, passed, RuleAt, Fitted, ChecksTree, unfit, fit, Finds, rejected, found, Blank, Parses}
 use Rattle.rules.proofs.AcceptLaws.{refuse-tree, tree-mismatch, tree-choices, tree-fits, accepted-gives, formula-within}
 use Rattle.rules.proofs.VariableLaws.{listed-count}
@@ -97,6 +98,17 @@ as-found {n = n} {root = root} {count = count} (found {n = n′} {root = root′
     let i : count′ ≡ count = cc in
     (e, rw g at (rw h at (rw i at a)))
 
+-- The nodes of its variables are among those lent, and it may be measured.
+module _ {s ns ks vs : List ℕ} {f : Found} {n root count : ℕ} (p : Finds s ns ks vs f) (e : f ≡ Tree n root count) where
+  abbrev at : RuleAt s ns n root ks vs count
+  at = as-found p e .1
+
+  pub found-few : count ≤ length vs
+  found-few = omega (arith, at .counted, all-length ns (take count vs) (ruleVars [] (at .tree)) (at .knows .holds), length-take count vs)
+
+  pub found-tidy : Tidy ns n × (root < n)
+  found-tidy = (at .tidy, at .within)
+
 -- A parsed text.
 
 pub parse-rejected : {s ns ks vs ns₀ ks₀ vs₀ : List ℕ} {f : Found} {r : Refusal} {o : Checked} {n root count : ℕ} → Finds s ns₀ ks₀ vs₀ f → f ≡ Rejected r → o ≡ Refused r
@@ -112,9 +124,10 @@ parse-found f q =
     record { outcome = rw e; accepted = λ _. t .1; refused = λ r y. let z : _≡_ {A = ℕ} 0 1 = cc in absurd (omega arith) }
 
 -- The formula of an accepted text is so short that its length is told exactly.
-pub formula-exact : {s ns : List ℕ} {n root : ℕ} {ks vs ls : List ℕ} {c r : ℕ} → refusal s ≡ none → (a : RuleAt s ns n root ks vs c) → LengthsOf ns n (take c vs) ls → FormulaLength ls (take c vs) root r → r ≡ length (formula (a .tree))
-formula-exact {s = s} {ns = ns} {n = n} e a l f =
+pub formula-exact : {s ns : List ℕ} {n root : ℕ} {ks vs : List ℕ} {c r : ℕ} → refusal s ≡ none → (a : RuleAt s ns n root ks vs c) → FormulaIn ns n (take c vs) root r
+    → r ≡ length (formula (a .tree))
+formula-exact {s = s} e a f =
     let g = accepted-gives s e in
     let same : g .rule ≡ a .tree = cc (g .reads, a .reads) in
     let b : length (formula (a .tree)) ≤ 4096 = rw same at (formula-within g) in
-    f .is ns n (a .tree) (a .within) (a .holds) (a .knows) (l .measured (ruleVars [] (a .tree)) (a .knows)) ∙ omega arith
+    f (a .tree) (a .holds) (a .knows) ∙ omega arith

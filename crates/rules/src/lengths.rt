@@ -1,5 +1,6 @@
 // Lengths of terms, tests, clauses and rules as they are written, from the nodes alone.
 // Equal subtrees are one node, so that a text that is long to write is quick to measure.
+use crate::RULE_LIMIT;
 use syntax::nodes::AO;
 use syntax::nodes::FIRST_CALL;
 use syntax::nodes::FIRST_NUMBERED;
@@ -16,7 +17,8 @@ ghost use Prim.Native.Nat.{_<_, _≤_};
 ghost use lib.ListN.{length, getD};
 ghost use Rattle.syntax.specs.code.Arena.{Tidy};
 ghost use Rattle.syntax.specs.code.Nodes.{firstCall};
-ghost use Rattle.rules.specs.code.Lengths.{extra, plainLength, knownLength, stepLength, lengthCap, capped, Knowing, LengthsOf, FormulaLength};
+ghost use Rattle.rules.specs.Accept.{ruleLimit};
+ghost use Rattle.rules.specs.code.Lengths.{extra, plainLength, knownLength, stepLength, lengthCap, capped, Knowing, LengthsOf, FormulaLength, FormulaIn};
 
 // How many bytes an operation adds to what it stands on: names with their brackets, signs, bars.
 const EXTRA: [u8; 40] = [
@@ -167,7 +169,7 @@ pub fn lengths(nodes: &[u32], n: usize, vars: &[u32], lens: &mut [u16])
 }
 
 // The length of the formula of the rule at root, whose choices are at vars, by the lengths of the nodes where these are known.
-pub fn formula_length(lens: &[u16], vars: &[u32], root: usize) -> u32
+fn totalled(lens: &[u16], vars: &[u32], root: usize) -> u32
     ensures { λ r. ⌜ FormulaLength (now (lens .entry)) (now (vars .entry)) root r ⌝ }
 {
     let mut total = at_most(1 + length_at(lens, root));
@@ -177,4 +179,16 @@ pub fn formula_length(lens: &[u16], vars: &[u32], root: usize) -> u32
         i += 1;
     }
     total
+}
+
+// The same of the tree of a rule's text, without writing anything.
+pub fn formula_length(nodes: &[u32], n: usize, vars: &[u32], root: usize) -> u32
+    requires { ⌜ Tidy (now nodes) n ⌝ }
+    requires { ⌜ n ≤ ruleLimit ⌝ }
+    requires { ⌜ root < n ⌝ }
+    ensures { λ r. ⌜ FormulaIn (now (nodes .entry)) n (now (vars .entry)) root r ⌝ }
+{
+    let mut lens = [0u16; RULE_LIMIT];
+    lengths(nodes, n, vars, &mut lens);
+    totalled(&lens, vars, root)
 }

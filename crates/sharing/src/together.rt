@@ -94,6 +94,10 @@ pub fn counts(
     }
     let mut plan = [0u64; planning::LENGTH];
     let many_choices = walking::lay_first(t, parsed, order, &mut plan);
+    // A line by itself sees at once that there is nothing to walk.
+    if many_choices == 0 {
+        return Shared::No;
+    }
     if MOST_CHOICES < many_choices {
         return Shared::No;
     }

@@ -26,11 +26,11 @@ use Rattle.values.specs.Values.{ofSort, oneValue}
 use Rattle.values.specs.code.Nodes.{baseAt, sortAt}
 
 -- What holds of each number below n.
-abbrev Each : (ℕ → Type 0) → ℕ → Type 0
+abbrev pub Each : (ℕ → Type 0) → ℕ → Type 0
 Each P zero = Unit {0}
 Each P (suc n) = Each P n × P n
 
-each : (P : ℕ → Type 0) (n : ℕ) → Each P n → (k : ℕ) → k < n → P k
+pub each : (P : ℕ → Type 0) (n : ℕ) → Each P n → (k : ℕ) → k < n → P k
 each P zero h k l = absurd (omega arith)
 each P (suc n) h k l = ⊎-elim (λ (e : k ≡ n). subst P (sym e) (h .1)) (λ (m : k < n). each P n (h .0) k m) (eq-or-lt-of-le (at-most l))
   where

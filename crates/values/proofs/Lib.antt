@@ -11,6 +11,7 @@ pub mod InsideLaws
 pub mod BoundLaws
 pub mod NamesLaws
 pub mod ItemLaws
+pub mod CeilingLaws
 pub mod LevelLaws
 pub mod ChainLaws
 pub mod SettleLaws

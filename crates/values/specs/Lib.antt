@@ -3,5 +3,6 @@ pub mod Items
 pub mod Values
 pub mod Truth
 pub mod Sets
+pub mod Ceiling
 pub mod Naming
 pub mod code

@@ -4,3 +4,4 @@ pub mod Clauses
 pub mod Levels
 pub mod Nodes
 pub mod Plan
+pub mod Multiplied

@@ -39,7 +39,7 @@ pub const KINDS: usize = 952;
 // The parts of a node's word: the node, the kind of its left, its variable, the next node of its level. A clause's: its two tests.
 pub const NODE_ROOM: u64 = 4294967296;
 
-const KIND_ROOM: u64 = 256;
+pub const KIND_ROOM: u64 = 256;
 
 pub const VARIABLE_UNIT: u64 = 1099511627776;
 

@@ -11,6 +11,7 @@ pub mod LoopLaws
 pub mod ShareLaws
 pub mod ClauseLaws
 pub mod SummedLaws
+pub mod CeilingLaws
 pub mod ContextLaws
 pub mod ReorderLaws
 pub mod DescentLaws

@@ -2,7 +2,7 @@
 -- Assumes nothing.
 use mathlib.Core.Bool.{Bool, true, _&&_}
 use mathlib.Core.List.{List, [], _∷_}
-use Prim.Native.Nat.{ℕ, zero, suc, _+_}
+use Prim.Native.Nat.{ℕ, zero, suc, _+_, _*_}
 use lib.ListN.{getD, set, replicate}
 use Rattle.words.specs.Words.{gate, has}
 
@@ -22,6 +22,11 @@ Sets = ℕ → List ℕ → ℕ → Bool
 unfoldable pub sumTo : ℕ → (ℕ → ℕ) → ℕ
 sumTo zero f = 0
 sumTo (suc k) f = sumTo k f + f k
+
+-- f 0 * f 1 * .. * f (k - 1)
+unfoldable pub productTo : ℕ → (ℕ → ℕ) → ℕ
+productTo zero f = 1
+productTo (suc k) f = productTo k f * f k
 
 -- f added over the items of the word w.
 unfoldable pub sumOver : ℕ → (ℕ → ℕ) → ℕ

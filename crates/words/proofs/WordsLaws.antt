@@ -270,6 +270,26 @@ pub has-all : (n i : ℕ) → i < 64 → has (allOf n) i ≡ ltb i n
 unfolding allOf
 has-all n = word-in 64 (λ i. ltb i n)
 
+-- ---- how many items are below n
+
+count-all : (k n : ℕ) → k ≤ n → countTo k (λ i. ltb i n) ≡ k
+unfolding countTo
+count-all zero n h = refl
+count-all (suc k) n h = rw (count-all k n (omega arith), lt-ltb k n (omega arith)) (omega arith)
+
+count-below : (k n : ℕ) → n ≤ k → countTo k (λ i. ltb i n) ≡ n
+unfolding countTo
+count-below zero n h = omega arith
+count-below (suc k) n h = go (ltb k n) refl (count-below k n)
+  where
+    go : (b : Bool) → ltb k n ≡ b → (n ≤ k → countTo k (λ i. ltb i n) ≡ n) → countTo k (λ i. ltb i n) + gate b 1 ≡ n
+    go true e ih = let l : k < n = ltb-true k n e in omega (arith, count-all k n (omega arith))
+    go false e ih = omega (arith, ih (ltb-false k n e))
+
+pub size-all : (n : ℕ) → n ≤ 64 → sizeOf (allOf n) ≡ n
+unfolding sizeOf
+size-all n h = count-ext 64 (has (allOf n)) (λ i. ltb i n) (has-all n) ∙ count-below 64 n h
+
 pub item-lt : (x : ℕ) → itemOf x < 2 ^ 64
 unfolding itemOf
 item-lt x = word-lt 64 (λ i. eqb i x)

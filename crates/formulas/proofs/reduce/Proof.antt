@@ -3,39 +3,37 @@
 use native.Mathlib.Omega.{arith}
 use lib.ListN.{length-take}
 use borrow.Author.Needs.{needs}
-use Rattle.formulas.proofs.ReduceLaws.{reduce-rejected, reduce-few, reduce-ready, reduce-measured, reduce-short, reduce-made}
+use Rattle.rules.proofs.ParseLaws.{found-few, found-tidy}
+use Rattle.formulas.proofs.ReduceLaws.{reduce-rejected, reduce-ready, reduce-short, reduce-made}
 use Rattle.formulas.proofs.reduce.Statement.{statement}
 use Rattle.formulas.proofs.reduce.Tie as tie
 
 array-share-prefix-vars : tie.Need-array-share-prefix-vars
 array-share-prefix-vars c =
-    let at-n = c .before in
-    let at-find = at-n .before .before .before .before .before in
-    omega (arith, reduce-few (at-find .find .ensures) (at-n .n .given .1))
+    let at-find = c .before .before .before .before .before .before in
+    omega (arith, found-few (at-find .find .ensures) (c .before .n .given .1))
 
 slice-aggregate-known : tie.Need-slice-aggregate-known
 slice-aggregate-known c =
-    let at-n = c .before .before in
-    let at-find = at-n .before .before .before .before .before in
-    simp length-take (omega (arith, reduce-few (at-find .find .ensures) (at-n .n .given .1)))
+    let at-find = c .before .before .before .before .before .before .before in
+    simp length-take (omega (arith, found-few (at-find .find .ensures) (c .before .before .n .given .1)))
 
-lengths-requires : tie.Need-lengths-requires
-lengths-requires c κs =
-    let at-n = c .before .before .before .before in
+formula-length-requires : tie.Need-formula-length-requires
+formula-length-requires c κs =
+    let at-n = c .before .before .before in
     let at-find = at-n .before .before .before .before .before in
-    let t = reduce-measured (at-find .find .ensures) (at-n .n .given .1) in
-    (t, omega (arith, t .fits))
+    let t = found-tidy (at-find .find .ensures) (at-n .n .given .1) in
+    (t .0, (omega (arith, t .0 .fits), t .1))
 
 returns : tie.Need-returns
 returns c =
-    let at-lengths = c .before .before .before .before in
-    let at-n = at-lengths .before .before .before .before .before in
+    let at-n = c .before .before .before .before .before in
     let at-find = at-n .before .before .before .before .before in
-    reduce-short (at-find .find .ensures) (at-n .n .given .1) (at-lengths .lengths .ensures) (c .before .formula-length .ensures) (c .if1 .taken)
+    reduce-short (at-find .find .ensures) (at-n .n .given .1) (c .before .formula-length .ensures) (c .if1 .taken)
 
 write-formula-requires : tie.Need-write-formula-requires
 write-formula-requires c κs =
-    let at-n = c .before .before .before .before .before .before .before .before .before .before .before in
+    let at-n = c .before .before .before .before .before .before .before in
     let at-find = at-n .before .before .before .before .before in
     reduce-ready (at-find .find .ensures) (at-n .n .given .1)
 
@@ -47,10 +45,10 @@ returns-2 c =
 returns-3 : tie.Need-returns-3
 returns-3 c =
     let at-if1 = c .before .before .before .before .before in
-    let at-lengths = at-if1 .before .before .before .before in
-    let at-n = at-lengths .before .before .before .before .before in
+    let at-formula-length = at-if1 .before in
+    let at-n = at-formula-length .before .before .before .before in
     let at-find = at-n .before .before .before .before .before in
-    reduce-made (at-find .find .ensures) (at-n .n .given .1) (at-lengths .lengths .ensures) (at-if1 .before .formula-length .ensures) (at-if1 .if1 .left) (c .before .before .write-formula .ensures)
+    reduce-made (at-find .find .ensures) (at-n .n .given .1) (at-formula-length .formula-length .ensures) (at-if1 .if1 .left) (c .before .before .write-formula .ensures)
 
 pub reduce-spec : {M : Type 1} → statement M
 reduce-spec =
@@ -65,10 +63,7 @@ reduce-spec =
     array-share-prefix-vars
     slice-aggregate-known
     (λ c. search needs)
-    (λ c. search needs)
-    lengths-requires
-    (λ c. search needs)
-    (λ c κs. search needs)
+    formula-length-requires
     (λ c. search needs)
     returns
     (λ c. search needs)

@@ -17,12 +17,12 @@ abbrev μ-loop : tie.MeasureT-loop
 
 slice-write-desk-2 : tie.Need-slice-write-desk-2 Inv-loop μ-loop
 slice-write-desk-2 c =
-    let at-loop = c .before .before .before .before .before in
+    let at-loop = c .before .before .before .before in
     simp length-set (omega (arith, at-loop .loop .inv .1))
 
 loop-again : tie.Need-loop-again Inv-loop μ-loop
 loop-again c =
-    let at-loop-test = c .before .before .before .before in
+    let at-loop-test = c .before .before .before in
     let at-loop = at-loop-test .before in
     (omega (arith, at-loop-test .loop-test .taken), simp length-set (at-loop .loop .inv .1))
 
@@ -32,9 +32,6 @@ lay-out-spec =
     (tie.spec
     Inv-loop
     μ-loop
-    (λ c. search needs)
-    (λ c. search needs)
-    (λ c. search needs)
     (λ c. search needs)
     (λ c. search needs)
     (λ c. search needs)

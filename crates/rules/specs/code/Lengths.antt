@@ -68,3 +68,7 @@ quantifierLength ls (v ∷ vs) = 5 + capped (getD ls v 0) + quantifierLength ls 
 -- r is the length of the formula of the rule at root, whose choices are at the nodes vs, by the lengths ls.
 pub record FormulaLength (ls vs : List ℕ) (root r : ℕ) : Type 0 where
   pub is : (ns : List ℕ) (n : ℕ) (ρ : Rule) → root < n → HoldsRule ns root ρ → Knows (mk ns n) vs (ruleVars [] ρ) → Measured ns (ruleVars [] ρ) n ls → r ≡ capped (length (formula ρ))
+
+-- r is that length, whatever rule the nodes hold there.
+abbrev pub FormulaIn : List ℕ → ℕ → List ℕ → ℕ → ℕ → Type 0
+FormulaIn ns n vs root r = (ρ : Rule) → HoldsRule ns root ρ → Knows (mk ns n) vs (ruleVars [] ρ) → r ≡ capped (length (formula ρ))

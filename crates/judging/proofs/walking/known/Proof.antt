@@ -29,14 +29,14 @@ entered-requires c κs =
     let at-start = c .before .before .before .before .before .before .before .before in
     let at-lay-first = c .before .before .before in
     let L = at-start .pre .0 .lent in
-    (L .ready .whole, plan-runs (at-lay-first .lay-first .ensures .along (L .tables) (L .rule) (L .isCase) .planned), refl, omega arith)
+    (L .ready .whole, plan-runs (at-lay-first .lay-first .ensures .0 .along (L .tables) (L .rule) (L .isCase) .planned), refl, omega arith)
 
 descend-requires : tie.Need-descend-requires
 descend-requires c κs =
     let at-start = c .before .before .before .before .before .before .before .before .before .before .before .before .before in
     let at-lay-first = c .before .before .before .before .before .before .before .before in
     let at-entered = c .before .before .before .before in
-    (at-start .pre .0, at-start .pre .1, stands-first 3072 (at-lay-first .lay-first .ensures) (at-entered .entered .ensures) refl)
+    (at-start .pre .0, at-start .pre .1, stands-first 3072 (at-lay-first .lay-first .ensures .0) (at-entered .entered .ensures) refl)
 
 returns-2 : tie.Need-returns-2
 returns-2 c =

@@ -1,49 +1,15 @@
--- `rules::lengths::formula_length` adds the quantifiers to the rule one by one.
+-- `rules::lengths::formula_length` measures the nodes, and adds up what the formula has of them.
 -- Assumes nothing.
 use borrow.Author.Needs.{needs}
-use Prim.Native.Nat.{_≤_, _-_}
-use native.Mathlib.Omega.{arith}
-use lib.ListN.{length}
-use Rattle.rules.proofs.FormulaLengthLaws.{Totalled, totalled-none, totalled-next, totalled-all}
+use Rattle.syntax.specs.Rule.{ruleVars}
+use mathlib.Core.List.{[]}
 use Rattle.rules.proofs.lengths.formula_length.Statement.{statement}
 use Rattle.rules.proofs.lengths.formula_length.Tie as tie
 
-abbrev Inv-loop : tie.InvT-loop
-Inv-loop lens vars root total₀ i₀ total i = (i ≤ length vars) × Totalled lens vars root i total
-
-abbrev μ-loop : tie.MeasureT-loop
-μ-loop lens vars root total₀ i₀ total i = length vars - i
-
-loop-holds : tie.Need-loop-holds Inv-loop μ-loop
-loop-holds c = (omega arith, totalled-none (c .before .length-at .ensures) (c .at-most .ensures))
-
-cast-length-at : tie.Need-cast-length-at Inv-loop μ-loop
-cast-length-at c = omega (arith, c .shared-slice-known3 .given (c .before .before .loop .i))
-
-loop-again : tie.Need-loop-again Inv-loop μ-loop
-loop-again c = (omega arith, totalled-next (c .before .before .before .before .loop .inv .1) (omega arith) (c .before .length-at2 .ensures) (c .at-most2 .ensures))
-
-returns : tie.Need-returns Inv-loop μ-loop
-returns c = totalled-all (c .before .loop .inv .1) (omega arith)
+returns : tie.Need-returns
+returns c = λ ρ h k.
+    let start = c .before .before .before .before .before .before .before .args in
+    c .totalled .ensures .is (start .nodes .now) (start .n) ρ (c .before .before .before .before .before .before .before .pre .1 .1) h k (c .before .before .before .lengths .ensures .measured (ruleVars [] ρ) k)
 
 pub formula-length-spec : {M : Type 1} → statement M
-formula-length-spec =
-    tie.close
-    (tie.spec
-    Inv-loop
-    μ-loop
-    (λ c κs. search needs)
-    (λ c. search needs)
-    (λ c κs. search needs)
-    loop-holds
-    (λ c. search needs)
-    (λ c. search needs)
-    (λ c. search needs)
-    cast-length-at
-    (λ c κs. search needs)
-    (λ c. search needs)
-    (λ c κs. search needs)
-    (λ c. search needs)
-    (λ c. search needs)
-    loop-again
-    returns)
+formula-length-spec = tie.close (tie.spec (λ c. search needs) (λ c κs. search needs) (λ c. search needs) (λ c κs. search needs) returns)

@@ -1,9 +1,9 @@
--- `conformance::page::word` is safe and ends: i goes down from 8.
+-- `conformance::output::word` is safe and ends: i goes down from 8.
 -- Assumes nothing.
 use Prim.Native.Nat.{_≤_}
 use borrow.Author.Needs.{needs}
-use Rattle.conformance.proofs.page.word.Statement.{statement}
-use Rattle.conformance.proofs.page.word.Tie as tie
+use Rattle.conformance.proofs.output.word.Statement.{statement}
+use Rattle.conformance.proofs.output.word.Tie as tie
 
 abbrev Inv-loop : tie.InvT-loop
 Inv-loop out at w₀ i₀ w i = i ≤ 8

@@ -1,0 +1,3 @@
+-- What is told before judging.
+pub mod Forecast
+pub mod code
