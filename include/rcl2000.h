@@ -15,18 +15,20 @@
  * - Pointers. Each points to as many bytes as its length says, and is not NULL, also where the length is 0.
  * - Aliasing. `out` overlaps no input. Inputs may overlap each other. Nothing else may write to any of them before the
  *   call returns. No pointer is kept after that.
- * - Time. reduce, rebuild and rank_step take microseconds, judge a tenth of a millisecond with two variables and a few
- *   milliseconds for most rules with more, whatever the order. A rule with one clause over many variables, or with sets
- *   inside sets, can still take some 20 to 100 ns for each full choice on a present machine, and there may be as many as
- *   64 to the power of the number of variables: 16 million with four, 2.8e14 with eight, which takes months. A call cannot
- *   be interrupted. Whoever judges rules that others wrote counts the variables first (the `[` in the formula that reduce
- *   writes). judge_page takes about what judge takes for its lines, and less where many lines choose alike.
+ * - Time. reduce, rebuild, rank_step and forecast take microseconds, judge a tenth of a millisecond with two
+ *   variables and a few milliseconds for most rules with more, whatever the order. A rule with one clause over many
+ *   variables, or with sets inside sets, can still take some 20 to 100 ns for each full choice on a present machine, up
+ *   to 2 microseconds with many calls inside each other, and there may be as many as 64 to the power of the number of
+ *   variables: 16 million with four, 2.8e14 with eight, which takes months. A call cannot be interrupted. Whoever
+ *   judges rules that others wrote asks forecast first, for a ceiling on the full choices: a small one is a promise, a
+ *   large one says nothing, and where it is 0 the rule is idle, which judge sees at once. judge_page takes about what
+ *   judge takes for its lines, and less where many lines choose alike.
  * - Stack. All memory comes from the stack of the thread that calls, at the most RCL2000_STACK_REDUCE,
- *   RCL2000_STACK_REBUILD, RCL2000_STACK_JUDGE, RCL2000_STACK_JUDGE_PAGE and RCL2000_STACK_RANK_STEP bytes, whatever the
- *   input. (Measured and tested, not proved.)
+ *   RCL2000_STACK_REBUILD, RCL2000_STACK_JUDGE, RCL2000_STACK_JUDGE_PAGE, RCL2000_STACK_RANK_STEP and
+ *   RCL2000_STACK_FORECAST bytes, whatever the input. (Measured and tested, not proved.)
  * - Threads. No state is kept between calls or shared: any number of threads may call at once.
- * - Names. The archive defines the five names below and no other, and needs memcpy and memset. A program with a
- *   function of its own called reduce, rebuild, judge, judge_page or rank_step cannot link it.
+ * - Names. The archive defines the six names below and no other, and needs memcpy and memset. A program with a
+ *   function of its own called reduce, rebuild, judge, judge_page, rank_step or forecast cannot link it.
  * - Machine. x86-64 Linux.
  */
 #ifndef RCL2000_H
@@ -53,6 +55,7 @@
 #define RCL2000_STACK_JUDGE (112 * 1024)
 #define RCL2000_STACK_JUDGE_PAGE (240 * 1024)
 #define RCL2000_STACK_RANK_STEP (16 * 1024)
+#define RCL2000_STACK_FORECAST (24 * 1024)
 
 /* A verdict is 26 bytes: the word, full and breaking as numbers of 8 bytes, lowest byte first, the first breaking choice
    by variable, and the share in a hundred. Unused items of the choice, and the share of an idle rule, are 255. */
@@ -73,6 +76,12 @@
 #define RCL2000_PAGE_WALKS 17
 /* The length for so many lines, which is also where the verdict on the line behind them begins. */
 #define RCL2000_PAGE_LENGTH(lines) (RCL2000_PAGE_HEAD + RCL2000_VERDICT * (lines))
+
+/* A forecast is 16 bytes: the length of the formula, and a ceiling on the full choices, as numbers of 8 bytes, lowest byte
+   first. */
+#define RCL2000_FORECAST 16
+#define RCL2000_FORECAST_LENGTH 0
+#define RCL2000_FORECAST_CEILING 8
 
 /* The word of a verdict. An idle rule met nobody: that is not held. */
 enum rcl2000_word { RCL2000_HELD = 0, RCL2000_IDLE = 1, RCL2000_BROKEN = 2 };
@@ -137,6 +146,13 @@ uint32_t judge_page(const uint8_t *tables, size_t tables_length, const uint8_t *
 /* The first step of the rank test that fails, where the tables are refused 7; 0 for all others, accepted or refused by
    another number. It returns no refusal. */
 uint32_t rank_step(const uint8_t *tables, size_t tables_length);
+
+/* The forecast for a rule, RCL2000_FORECAST bytes, before it is judged. The length is that of what reduce writes. The
+   ceiling is the product over the rule's variables of the words in the whole collection, where the set is a term of
+   collection kind, and else of the items of the element's sort in the tables; 1 without variables. Refusals: 1 to 10, 11 to
+   15, 17. */
+uint32_t forecast(const uint8_t *tables, size_t tables_length, const uint8_t *rule, size_t rule_length, uint8_t *out,
+                  size_t out_length);
 
 #ifdef __cplusplus
 }

@@ -16,7 +16,14 @@ const FOLDER: &str = "RCL2000_LIB_DIR";
 const ARCHIVE: &str = "librcl2000.a";
 
 /// The functions that the archive must have.
-const CALLS: [&str; 5] = ["reduce", "rebuild", "judge", "judge_page", "rank_step"];
+const CALLS: [&str; 6] = [
+    "reduce",
+    "rebuild",
+    "judge",
+    "judge_page",
+    "rank_step",
+    "forecast",
+];
 
 const HOW: &str = "run `rt staticlib rcl2000` at the root of the repository";
 

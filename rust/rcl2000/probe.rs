@@ -61,8 +61,9 @@ fn main() {
     holds("17", refused(17), |out| library::reduce(A, &mut out[..32]));
     // By what the requests after document 01 change, their archives are told apart: a junior role is
     // accepted (N2), a senior one is 8; a page (N3) has its counts and the position of a refused line;
-    // the rank test goes step by step over all roles (N4), behind what is left over; still to come: 4
-    // for a mark of 2 (N6), a half in a hundred upward (N7).
+    // the rank test goes step by step over all roles (N4), behind what is left over; a forecast (N5) counts
+    // the roles of the tables for a variable whose set has one of them, and looks at the tables first; still
+    // to come: 4 for a mark of 2 (N6), a half in a hundred upward (N7).
     let (rule, eighth) = (b"roles(OE(U))={}", half_of_a_hundred_upward());
     holds("N2", (26, &HELD), |out| {
         library::judge(JUNIOR, b"U=U", &[], out)
@@ -80,6 +81,14 @@ fn main() {
     holds("N4", (1, b""), |_| library::rank_step(MISSING));
     let longer = [MISSING, b"\0"].concat();
     holds("10 before 7", (0, b""), |_| library::rank_step(&longer));
+    // `[v1@U][v2@roles(v1)]:v2@R`: 25 bytes, a user times two roles.
+    let told = b"\x19\0\0\0\0\0\0\0\x02\0\0\0\0\0\0\0";
+    holds("N5", (16, told), |out| {
+        library::forecast(JUNIOR, b"OE(roles(OE(U)))@R", out)
+    });
+    holds("8 before 11", refused(8), |out| {
+        library::forecast(SENIOR, b"", out)
+    });
     holds("N6", refused(4), |out| {
         library::judge(MARK, A, &[1, 2], out)
     });

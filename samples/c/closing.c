@@ -11,6 +11,8 @@
 #include <string.h>
 
 static const uint8_t in_turn[RCL2000_MAX_VARIABLES] = {1, 2, 3, 4, 5, 6, 7, 8};
+/* How many full choices are walked in a second at the least (docs/BENCHMARKS.md). */
+enum { CHOICES_A_SECOND = 500000 };
 /* The words of a verdict by its number, and then that of a refusal. */
 enum { REFUSED = 3, WORDS };
 static const char *const words[WORDS] = {"held", "idle", "broken", "refused"};
@@ -62,10 +64,23 @@ static void print_verdict(const uint8_t *verdict) {
     printf("\n");
 }
 
+/* Says on standard error where a rule may take more than a second: as long as its ceiling allows, at the slowest full choice
+   that was measured. Whoever has somebody to ask, asks here. */
+static void tell_wait(const uint8_t *tables, size_t t, const uint8_t *rule, size_t length, size_t place) {
+    uint8_t told[RCL2000_FORECAST];
+    uint64_t ceiling;
+    if (RCL2000_REFUSAL(forecast(tables, t, rule, length, told, sizeof told)) != 0) return;
+    ceiling = number(told + RCL2000_FORECAST_CEILING);
+    if (ceiling > CHOICES_A_SECOND)
+        fprintf(stderr, "line %zu: at most %" PRIu64 " seconds\n", place, ceiling / CHOICES_A_SECOND + 1);
+}
+
 /* The line of one rule, which stands at a place; answers which word it carries. */
 static size_t print_line(const uint8_t *tables, size_t t, const uint8_t *rule, size_t length, size_t place) {
     uint8_t verdict[RCL2000_VERDICT];
-    uint32_t returned = judge(tables, t, rule, length, in_turn, variables(rule, length), verdict, sizeof verdict);
+    uint32_t returned;
+    tell_wait(tables, t, rule, length, place);
+    returned = judge(tables, t, rule, length, in_turn, variables(rule, length), verdict, sizeof verdict);
     printf("%zu ", place);
     if (RCL2000_REFUSAL(returned) != 0) {
         printf("%s %" PRIu32 "\n", words[REFUSED], RCL2000_REFUSAL(returned));

@@ -1,8 +1,9 @@
-//! Times the proved library beside the reference's fast modules, in the same run, and pages beside
-//! calls of `judge`, and prints the tables of docs/BENCHMARKS.md. `bench ROUNDS` sets how many rounds
-//! each median is of; `bench ROUNDS pages` prints the table of the pages alone.
+//! Times the proved library beside the reference's fast modules, in the same run, pages beside calls of
+//! `judge`, and calls by their ceilings, and prints the tables of docs/BENCHMARKS.md. `bench ROUNDS` sets
+//! how many rounds each median is of; `bench ROUNDS pages` or `waits` prints that table alone.
 
 mod pages;
+mod waits;
 
 use std::hint::black_box;
 use std::time::{Duration, Instant};
@@ -13,6 +14,7 @@ use differential::random::Random;
 use differential::rules::{COMMITTEE, PAPER};
 use differential::subjects;
 use differential::tables::{self, Plain};
+use rcl2000::Verdict;
 
 /// A round repeats a call until it has lasted this long.
 const ROUND: Duration = Duration::from_millis(40);
@@ -46,10 +48,17 @@ fn main() {
     for plain in [&random, &office] {
         assert_eq!(plain.bytes().len(), 3_785, "the largest tables");
     }
-    if std::env::args().nth(2).as_deref() != Some("pages") {
+    let only = std::env::args().nth(2);
+    let wanted = |table: &str| only.as_deref().map_or(true, |only| only == table);
+    if wanted("rules") {
         rules_and_calls(&random, &office, rounds);
     }
-    pages::table(&random, &office, rounds);
+    if wanted("pages") {
+        pages::table(&random, &office, rounds);
+    }
+    if wanted("waits") {
+        waits::table();
+    }
 }
 
 /// The tables of rules, and of the calls that walk nothing.
@@ -94,6 +103,14 @@ fn others(tables: &Plain) -> Vec<(String, Question)> {
             Question::RankStep(tables.bytes().into()),
         ),
         (
+            "forecast of `U=U` on the first tables".to_string(),
+            Question::forecast(tables.bytes(), b"U=U".to_vec()),
+        ),
+        (
+            "forecast of C5, eight variables".to_string(),
+            Question::forecast(tables.bytes(), COMMITTEE[4].into()),
+        ),
+        (
             "reduce 256 bytes".to_string(),
             Question::Reduce(rule.into_bytes().into()),
         ),
@@ -113,19 +130,15 @@ fn long_rule() -> String {
 
 /// A rule's row, in the order 1, 2, ..
 fn judged(name: &str, rule: &str, tables: &Plain, rounds: usize) {
-    let read = reference::rule::read(rule.as_bytes()).expect("an accepted rule");
-    let count = read.variables.len() as u8;
-    let asked = |tables: &Plain, order: Vec<u8>| {
-        Question::judge(tables.bytes(), rule.as_bytes().to_vec(), order)
-    };
-    let question = asked(tables, (1..=count).collect());
+    let asked = |tables: &Plain| Question::judge_in_turn(tables.bytes(), rule);
+    let question = asked(tables);
     let full = choices(&question);
     let (ours, fast, mark, ratio) = if full <= MANY {
         let (ours, fast, ratio) = beside(&question, rounds);
         (ours, fast, "", 1.0 / ratio)
     } else {
-        let cut = (0..).map(|times| asked(&cut(tables, times), (1..=count).collect()));
-        let cut = cut.into_iter().find(|cut| choices(cut) <= MANY);
+        let mut cut = (0..).map(|times| asked(&cut(tables, times)));
+        let cut = cut.find(|cut| choices(cut) <= MANY);
         let cut = cut.expect("tables without conflicts");
         let (_, fast, _) = beside(&cut, 1);
         let fast = fast / choices(&cut) as f64 * full as f64;
@@ -143,27 +156,27 @@ fn judged(name: &str, rule: &str, tables: &Plain, rounds: usize) {
 /// Nanoseconds for a call of ours in the slowest of some admissible orders, which all count the same.
 fn worst_order(rule: &str, tables: &Plain, question: &Question) -> f64 {
     let read = reference::rule::read(rule.as_bytes()).expect("an accepted rule");
-    let counts = |question: &Question| {
-        let mut out = [0; 26];
-        question.ask(&mut out).expect("an accepted question");
-        out[..COUNTS].to_vec()
-    };
     let expected = counts(question);
     let times = (0..ORDERS).map(|seed| {
         let order = orders::admissible(&mut Random::new(seed), &read);
         let other = Question::judge(tables.bytes(), rule.as_bytes().to_vec(), order);
         assert_eq!(counts(&other), expected, "{rule}");
-        let mut out = [0; 26];
+        let mut out = [0; Verdict::BYTES];
         time(SHORT_ROUND, || black_box(&other).ask(&mut out))
     });
     times.fold(0.0, f64::max)
 }
 
+/// The word and the counts of a verdict.
+fn counts(question: &Question) -> [u8; COUNTS] {
+    let mut out = [0; Verdict::BYTES];
+    question.ask(&mut out).expect("an accepted question");
+    std::array::from_fn(|place| out[place])
+}
+
 /// The full choices of a verdict.
 fn choices(question: &Question) -> u64 {
-    let mut out = [0; 26];
-    question.ask(&mut out).expect("an accepted question");
-    subjects::full(&out)
+    subjects::full(&counts(question))
 }
 
 /// The tables with sessions and collections halved so many times.
@@ -196,7 +209,7 @@ fn beside(question: &Question, rounds: usize) -> (f64, f64, f64) {
 
 /// Nanoseconds for a call of ours, the median of some rounds.
 fn ours(question: &Question, rounds: usize) -> f64 {
-    let mut out = [0; 26];
+    let mut out = [0; Verdict::BYTES];
     let times = (0..rounds).map(|_| time(ROUND, || black_box(question).ask(&mut out)));
     median(times.collect())
 }

@@ -111,7 +111,8 @@ pub fn table(random: &Plain, office: &Plain, rounds: usize) {
 
 fn row(name: &str, walks: u8, text: &str, tables: &Plain, rounds: usize) {
     let page = Question::judge_page(tables.bytes(), text.into());
-    let calls: Vec<Question> = text.lines().map(|line| call(line, tables)).collect();
+    let call = |line| Question::judge_in_turn(tables.bytes(), line);
+    let calls: Vec<Question> = text.lines().map(call).collect();
     assert_eq!(compared(&page, &calls), walks, "{name}");
     let (mut whole, mut one_by_one) = ([0; Page::MAX_BYTES], [0; Verdict::BYTES]);
     let (mut ours, mut theirs, mut ratios) = (Vec::new(), Vec::new(), Vec::new());
@@ -132,13 +133,6 @@ fn row(name: &str, walks: u8, text: &str, tables: &Plain, rounds: usize) {
         shown(ours),
         shown(theirs)
     );
-}
-
-/// The call of `judge` for a line, in the order 1, 2, ..
-fn call(line: &str, tables: &Plain) -> Question {
-    let rule = reference::rule::read(line.as_bytes()).expect("an accepted rule");
-    let order = (1..=rule.variables.len() as u8).collect();
-    Question::judge(tables.bytes(), line.into(), order)
 }
 
 /// The number of walks of a page, whose lines have the verdicts that the calls give.

@@ -32,15 +32,28 @@ pub enum Question {
     Judge(Box<[u8]>, Box<[u8]>, Box<[u8]>),
     JudgePage(Box<[u8]>, Box<[u8]>),
     RankStep(Box<[u8]>),
+    Forecast(Box<[u8]>, Box<[u8]>),
 }
 
 impl Question {
+    /// The verdict on a rule.
     pub fn judge(tables: Vec<u8>, rule: Vec<u8>, order: Vec<u8>) -> Question {
         Question::Judge(tables.into(), rule.into(), order.into())
     }
 
+    /// That on an accepted rule, in the order 1, 2, ..
+    pub fn judge_in_turn(tables: Vec<u8>, rule: &str) -> Question {
+        let read = reference::rule::read(rule.as_bytes()).expect("an accepted rule");
+        let order = (1..=read.variables.len() as u8).collect();
+        Question::judge(tables, rule.into(), order)
+    }
+
     pub fn judge_page(tables: Vec<u8>, page: Vec<u8>) -> Question {
         Question::JudgePage(tables.into(), page.into())
+    }
+
+    pub fn forecast(tables: Vec<u8>, rule: Vec<u8>) -> Question {
+        Question::Forecast(tables.into(), rule.into())
     }
 
     /// The library's answer into lent bytes; a step alone.
@@ -53,6 +66,7 @@ impl Question {
                 return rcl2000::judge_page_into(tables, page, out)
             }
             Question::RankStep(tables) => Ok(step(rcl2000::rank_step(tables)) as usize),
+            Question::Forecast(tables, rule) => rcl2000::forecast_into(tables, rule, out),
         };
         answer.map_err(PageRefusal::from)
     }
@@ -69,6 +83,9 @@ impl Question {
                 return FAST.judge_page(tables, page).map(|page| page.bytes());
             }
             Question::RankStep(tables) => Ok(vec![reference::fast::rank_step(tables) as u8]),
+            Question::Forecast(tables, rule) => {
+                reference::fast::forecast(tables, rule).map(|told| told.bytes())
+            }
         };
         answer.map_err(Refused::from)
     }
@@ -85,6 +102,9 @@ impl Question {
                 return PLAIN.judge_page(tables, page).map(|page| page.bytes());
             }
             Question::RankStep(tables) => Ok(vec![reference::tables::rank_step(tables) as u8]),
+            Question::Forecast(tables, rule) => {
+                reference::forecast::forecast(tables, rule).map(|told| told.bytes())
+            }
         };
         answer.map_err(Refused::from)
     }
@@ -106,7 +126,8 @@ impl Question {
         }
     }
 
-    /// The command that asks this, as the vectors write it; those of a page and of a step have no length.
+    /// The command that asks this, as the vectors write it; those of a page, a step and a forecast have no
+    /// length.
     pub fn command(&self, length: usize) -> String {
         match self {
             Question::Reduce(rule) => format!("reduce {} {length}", hex(rule)),
@@ -117,6 +138,7 @@ impl Question {
             }
             Question::JudgePage(tables, page) => format!("page {} {}", hex(tables), hex(page)),
             Question::RankStep(tables) => format!("rankstep {}", hex(tables)),
+            Question::Forecast(tables, rule) => format!("forecast {} {}", hex(tables), hex(rule)),
         }
     }
 

@@ -3,7 +3,8 @@
 use crate::formulas::doubling;
 use crate::hold::Question;
 use crate::random::Random;
-use crate::{formulas, pages, rules, scaled, tables};
+use crate::tables::Plain;
+use crate::{formulas, orders, pages, rules, scaled, tables};
 
 /// The length of the longest inputs.
 const MEGABYTES: usize = 4 << 20;
@@ -19,12 +20,14 @@ pub fn questions() -> Vec<Question> {
         largest(),
         long_pages(),
         last_roles(),
+        long_forecasts(),
+        nothing_to_choose(),
     ]
     .concat()
 }
 
 /// The same text as a rule, as a formula, as tables, a rule and an order, and as a page; as tables for the
-/// rank test, too.
+/// rank test, too, and as tables and as a rule of a forecast.
 fn everywhere(text: Vec<u8>) -> Vec<Question> {
     let nobody = vec![0; 9];
     vec![
@@ -34,8 +37,10 @@ fn everywhere(text: Vec<u8>) -> Vec<Question> {
         Question::judge(nobody.clone(), text.clone(), vec![]),
         Question::judge(nobody.clone(), b"U=U".to_vec(), text.clone()),
         Question::judge_page(text.clone(), b"U=U".to_vec()),
-        Question::judge_page(nobody, text.clone()),
-        Question::RankStep(text.into()),
+        Question::judge_page(nobody.clone(), text.clone()),
+        Question::RankStep(text.clone().into()),
+        Question::forecast(text.clone(), b"U=U".to_vec()),
+        Question::forecast(nobody, text),
     ]
 }
 
@@ -148,21 +153,14 @@ fn largest() -> Vec<Question> {
     let tables = tables::full(&mut Random::new(10)).bytes();
     let rules = rules::PAPER.iter().filter(|rule| rule.len() < 45);
     rules
-        .map(|rule| {
-            let count = reference::rule::read(rule.as_bytes())
-                .unwrap()
-                .variables
-                .len();
-            let order = (1..=count as u8).collect();
-            Question::judge(tables.clone(), rule.as_bytes().to_vec(), order)
-        })
+        .map(|rule| Question::judge_in_turn(tables.clone(), rule))
         .collect()
 }
 
 /// The largest tables, whose roles are a chain, and that chain with one step of the rank test failed by
 /// its last roles alone.
 fn last_roles() -> Vec<Question> {
-    let chain: Vec<u64> = (0..64).map(|role| u64::MAX >> (63 - role)).collect();
+    let chain = tables::chain();
     // Role 63 misses itself; it misses role 0; roles 62 and 63 have one row.
     let ends = [chain[63], chain[62], chain[63] - 1];
     let mut hierarchies: Vec<Vec<u64>> = ends
@@ -171,7 +169,7 @@ fn last_roles() -> Vec<Question> {
         .collect();
     hierarchies.push([&chain[..62], &[chain[63]; 2]].concat());
     let plain = tables::full(&mut Random::new(17));
-    let with = |roles| tables::Plain {
+    let with = |roles| Plain {
         roles,
         ..plain.clone()
     };
@@ -179,6 +177,66 @@ fn last_roles() -> Vec<Question> {
     tables
         .map(|bytes| Question::RankStep(bytes.into()))
         .collect()
+}
+
+/// Rules that are as long, as deep or with as many choices as is allowed, and of these the ones with the
+/// longest formulas, on the largest tables.
+fn long_forecasts() -> Vec<Question> {
+    let random = &mut Random::new(20);
+    let tables = tables::full(random).bytes();
+    let rules = (0..scaled(1_000)).map(|_| rules::at_limit(random));
+    let rules = rules.chain((1..=8).map(rules::longest_formula));
+    rules
+        .map(|rule| Question::forecast(tables.clone(), rule.into_bytes()))
+        .collect()
+}
+
+/// Sets that are empty where there are users alone, and their sorts; `X` stands for users.
+const EMPTY: [(&str, &str); 4] = [
+    ("roles(X)", "R"),
+    ("sessions(X)", "S"),
+    ("permissions(roles(X))", "P"),
+    ("object(permissions(roles(X)))", "OBJ"),
+];
+
+/// Eight variables: seven users, inside each other or apart, and behind them one that has no item to choose
+/// but names them all. Where this is walked, it takes hours.
+fn nothing_to_choose() -> Vec<Question> {
+    let random = &mut Random::new(23);
+    let alone = Plain {
+        users: vec![0; 64],
+        ..Plain::default()
+    };
+    let without_sessions = Plain {
+        sessions: vec![],
+        ..tables::full(random)
+    };
+    let mut questions = Vec::new();
+    for users in [rules::inside(7), rules::apart(7)] {
+        for (set, sort) in EMPTY {
+            let chosen = set.replace('X', &users);
+            let tables = match sort {
+                "S" => &without_sessions,
+                _ => &alone,
+            };
+            questions.extend(empty(random, tables, &chosen, sort));
+        }
+    }
+    questions
+}
+
+/// A choice from the empty set, in several orders, and on a page beside lines that choose alike and one that
+/// does not.
+fn empty(random: &mut Random, tables: &Plain, set: &str, sort: &str) -> Vec<Question> {
+    let rule = format!("OE({set})@{sort}");
+    let read = reference::rule::read(rule.as_bytes()).expect("made to be accepted");
+    let judged = |order| Question::judge(tables.bytes(), rule.clone().into(), order);
+    let mut questions: Vec<Question> = (0..4)
+        .map(|_| judged(orders::admissible(random, &read)))
+        .collect();
+    let page = format!("{rule}\nAO({set})={{}}\nAO(U)={{}}\nAO({set})!={{}}");
+    questions.push(Question::judge_page(tables.bytes(), page.into()));
+    questions
 }
 
 /// Pages of 32 lines that are as long as they may be: with eight variables and as many terms as they

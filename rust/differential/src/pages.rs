@@ -13,7 +13,7 @@ use crate::{damage, rules, tables};
 const MOST: usize = 32;
 
 /// Tables and a page whose walks have at most `limit` steps together, each now and then refused.
-pub fn judged(random: &mut Random, most: usize, limit: u128) -> Question {
+pub fn judged(random: &mut Random, most: usize, limit: u64) -> Question {
     let page = any(random);
     let rules: Vec<Rule> = lines(&page)
         .iter()
@@ -44,7 +44,7 @@ pub fn judged(random: &mut Random, most: usize, limit: u128) -> Question {
 
 /// A page of accepted lines with 5 to 8 variables, most of which choose alike, on an office's tables or
 /// others, cut so that its walks have at most `limit` steps together.
-pub fn repeated(random: &mut Random, limit: u128) -> Question {
+pub fn repeated(random: &mut Random, limit: u64) -> Question {
     let count = random.between(2, MOST);
     let texts = alike(random, count, |random| rules::joined(random).into_bytes());
     let rules: Vec<Rule> = texts.iter().flat_map(|text| rule::read(text)).collect();
@@ -52,7 +52,7 @@ pub fn repeated(random: &mut Random, limit: u128) -> Question {
     Question::judge_page(tables, texts.join(&b'\n'))
 }
 
-fn walked(tables: &Tables, rules: &[Rule]) -> u128 {
+fn walked(tables: &Tables, rules: &[Rule]) -> u64 {
     rules.iter().map(|rule| steps(tables, rule)).sum()
 }
 

@@ -1,5 +1,6 @@
 //! Rules from the grammar, well-kinded and otherwise, and rules at the limits.
 
+use rcl2000::MAX_RULE;
 use reference::kind::{Collection, Kind, Sort};
 
 use crate::damage;
@@ -378,6 +379,36 @@ fn wide_formula(random: &mut Random) -> String {
         text += &format!("^{set}!={{}}");
     }
     text
+}
+
+/// A rule of 256 bytes that makes so many choices inside each other from the longest set, which is what
+/// makes its formula the longest of such rules.
+pub fn longest_formula(choices: usize) -> String {
+    let length = MAX_RULE - choices * "AO()".len() - "={}".len();
+    let set = union(1 + (length - 1) / "(U+)".len());
+    inside(choices).replace('U', &set) + "={}"
+}
+
+/// All users but so many, each chosen from those that are left.
+pub fn inside(choices: usize) -> String {
+    "AO(".repeat(choices) + "U" + &")".repeat(choices)
+}
+
+/// So many users, none of whom is chosen from a set that names another.
+pub fn apart(choices: usize) -> String {
+    let one = format!("OE({})", union(choices));
+    match choices {
+        1 => one,
+        _ => format!("({one}+{})", apart(choices - 1)),
+    }
+}
+
+/// The union of U with itself, so many times U.
+fn union(times: usize) -> String {
+    match times {
+        0 | 1 => "U".to_string(),
+        _ => format!("({}+{})", union(times / 2), union(times - times / 2)),
+    }
 }
 
 /// A count held against a number in and out of range.

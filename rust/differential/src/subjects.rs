@@ -8,17 +8,17 @@ use crate::random::Random;
 use crate::{formulas, orders, pages, rules, tables};
 
 /// The most steps of a walk where every choice is tried.
-const FEW: u128 = 2_000;
+pub const FEW: u64 = 2_000;
 
 /// The most steps of a walk by the fast modules.
-const MANY: u128 = 10_000;
+const MANY: u64 = 10_000;
 
 /// The most steps of a page's walks together, by the fast modules.
-const MANY_ON_A_PAGE: u128 = 60_000;
+const MANY_ON_A_PAGE: u64 = 60_000;
 
 /// How many full choices a large verdict has, and about how many steps its walk takes.
 pub const LARGE: u64 = 1_000_000;
-const LARGEST: u128 = 6_000_000;
+const LARGEST: u64 = 6_000_000;
 
 /// A stream of questions.
 pub struct Subject {
@@ -34,8 +34,8 @@ pub struct Subject {
     ask: fn(&mut Random) -> Question,
 }
 
-/// Tables, rules, formulas, verdicts, pages and steps of the rank test, in turn.
-pub const SUBJECTS: [Subject; 10] = [
+/// Tables, rules, formulas, verdicts, pages, steps of the rank test and forecasts, in turn.
+pub const SUBJECTS: [Subject; 11] = [
     Subject {
         name: "tables",
         count: 70_000,
@@ -122,6 +122,14 @@ pub const SUBJECTS: [Subject; 10] = [
         plain: true,
         ask: ranked,
     },
+    Subject {
+        name: "forecasts",
+        count: 20_000,
+        seed: 11,
+        answers: &[0, 1, 2, 3, 4, 5, 6, 7, 8, 9, 10, 11, 12, 13, 14, 15],
+        plain: true,
+        ask: forecast,
+    },
 ];
 
 impl Subject {
@@ -153,8 +161,18 @@ fn ranked(random: &mut Random) -> Question {
     Question::RankStep(tables.into())
 }
 
+/// Tables of any size and a rule of any kind, each now and then refused, or both.
+pub fn forecast(random: &mut Random) -> Question {
+    let tables = match random.below(3) {
+        0 => tables::any(random),
+        1 => tables::accepted(random, 64).bytes(),
+        _ => tables::filled(random, 9).bytes(),
+    };
+    Question::forecast(tables, rules::any(random))
+}
+
 /// Tables, a rule and an order with at most `limit` steps, each now and then refused.
-fn judged(random: &mut Random, most: usize, limit: u128) -> Question {
+pub fn judged(random: &mut Random, most: usize, limit: u64) -> Question {
     let text = match random.below(8) {
         0 => rules::any(random),
         1 => random.pick(&rules::PAPER).as_bytes().to_vec(),
@@ -184,7 +202,7 @@ fn judged(random: &mut Random, most: usize, limit: u128) -> Question {
 
 /// A rule with 5 to 8 variables in an admissible order, on an office's tables or others, cut so that
 /// the walk has at most `limit` steps.
-fn repeated(random: &mut Random, limit: u128) -> Question {
+fn repeated(random: &mut Random, limit: u64) -> Question {
     let text = rules::joined(random).into_bytes();
     let rule = reference::rule::read(&text).expect("made to be accepted");
     let order = orders::admissible(random, &rule);
@@ -214,7 +232,7 @@ pub fn large(random: &mut Random) -> (Question, Expected) {
         };
         let tables = tables.bytes();
         let read = reference::tables::read(&tables).expect("made to be accepted");
-        if !(u128::from(LARGE)..=LARGEST).contains(&steps(&read, &rule)) {
+        if !(LARGE..=LARGEST).contains(&steps(&read, &rule)) {
             continue;
         }
         let question = Question::judge(tables, text, orders::admissible(random, &rule));

@@ -146,6 +146,11 @@ fn with_sizes(random: &mut Random, sizes: [usize; 8]) -> Plain {
     plain
 }
 
+/// Role rows of 64 roles of which each dominates all before it.
+pub fn chain() -> Vec<u64> {
+    (0..64).map(|role| u64::MAX >> (63 - role)).collect()
+}
+
 /// Role rows of a random hierarchy: the juniors of juniors included.
 fn hierarchy(random: &mut Random, count: usize) -> Vec<u64> {
     let mut rank: Vec<usize> = (0..count).collect();

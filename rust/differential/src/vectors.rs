@@ -78,6 +78,7 @@ fn library(command: &Command) -> String {
         Command::Sheet(tables, rules) => return hex(sheet(tables, rules).as_bytes()),
         Command::JudgePage(tables, page) => return page_fields(tables, page),
         Command::RankStep(tables) => return step(rcl2000::rank_step(tables)).to_string(),
+        Command::Forecast(tables, rule) => return told(tables, rule),
     };
     let mut out = vec![FILL; length].into_boxed_slice();
     let returned = reply(question.ask(&mut out));
@@ -103,6 +104,14 @@ fn page_fields(tables: &[u8], page: &[u8]) -> String {
         fields += &format!(" {}:{counts}:{share}:{choice}", verdict.word);
     }
     fields
+}
+
+/// The library's forecast.
+fn told(tables: &[u8], rule: &[u8]) -> String {
+    match rcl2000::forecast(tables, rule) {
+        Err(refusal) => format!("refused {}", refusal.number()),
+        Ok(told) => format!("{} {}", told.length, told.ceiling),
+    }
 }
 
 /// The most bytes of rules that are listed.

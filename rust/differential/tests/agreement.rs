@@ -3,24 +3,28 @@
 //! `RCL2000_PERCENT=2000 cargo test --release -p differential` tries twenty times as many;
 //! `cargo run --release -p differential -- --long MINUTES` goes on with ever new ones.
 
+use std::collections::BTreeMap;
+
 use differential::hold::Question;
 use differential::random::Random;
-use differential::subjects::{full, large, LARGE, SUBJECTS};
+use differential::subjects::{forecast, full, judged, large, FEW, LARGE, SUBJECTS};
 use differential::tables::Plain;
 use differential::{pages, rules, scaled, tables};
-use rcl2000::{BuildError, Refusal, Unencodable, Verdict};
+use rcl2000::{BuildError, Forecast, Refusal, Unencodable, Verdict};
+use reference::kind::Kinds;
 use reference::page::PLAIN;
+use reference::rule::{Rule, Term};
 use reference::sheet::lines;
 use reference::Refused;
 
 /// How many large verdicts are compared.
 const LARGE_ONES: u64 = 8;
 
-/// The gate asks 380,000 questions.
+/// The gate asks 400,000 questions.
 #[test]
 fn the_gate_asks_enough() {
     let asked: u64 = SUBJECTS.iter().map(|subject| subject.count).sum();
-    assert_eq!(asked, 380_000);
+    assert_eq!(asked, 400_000);
 }
 
 /// Asks a subject's questions, which must meet each of its answers.
@@ -81,6 +85,11 @@ fn pages_of_many_variables_agree() {
 #[test]
 fn rank_steps_agree() {
     agree("rank steps");
+}
+
+#[test]
+fn forecasts_agree() {
+    agree("forecasts");
 }
 
 /// Every relation of at most three roles, alone and with a byte left over. Of the relations of 0, 1, 2 and
@@ -159,6 +168,98 @@ fn first_role_step(rows: &[u64]) -> usize {
     };
     let first = (0..rows.len()).find_map(fails);
     first.map_or(0, |place| place + 1)
+}
+
+/// Forecasts of which each thing is refused or nothing is, into outputs of every length up to twice theirs:
+/// 17 below 16, and no byte behind them changes.
+#[test]
+fn forecasts_into_every_length() {
+    let random = &mut Random::new(19);
+    for _ in 0..scaled(400) {
+        let question = forecast(random);
+        let expected = question.plain();
+        for length in 0..=2 * Forecast::BYTES {
+            for guard in [16, 0] {
+                question.hold(&expected, length, guard);
+            }
+        }
+    }
+}
+
+/// Full choices are never above the ceiling, and the formula has the length that was told; what is refused
+/// is refused alike. In many of the verdicts full is the ceiling, in many it is less, and in many of these it
+/// is 0.
+#[test]
+fn verdicts_are_as_forecast() {
+    let random = &mut Random::new(21);
+    let (mut reached, mut less, mut none, mut refused) = (0, 0, 0, 0);
+    for _ in 0..4_000 {
+        let Question::Judge(tables, rule, _) = judged(random, 8, FEW) else {
+            unreachable!("a verdict is asked for");
+        };
+        let told = rcl2000::forecast(&tables, &rule);
+        let verdict = rcl2000::judge_in_turn(&tables, &rule);
+        let (told, verdict) = match (told, verdict) {
+            (Ok(told), Ok(verdict)) => (told, verdict),
+            (told, verdict) => {
+                assert_eq!(told.err(), verdict.err());
+                refused += 1;
+                continue;
+            }
+        };
+        assert_eq!(
+            rcl2000::reduce(&rule).map(|text| text.len()),
+            Ok(told.length)
+        );
+        match told.ceiling.checked_sub(verdict.full) {
+            Some(0) => reached += 1,
+            Some(_) => less += 1,
+            None => panic!("{} above {}: {rule:?}", verdict.full, told.ceiling),
+        }
+        none += u32::from(told.ceiling > 0 && verdict.full == 0);
+    }
+    for times in [reached, less, none, refused] {
+        assert!(times >= 200, "{reached} {less} {none} {refused}");
+    }
+}
+
+/// The accepted rules that forecasts are asked for have no variables and up to eight, and as sets of these
+/// each sort, each collection, all others of a collection, pairs of collections, a collection's element and
+/// calls.
+#[test]
+fn forecasts_are_of_every_set() {
+    let random = &mut Random::new(22);
+    let (mut variables, mut sets) = ([0; 9], BTreeMap::new());
+    for _ in 0..8_000 {
+        let Question::Forecast(_, rule) = forecast(random) else {
+            unreachable!("a forecast is asked for");
+        };
+        let Ok(read) = reference::rule::read(&rule) else {
+            continue;
+        };
+        variables[read.variables.len()] += 1;
+        for variable in &read.variables {
+            *sets.entry(form(&read, &variable.set)).or_insert(0) += 1;
+        }
+    }
+    assert!(variables.iter().all(|&times| times >= 200), "{variables:?}");
+    // Nine names; of each collection its others, pairs and elements; of each of the six sorts others, pairs
+    // and calls.
+    assert_eq!(sets.len(), 9 + 3 * 3 + 6 * 3, "{sets:?}");
+    assert!(sets.values().all(|&times| times >= 50), "{sets:?}");
+}
+
+/// The kind of a set and the form that it is written in.
+fn form(rule: &Rule, set: &Term) -> String {
+    let kinds = Kinds::of(rule).expect("an accepted rule has kinds");
+    let form = match set {
+        Term::Basic(_) => "name",
+        Term::One(_) => "element",
+        Term::Other(_) => "others",
+        Term::Meet(..) | Term::Join(..) => "pair",
+        Term::Call(..) | Term::Operations(..) => "call",
+    };
+    format!("{form} {:?}", kinds.term(set))
 }
 
 /// Of the generated pages of several lines, many have fewer walks than lines, and of these most have

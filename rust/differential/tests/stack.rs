@@ -8,7 +8,8 @@ use std::time::{Duration, Instant};
 use differential::hold::{Expected, Question};
 use differential::hurtful;
 use differential::random::Random;
-use rcl2000::{STACK_JUDGE, STACK_JUDGE_PAGE, STACK_RANK_STEP, STACK_REBUILD, STACK_REDUCE};
+use rcl2000::{STACK_FORECAST, STACK_JUDGE, STACK_JUDGE_PAGE};
+use rcl2000::{STACK_RANK_STEP, STACK_REBUILD, STACK_REDUCE};
 
 /// Held while a small stack is tried: a frame that reaches beyond the page that guards the stack may
 /// else land in another test's, and not end the process.
@@ -55,6 +56,13 @@ fn judging_pages_on_a_small_stack() {
 fn steps_of_the_rank_test_on_a_small_stack() {
     on_stack(STACK_RANK_STEP, |question| {
         matches!(question, Question::RankStep(_))
+    });
+}
+
+#[test]
+fn forecasting_on_a_small_stack() {
+    on_stack(STACK_FORECAST, |question| {
+        matches!(question, Question::Forecast(..))
     });
 }
 

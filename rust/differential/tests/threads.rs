@@ -9,7 +9,7 @@ use differential::{formulas, orders, pages, rules, scaled, tables};
 const QUESTIONS: u64 = 4_000;
 
 /// The most steps of a page's walks.
-const PAGE_STEPS: u128 = 2_000;
+const PAGE_STEPS: u64 = 2_000;
 
 #[test]
 fn eight_threads_agree() {
@@ -31,11 +31,12 @@ fn eight_threads_agree() {
 fn questions(random: &mut Random) -> Vec<(Question, Expected)> {
     (0..scaled(QUESTIONS))
         .map(|_| {
-            let question = match random.below(5) {
+            let question = match random.below(6) {
                 0 => Question::Reduce(rules::any(random).into()),
                 1 => Question::Rebuild(formulas::any(random).into()),
                 2 => pages::judged(random, 3, PAGE_STEPS),
                 3 => Question::RankStep(tables::unranked(random).bytes().into()),
+                4 => Question::forecast(tables::any(random), rules::any(random)),
                 _ => judged(random),
             };
             let expected = question.fast();

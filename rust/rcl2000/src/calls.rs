@@ -1,6 +1,6 @@
 //! The safe calls, those that write with an allocated answer or into lent bytes.
 
-use crate::{library, Page, PageRefusal, RankStep, Refusal, Verdict};
+use crate::{library, Forecast, Page, PageRefusal, RankStep, Refusal, Verdict};
 
 /// The most bytes that an accepted rule has.
 pub const MAX_RULE: usize = 256;
@@ -28,6 +28,9 @@ pub const STACK_JUDGE_PAGE: usize = 240 * 1024;
 
 /// The stack that [`rank_step`] takes at the most, in bytes.
 pub const STACK_RANK_STEP: usize = 16 * 1024;
+
+/// The stack that [`forecast`] takes at the most, in bytes.
+pub const STACK_FORECAST: usize = 24 * 1024;
 
 /// The order that lists every variable in turn.
 const IN_TURN: [u8; MAX_VARIABLES] = [1, 2, 3, 4, 5, 6, 7, 8];
@@ -162,10 +165,11 @@ pub fn rebuild_into(formula: &[u8], out: &mut [u8]) -> Result<usize, Refusal> {
 /// Two variables take a tenth of a millisecond, and most rules of a committee a few milliseconds,
 /// whatever their full choices and whatever the order: what was counted below a choice is not counted
 /// again, and it is counted along an order that the library looks for. A rule with one clause over
-/// many variables, or with sets inside sets, can still take some 20 to 100 ns for each full choice,
-/// and these can be as many as 64 to the power of the number of variables. A call cannot be
-/// interrupted: whoever judges rules that others wrote looks at [`variables`] first, or judges where
-/// it may run on. At most 112 KiB of stack ([`STACK_JUDGE`]).
+/// many variables, or with sets inside sets, can still take some 20 to 100 ns for each full choice, up
+/// to 2 µs where many calls stand inside each other, and these can be as many as 64 to the power of the
+/// number of variables. Where a variable has no item to choose, nothing is walked. A call cannot be interrupted:
+/// whoever judges rules that others wrote asks for a [`forecast`] first, or judges where it may run on. At
+/// most 112 KiB of stack ([`STACK_JUDGE`]).
 pub fn judge(tables: &[u8], rule: &[u8], order: &[u8]) -> Result<Verdict, Refusal> {
     let mut out = [0; Verdict::BYTES];
     judge_into(tables, rule, order, &mut out)?;
@@ -411,6 +415,82 @@ pub fn check_tables(tables: &[u8]) -> Result<(), Refusal> {
 /// Microseconds; at most 16 KiB of stack ([`STACK_RANK_STEP`]).
 pub fn rank_step(tables: &[u8]) -> Option<RankStep> {
     RankStep::from_number(library::rank_step(tables))
+}
+
+/// The forecast for a rule: the exact length of its formula, and a ceiling on its full choices.
+///
+/// The ceiling is the product over the rule's variables of the items that each may have: the words in the
+/// whole of CR, CP or CU where its set is a term of that kind, such as `AO(CR)`; for any other set the items
+/// of its sort in the tables, however few the set has. Without variables it is 1. It is at most 64 to the
+/// power of 8. Where it is 0 the rule is idle.
+///
+/// ```
+/// use rcl2000::{forecast, judge_in_turn, reduce, Refusal, TablesBuilder, Word};
+///
+/// let mut tables = TablesBuilder::new();
+/// let [tester, grader, weigher] = [(); 3].map(|_| tables.role([]));
+/// tables.user([tester]);
+/// tables.user([grader, weigher]);
+/// tables.conflicting_roles([tester, grader]);
+/// let tables = tables.build()?;
+///
+/// // Two users and one word of CR.
+/// let rule = b"|(roles(OE(U))&OE(CR))|<=1";
+/// let told = forecast(&tables, rule)?;
+/// assert_eq!((told.length, told.ceiling), (reduce(rule)?.len(), 2));
+///
+/// // Two users and three roles, though nobody has all of them: only three choices are full.
+/// let rule = b"OE(roles(OE(U)))@R";
+/// assert_eq!(forecast(&tables, rule)?.ceiling, 6);
+/// assert_eq!(judge_in_turn(&tables, rule)?.full, 3);
+///
+/// // Nobody has a session: judging sees at once that there is nothing to choose.
+/// let rule = b"OE(sessions(OE(U)))@S";
+/// assert_eq!(forecast(&tables, rule)?.ceiling, 0);
+/// assert_eq!(judge_in_turn(&tables, rule)?.word, Word::Idle);
+///
+/// assert_eq!(forecast(&tables, b"OE(U)=U"), Err(Refusal::Kind));
+/// assert_eq!(forecast(&[], b"OE(U)=U"), Err(Refusal::CutShort));
+/// # Ok::<(), Box<dyn std::error::Error>>(())
+/// ```
+///
+/// # Errors
+///
+/// What is wrong with the tables, a refusal from 1 to 10; else with the rule, 11 to 15.
+///
+/// # Cost
+///
+/// Microseconds, whatever the rule; at most 24 KiB of stack ([`STACK_FORECAST`]).
+pub fn forecast(tables: &[u8], rule: &[u8]) -> Result<Forecast, Refusal> {
+    let mut out = [0; Forecast::BYTES];
+    forecast_into(tables, rule, &mut out)?;
+    Ok(Forecast::from_bytes(&out))
+}
+
+/// Writes the forecast for a rule into the first [`Forecast::BYTES`] bytes of `out` and gives their
+/// number. [`Forecast::from_bytes`] reads them.
+///
+/// The rest of `out` keeps its contents, and all of it does on a refusal.
+///
+/// ```
+/// use rcl2000::{forecast_into, Forecast, Refusal};
+///
+/// let nobody = [0; 9];
+/// let mut out = [7; 20];
+/// assert_eq!(forecast_into(&nobody, b"OE(U)@U", &mut out), Ok(Forecast::BYTES));
+/// assert_eq!(out, [11, 0, 0, 0, 0, 0, 0, 0, 0, 0, 0, 0, 0, 0, 0, 0, 7, 7, 7, 7]);
+/// assert_eq!(forecast_into(&nobody, b"U=U", &mut out[..15]), Err(Refusal::ShortSheet));
+/// ```
+///
+/// # Errors
+///
+/// As [`forecast`]; then [`Refusal::ShortSheet`] where `out` has fewer bytes than a forecast.
+///
+/// # Cost
+///
+/// As [`forecast`].
+pub fn forecast_into(tables: &[u8], rule: &[u8], out: &mut [u8]) -> Result<usize, Refusal> {
+    length(library::forecast(tables, rule, out))
 }
 
 /// Whether a call with an empty output accepted its inputs: no answer is empty, and the output's

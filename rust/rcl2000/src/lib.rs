@@ -32,33 +32,73 @@
 //!
 //! [`reduce`], [`rebuild`], [`judge`] and [`judge_page`] allocate their answers; [`reduce_into`],
 //! [`rebuild_into`], [`judge_into`] and [`judge_page_into`] write them into bytes that the caller
-//! lends and allocate nothing. Any of them gives a [`Refusal`] where the input is turned back, a page's
-//! with the line that it is for, and then no lent byte has changed. [`rank_step`] refuses nothing: of
-//! tables that are refused 7 it says what their hierarchy of roles is not. Nothing here panics,
-//! whatever the input.
+//! lends and allocate nothing. [`forecast`] and [`forecast_into`] tell of a rule, before it is judged, how
+//! long its formula is and how many full choices it has at the most. Any of them gives a [`Refusal`] where
+//! the input is turned back, a page's with the line that it is for, and then no lent byte has changed.
+//! [`rank_step`] refuses nothing: of tables that are refused 7 it says what their hierarchy of roles is
+//! not. Nothing here panics, whatever the input.
 //!
 //! # What a call may cost
 //!
 //! - **Time.** All calls take microseconds but two: [`judge`] takes from microseconds to
 //!   milliseconds for most rules, but there are rules of many variables for which it has to walk the
 //!   full choices, and these grow as 64 to the power of the number of variables; [`judge_page`] takes
-//!   about what its lines do, or less. Neither can be interrupted. Each call says what it may cost.
+//!   about what its lines do, or less. Neither can be interrupted, so ask first (below). Each call says
+//!   what it may cost.
 //! - **Stack.** The library takes its memory from the stack of the thread that calls it:
 //!   at the most 16 KiB for [`reduce`], 48 KiB for [`rebuild`], 112 KiB for [`judge`], 240 KiB for
-//!   [`judge_page`] and 16 KiB for [`rank_step`], whatever the input ([`STACK_REDUCE`],
-//!   [`STACK_REBUILD`], [`STACK_JUDGE`], [`STACK_JUDGE_PAGE`], [`STACK_RANK_STEP`]; measured, not
-//!   proved). Rust's threads have 2 MiB unless asked for less.
+//!   [`judge_page`], 16 KiB for [`rank_step`] and 24 KiB for [`forecast`], whatever the input
+//!   ([`STACK_REDUCE`], [`STACK_REBUILD`], [`STACK_JUDGE`], [`STACK_JUDGE_PAGE`], [`STACK_RANK_STEP`],
+//!   [`STACK_FORECAST`]; measured, not proved). Rust's threads have 2 MiB unless asked for less.
 //! - **Threads.** The library keeps no state between calls and shares none: any number of threads
 //!   may call at once.
 //! - **Aliasing.** The borrow checker sees to it that a lent output overlaps no input. Inputs may
 //!   overlap each other.
 //! - **Machine.** The archive is for x86-64 Linux, and so is this crate.
 //!
+//! # Asking before judging
+//!
+//! [`forecast`] takes microseconds whatever the rule. Ask for the ceiling, show the wait, and let the person
+//! decide (`examples/ask_first.rs` does so for a folder of rules):
+//!
+//! ```
+//! use rcl2000::{forecast, judge_in_turn};
+//! use std::time::Duration;
+//!
+//! const PER_CHOICE: Duration = Duration::from_micros(2);
+//! const PATIENCE: Duration = Duration::from_secs(1);
+//!
+//! let tables = [0; 9];
+//! let rule = b"|(roles(OE(U))&OE(CR))|<=1";
+//! let wait = forecast(&tables, rule)?.at_most(PER_CHOICE);
+//! if wait <= PATIENCE {
+//!     println!("{}", judge_in_turn(&tables, rule)?);
+//! } else {
+//!     println!("this may take up to {wait:?}");
+//! }
+//! # Ok::<(), rcl2000::Refusal>(())
+//! ```
+//!
+//! - **From a ceiling to a wait.** A full choice that has to be walked takes 20 to 100 ns with most rules, and
+//!   less than 2 µs with the slowest that was tried, 18 calls inside each other (docs/BENCHMARKS.md;
+//!   measured on one machine, not proved). [`Forecast::at_most`] multiplies. To it comes what any call takes, a few
+//!   microseconds for reading the tables and laying a plan.
+//! - **It is a bound and no estimate.** A small ceiling is a promise, a large one says nothing: a rule with
+//!   4.4e12 full choices, and a ceiling to match, took about a millisecond. Judging walks the items of a set,
+//!   of which the sort may have far more; what was counted below a choice is not counted again where a later
+//!   choice is alike in all that the rest of the rule names, so that many clauses of few variables each take
+//!   thousands of steps; and it counts along an order of its own. What takes the time that the ceiling allows
+//!   is one clause over all variables, or sets inside sets.
+//! - **A ceiling of 0 means idle.** Some variable has no item to choose. Judging sees it at once and walks
+//!   nothing, however many items the others have.
+//! - **A page** has the sum of its lines' ceilings.
+//! - **Other tables** have another ceiling. Ask again when they change.
+//!
 //! # The archive
 //!
 //! The crate links `librcl2000.a`, which `rt staticlib rcl2000` writes. Its build script looks for
 //! it in `target/staticlib` of the repository that the crate is in, or in the folder that
-//! `RCL2000_LIB_DIR` names, and tries it before it links it: an archive without the five calls,
+//! `RCL2000_LIB_DIR` names, and tries it before it links it: an archive without the six calls,
 //! or one that answers otherwise than this version of the crate says, is a build error.
 
 #![deny(missing_docs, unsafe_code)]
@@ -66,6 +106,7 @@
 mod builder;
 mod calls;
 mod faults;
+mod forecast;
 mod items;
 #[allow(unsafe_code)]
 mod library;
@@ -77,11 +118,14 @@ mod words;
 
 pub use builder::TablesBuilder;
 pub use calls::{check_rule, check_tables, rank_step, variables};
+pub use calls::{forecast, forecast_into};
 pub use calls::{judge, judge_in_turn, judge_into, rebuild, rebuild_into, reduce, reduce_into};
 pub use calls::{judge_page, judge_page_into};
 pub use calls::{MAX_FORMULA, MAX_RULE, MAX_TABLES, MAX_VARIABLES};
-pub use calls::{STACK_JUDGE, STACK_JUDGE_PAGE, STACK_RANK_STEP, STACK_REBUILD, STACK_REDUCE};
+pub use calls::{STACK_FORECAST, STACK_JUDGE, STACK_JUDGE_PAGE};
+pub use calls::{STACK_RANK_STEP, STACK_REBUILD, STACK_REDUCE};
 pub use faults::{BuildError, Fault, Unencodable};
+pub use forecast::Forecast;
 pub use items::{Object, Operation, Permission, Role, Row, Section, Session, User};
 pub use page::{Page, PageRefusal, MAX_LINES};
 pub use rank::RankStep;

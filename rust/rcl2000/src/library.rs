@@ -1,4 +1,4 @@
-//! The archive's five functions. All the unsafe code of this crate stands here.
+//! The archive's six functions. All the unsafe code of this crate stands here.
 
 mod archive {
     extern "C" {
@@ -28,10 +28,19 @@ mod archive {
         ) -> u32;
 
         pub fn rank_step(tables: *const u8, tables_len: usize) -> u32;
+
+        pub fn forecast(
+            tables: *const u8,
+            tables_len: usize,
+            rule: *const u8,
+            rule_len: usize,
+            out: *mut u8,
+            out_len: usize,
+        ) -> u32;
     }
 }
 
-// SAFETY of the five calls: the functions of the archive take a slice as a pointer and a length,
+// SAFETY of the six calls: the functions of the archive take a slice as a pointer and a length,
 // ask nothing else of their arguments, read nothing but the inputs, write nothing but the first
 // bytes of `out`, and keep no pointer; that is proved of them. Every pointer here is that of a
 // Rust slice with its own length, so it is valid for that many bytes and never null, and `out`,
@@ -76,4 +85,17 @@ pub fn judge_page(tables: &[u8], page: &[u8], out: &mut [u8]) -> u32 {
 
 pub fn rank_step(tables: &[u8]) -> u32 {
     unsafe { archive::rank_step(tables.as_ptr(), tables.len()) }
+}
+
+pub fn forecast(tables: &[u8], rule: &[u8], out: &mut [u8]) -> u32 {
+    unsafe {
+        archive::forecast(
+            tables.as_ptr(),
+            tables.len(),
+            rule.as_ptr(),
+            rule.len(),
+            out.as_mut_ptr(),
+            out.len(),
+        )
+    }
 }

@@ -1,10 +1,12 @@
 //! Document 01's own examples, A to K, its tables T and listing, and the edges that it and document 02
 //! name.
 
-use rcl2000::{check_rule, check_tables, judge, judge_in_turn, judge_into, variables};
+use rcl2000::{
+    check_rule, check_tables, forecast, forecast_into, judge, judge_in_turn, judge_into,
+};
 use rcl2000::{judge_page, judge_page_into, rank_step, rebuild, rebuild_into, reduce, reduce_into};
-use rcl2000::{Page, PageRefusal, RankStep, Refusal, Role, TablesBuilder, Verdict, Word};
-use rcl2000::{MAX_LINES, MAX_TABLES};
+use rcl2000::{variables, Forecast, Page, PageRefusal, RankStep, Refusal, Role, TablesBuilder};
+use rcl2000::{Verdict, Word, MAX_LINES, MAX_TABLES};
 
 const A: &str = "|(roles(OE(U))&OE(CR))|<=1";
 const B: &str = "OE(OE(CR))@roles(OE(U))=>(AO(OE(CR))&roles(OE(U)))={}";
@@ -173,6 +175,92 @@ fn no_step_where_another_refusal_comes_first_or_none() {
         assert_eq!(rank_step(&bytes[..length]), None);
     }
     assert_eq!(rank_step(&tables()), None);
+}
+
+/// The ceiling of a rule whose formula is as long as told.
+fn ceiling(tables: &[u8], rule: &str) -> u64 {
+    let told = forecast(tables, rule.as_bytes()).unwrap();
+    assert_eq!(
+        told.length,
+        reduce(rule.as_bytes()).unwrap().len(),
+        "{rule}"
+    );
+    told.ceiling
+}
+
+#[test]
+fn forecasts_of_a_to_d() {
+    for (rule, expected) in [(A, 2), (B, 4), (C, 2), (D, 1)] {
+        assert_eq!(ceiling(&tables(), rule), expected, "{rule}");
+        assert!(in_turn(&tables(), rule).unwrap().full <= expected, "{rule}");
+    }
+    // T has no sessions, and nobody has anything else.
+    assert_eq!(ceiling(&tables(), "OE(sessions(OE(U)))@S"), 0);
+    assert_eq!(ceiling(&[0; 9], "OE(U)=OE(U)"), 0);
+    assert_eq!(ceiling(&[0; 9], "U=U"), 1);
+}
+
+#[test]
+fn a_ceiling_counts_the_sort_or_the_whole_collection() {
+    let mut tables = TablesBuilder::new();
+    let roles = [(); 5].map(|_| tables.role([]));
+    tables.user([roles[0]]);
+    for word in [0..0, 0..1, 1..4] {
+        tables.conflicting_roles(roles[word].iter().copied());
+    }
+    let tables = tables.build().unwrap();
+    let cases = [
+        ("OE(R)@R", 5),
+        ("OE(CR)={}", 3),
+        ("OE(AO(CR))={}", 3 * 3),
+        ("OE((CR+CR))={}", 3),
+        ("OE(OE(CR))@R", 3 * 5),
+        ("OE(AO(OE(CR)))@R", 3 * 5 * 5),
+        ("OE(roles(OE(U)))@R", 5),
+    ];
+    for (rule, expected) in cases {
+        assert_eq!(ceiling(&tables, rule), expected, "{rule}");
+    }
+}
+
+#[test]
+fn eight_variables_on_the_largest_tables() {
+    let mut tables = TablesBuilder::new();
+    for _ in 0..64 {
+        tables.user([]);
+    }
+    let tables = tables.build().unwrap();
+    let nested = |depth: usize| "AO(".repeat(depth) + "U" + &")".repeat(depth);
+    let told = |depth: usize| ceiling(&tables, &(nested(depth) + "={}"));
+    assert_eq!((told(8), told(1)), (281_474_976_710_656, 64));
+    let refused = forecast(&tables, (nested(9) + "={}").as_bytes());
+    assert_eq!(refused, Err(Refusal::Choices));
+    // No sessions: nothing is walked, which would take hours.
+    let rule = format!("OE(sessions({}))@S", nested(7));
+    assert_eq!(ceiling(&tables, &rule), 0);
+    assert_eq!(in_turn(&tables, &rule).unwrap().word, Word::Idle);
+    let page = judge_page(&tables, format!("{rule}\n{rule}^U=U").as_bytes()).unwrap();
+    assert_eq!((page.word, page.full, page.walks), (Word::Idle, 0, 1));
+}
+
+#[test]
+fn a_forecast_is_refused_for_tables_rule_and_output_in_turn() {
+    let (tables, mut out) = (tables(), [7; Forecast::BYTES + 1]);
+    let mut refused = |tables: &[u8], rule: &str, length: usize| {
+        let refusal = forecast_into(tables, rule.as_bytes(), &mut out[..length]).unwrap_err();
+        assert_eq!(out, [7; Forecast::BYTES + 1]);
+        refusal
+    };
+    for length in [0, 15, 16, 17] {
+        assert_eq!(refused(&[1], "", length), Refusal::CutShort);
+        assert_eq!(refused(&tables, "", length), Refusal::RuleLength);
+        assert_eq!(refused(&tables, "OE(U)=U", length), Refusal::Kind);
+    }
+    for length in 0..Forecast::BYTES {
+        assert_eq!(refused(&tables, C, length), Refusal::ShortSheet);
+    }
+    assert_eq!(forecast_into(&tables, C.as_bytes(), &mut out), Ok(16));
+    assert_eq!(out, [18, 0, 0, 0, 0, 0, 0, 0, 2, 0, 0, 0, 0, 0, 0, 0, 7]);
 }
 
 #[test]

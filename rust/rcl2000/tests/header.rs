@@ -4,9 +4,10 @@ use std::collections::BTreeMap;
 use std::fs;
 use std::path::Path;
 
-use rcl2000::{Page, RankStep, Refusal, Verdict};
+use rcl2000::{Forecast, Page, RankStep, Refusal, Verdict};
 use rcl2000::{MAX_FORMULA, MAX_LINES, MAX_RULE, MAX_TABLES, MAX_VARIABLES};
-use rcl2000::{STACK_JUDGE, STACK_JUDGE_PAGE, STACK_RANK_STEP, STACK_REBUILD, STACK_REDUCE};
+use rcl2000::{STACK_FORECAST, STACK_JUDGE, STACK_JUDGE_PAGE};
+use rcl2000::{STACK_RANK_STEP, STACK_REBUILD, STACK_REDUCE};
 
 /// Each name of the header that has a number, without its prefix: `NAME = N` and `NAME N`.
 fn numbers() -> BTreeMap<String, usize> {
@@ -74,8 +75,12 @@ fn the_header_has_the_lengths_and_the_stacks() {
         ("STACK_JUDGE", STACK_JUDGE),
         ("STACK_JUDGE_PAGE", STACK_JUDGE_PAGE),
         ("STACK_RANK_STEP", STACK_RANK_STEP),
+        ("STACK_FORECAST", STACK_FORECAST),
         ("VERDICT", Verdict::BYTES),
         ("PAGE_HEAD", Page::HEAD),
+        ("FORECAST", Forecast::BYTES),
+        ("FORECAST_LENGTH", 0),
+        ("FORECAST_CEILING", 8),
         ("HELD", 0),
         ("IDLE", 1),
         ("BROKEN", 2),

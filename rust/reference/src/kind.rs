@@ -74,6 +74,11 @@ impl Kinds {
         self.0[variable]
     }
 
+    /// Those of all sets, the first variable's first.
+    pub fn sets(&self) -> impl Iterator<Item = Kind> + '_ {
+        self.0.iter().copied()
+    }
+
     pub fn term(&self, term: &Term) -> Answer<Kind> {
         Ok(match term {
             Term::Basic(basic) => of_basic(*basic),

@@ -1,5 +1,5 @@
-//! Document 01 a second time, with N1 to N4 of document 02: tables, rules, formulas, verdicts, the
-//! day sheet and pages in plain Rust.
+//! Document 01 a second time, with N1 to N5 of document 02: tables, rules, formulas, verdicts, the
+//! day sheet, pages and forecasts in plain Rust.
 //!
 //! It was written from the documents alone and shares no code with the proved library, so that the
 //! two can be held against each other. The modules follow the document: a tree for rules, sets for
@@ -7,6 +7,7 @@
 //! would in a program that is used, and is what the benchmark compares with.
 
 pub mod fast;
+pub mod forecast;
 pub mod formula;
 pub mod kind;
 pub mod number;

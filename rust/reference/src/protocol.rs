@@ -1,7 +1,7 @@
 //! The commands of the vectors: one to a line, with an answer to each.
 
 use crate::page::{self, Page};
-use crate::{fast, formula, lend, rule, sheet, tables, verdict, Answer, Refused};
+use crate::{fast, forecast, formula, lend, rule, sheet, tables, verdict, Answer, Refused};
 
 /// The byte that fills a lent output before the call.
 pub const FILL: u8 = 0xa5;
@@ -30,6 +30,8 @@ pub enum Command {
     JudgePage(Vec<u8>, Vec<u8>),
     /// The step of the rank test that tables fail.
     RankStep(Vec<u8>),
+    /// The forecast for tables and a rule.
+    Forecast(Vec<u8>, Vec<u8>),
 }
 
 use Command::*;
@@ -54,6 +56,7 @@ impl Command {
             [b"sheet", tables, rules] => Sheet(unhex(tables)?, unhex(rules)?),
             [b"page", tables, page] => JudgePage(unhex(tables)?, unhex(page)?),
             [b"rankstep", tables] => RankStep(unhex(tables)?),
+            [b"forecast", tables, rule] => Forecast(unhex(tables)?, unhex(rule)?),
             _ => return None,
         })
     }
@@ -72,6 +75,7 @@ impl Command {
             Sheet(tables, rules) => hex(sheet::sheet(tables, rules).as_bytes()),
             JudgePage(tables, page) => shown(page::PLAIN.judge_page(tables, page)),
             RankStep(tables) => tables::rank_step(tables).to_string(),
+            Forecast(tables, rule) => told(forecast::forecast(tables, rule)),
         }
     }
 
@@ -87,6 +91,7 @@ impl Command {
             }
             JudgePage(tables, page) => shown(page::FAST.judge_page(tables, page)),
             RankStep(tables) => fast::rank_step(tables).to_string(),
+            Forecast(tables, rule) => told(fast::forecast(tables, rule)),
             Rule(_) | Sheet(..) => self.plain(),
         }
     }
@@ -121,6 +126,14 @@ fn shown(answer: Result<Page, Refused>) -> String {
         shown += &format!(" {word}:{}:{}:{share}:{choice}", line.full, line.breaking);
     }
     shown
+}
+
+/// `refused N`, or the length and the ceiling.
+fn told(answer: Answer<forecast::Forecast>) -> String {
+    match answer {
+        Err(number) => format!("refused {number}"),
+        Ok(told) => format!("{} {}", told.length, told.ceiling),
+    }
 }
 
 /// Lowercase hexadecimal; `-` for no bytes.

@@ -70,18 +70,31 @@ pub fn walk(tables: &Tables, rule: &Rule, order: &[usize]) -> Verdict {
             first: NO_CHOICE,
         },
     };
-    judge.try_all(order);
+    // "A choice gives each variable one item of its sort": where there is none, there is no choice.
+    if ceiling(tables, rule) > 0 {
+        judge.try_all(order);
+    }
     judge.verdict
 }
 
-/// A bound on the steps of a walk in any order: the product of the variables' items, where none
-/// count as one, since a walk may meet that variable last.
-pub fn steps(tables: &Tables, rule: &Rule) -> u128 {
+/// Document 02, N5: "The ceiling is the product over the variables .. Without variables it is 1." No
+/// walk tries more choices, in any order.
+pub fn ceiling(tables: &Tables, rule: &Rule) -> u64 {
+    choosable(tables, rule).iter().product()
+}
+
+/// The ceiling, but none count as one: the size that generated tables are cut by. By the ceiling, most
+/// that are few enough would be those in which a variable has nothing to choose.
+pub fn steps(tables: &Tables, rule: &Rule) -> u64 {
+    let items = choosable(tables, rule);
+    items.iter().map(|&items| items.max(1)).product()
+}
+
+/// How many items each variable has to choose from.
+fn choosable(tables: &Tables, rule: &Rule) -> Vec<u64> {
     let kinds = Kinds::of(rule).expect("an accepted rule has kinds");
-    let variables = 0..rule.variables.len();
-    variables
-        .map(|v| items(tables, kinds.set(v)).max(1) as u128)
-        .product()
+    let sets = kinds.sets();
+    sets.map(|set| items(tables, set) as u64).collect()
 }
 
 /// The variable numbers in order, from 0: each once, and each after those that its set names.

@@ -72,6 +72,24 @@ fn verdicts_in_any_order() {
     }
 }
 
+/// Seven users of whom each may be one of 64, and a session of theirs: nobody has one, so there is no choice.
+#[test]
+fn nothing_to_choose_is_idle_at_once() {
+    let user = [1, 0, 0, 0, 0, 0, 0, 0, 0];
+    let tables = [&[0, 64][..], &user.repeat(64), &[0; 7]].concat();
+    let users = "AO(".repeat(7) + "U" + &")".repeat(7);
+    let rule = format!("OE(sessions({users}))@S");
+    assert!(forecast(&tables, &rule).ends_with(" 0"));
+    let order: Vec<u8> = (1..=8).collect();
+    for judge in [verdict::judge, fast::judge] {
+        let counts = |order: &[u8]| {
+            judge(&tables, rule.as_bytes(), order).map(|verdict| (verdict.full, verdict.breaking))
+        };
+        assert_eq!(counts(&order), Ok((0, 0)));
+        assert_eq!(counts(&order[1..]), Err(ORDER));
+    }
+}
+
 #[test]
 fn pages() {
     let long = "U=U\n".repeat(33);
@@ -139,4 +157,89 @@ fn steps_of_the_rank_test() {
             assert_eq!(answered, step.to_string(), "{command}");
         }
     }
+}
+
+/// The forecast for a rule, as the plain and the fast modules both tell it.
+fn forecast(tables: &[u8], rule: &str) -> String {
+    let command = format!("forecast {} {}", hex(tables), hex(rule.as_bytes()));
+    let plain = answer(command.as_bytes(), Command::plain);
+    assert_eq!(answer(command.as_bytes(), Command::fast), plain, "{rule}");
+    plain
+}
+
+/// Tables in which every count is another one: 2 roles, 3 users, 5 sessions, 1 operation, 7 objects, so 7
+/// permissions, 4 words in CR, 6 in CU, 8 in CP. Nobody has a role.
+fn counted() -> Vec<u8> {
+    let word = |low: u8| [low, 0, 0, 0, 0, 0, 0, 0];
+    let rows = |mark: &[u8], count: u8, of: fn(u8) -> u8| {
+        let rows = (0..count).flat_map(|row| [mark, &word(of(row))].concat());
+        [vec![count], rows.collect()].concat()
+    };
+    [
+        rows(&[], 2, |row| 1 << row),
+        rows(&[1], 3, |_| 0),
+        rows(&[0], 5, |_| 0),
+        vec![1, 7],
+        rows(&[1], 7, |_| 0),
+        rows(&[], 4, |row| row),
+        rows(&[], 6, |row| row),
+        rows(&[], 8, |row| row),
+    ]
+    .concat()
+}
+
+#[test]
+fn forecasts_count_the_sort_or_the_whole_collection() {
+    let cases = [
+        ("U=U", ":U=U", 1),
+        ("OE(U)@U", "[v1@U]:v1@U", 3),
+        ("OE(R)@R", "[v1@R]:v1@R", 2),
+        ("OE(OP)@OP", "[v1@OP]:v1@OP", 1),
+        ("OE(OBJ)@OBJ", "[v1@OBJ]:v1@OBJ", 7),
+        ("OE(P)@P", "[v1@P]:v1@P", 7),
+        ("OE(S)@S", "[v1@S]:v1@S", 5),
+        ("OE(CR)={}", "[v1@CR]:v1={}", 4),
+        ("OE(CP)={}", "[v1@CP]:v1={}", 8),
+        ("OE(CU)={}", "[v1@CU]:v1={}", 6),
+        // Terms of collection kind: the whole collection, also where they have fewer words.
+        ("OE(AO(CR))={}", "[v1@CR][v2@(CR-{v1})]:v2={}", 16),
+        ("OE((CP&AO(CP)))={}", "[v1@CP][v2@(CP&(CP-{v1}))]:v2={}", 64),
+        ("OE((CU+CU))={}", "[v1@(CU+CU)]:v1={}", 6),
+        // An element of a collection's element has its sort; a set may be empty under every choice.
+        ("OE(OE(CR))@R", "[v1@CR][v2@v1]:v2@R", 8),
+        ("OE(AO(OE(CU)))@U", "[v1@CU][v2@v1][v3@(v1-{v2})]:v3@U", 54),
+        ("OE(roles(OE(U)))@R", "[v1@U][v2@roles(v1)]:v2@R", 6),
+        ("OE((U&OE(U)))@U", "[v1@U][v2@(U&v1)]:v2@U", 9),
+        // Choices with one text are one variable.
+        ("AO(U)=AO(U)^OE(U)@U", "[v1@U]:(U-{v1})=(U-{v1})^v1@U", 3),
+    ];
+    for (rule, formula, ceiling) in cases {
+        let told = format!("{} {ceiling}", formula.len());
+        assert_eq!(forecast(&counted(), rule), told, "{rule}");
+    }
+}
+
+#[test]
+fn forecasts_of_document_01s_rules() {
+    let cases = [
+        ("|(roles(OE(U))&OE(CR))|<=1", "33 2"),
+        (std::str::from_utf8(B).unwrap(), "59 4"),
+        ("AO(U)={}", "18 2"),
+        ("|CR|=1", "7 1"),
+        // No sessions: nothing can be full, whatever stands beside it.
+        ("OE(S)@S^OE(U)@U", "22 0"),
+    ];
+    for (rule, told) in cases {
+        assert_eq!(forecast(T, rule), told, "{rule}");
+    }
+}
+
+#[test]
+fn forecasts_are_refused_for_the_tables_first() {
+    let deep = format!("{}U", "(".repeat(33));
+    for (rule, number) in [("", 11), (&deep, 12), ("U", 13), ("OE(U)=U", 14)] {
+        assert_eq!(forecast(T, rule), format!("refused {number}"));
+        assert_eq!(forecast(&T[1..], rule), "refused 5");
+    }
+    assert_eq!(forecast(&[], "U=U"), "refused 1");
 }

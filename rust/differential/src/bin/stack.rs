@@ -5,6 +5,7 @@
 //! `stack CALL BYTES` calls where that many bytes are left, more or less. How many fewer are enough for
 //! no call at all is what the call takes.
 
+use std::collections::BTreeSet;
 use std::env;
 use std::hint::black_box;
 use std::process::{exit, Command, Stdio};
@@ -13,8 +14,6 @@ use std::thread;
 use differential::hold::Question;
 use differential::hurtful;
 use rcl2000::MAX_FORMULA;
-
-const CALLS: [&str; 5] = ["reduce", "rebuild", "judge", "judge_page", "rank_step"];
 
 /// No call at all.
 const NOTHING: &str = "nothing";
@@ -30,7 +29,8 @@ fn main() {
     match &words[..] {
         [] => {
             let own = least(NOTHING);
-            for call in CALLS {
+            let calls: BTreeSet<&str> = hurtful::questions().iter().map(name).collect();
+            for call in calls {
                 println!("{call}: {} bytes", least(call) - own);
             }
         }
@@ -98,10 +98,11 @@ fn address(pad: &[u8; STEP]) -> usize {
 
 fn name(question: &Question) -> &'static str {
     match question {
-        Question::Reduce(_) => CALLS[0],
-        Question::Rebuild(_) => CALLS[1],
-        Question::Judge(..) => CALLS[2],
-        Question::JudgePage(..) => CALLS[3],
-        Question::RankStep(_) => CALLS[4],
+        Question::Reduce(_) => "reduce",
+        Question::Rebuild(_) => "rebuild",
+        Question::Judge(..) => "judge",
+        Question::JudgePage(..) => "judge_page",
+        Question::RankStep(_) => "rank_step",
+        Question::Forecast(..) => "forecast",
     }
 }

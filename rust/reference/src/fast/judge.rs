@@ -1,6 +1,7 @@
 //! Verdicts over words: a variable's set is evaluated once its own variables are chosen, and only
 //! its items are walked.
 
+use super::forecast::ceiling;
 use super::tables::{below, items, read, Tables};
 use crate::kind::{Collection, Kind, Kinds, Sort};
 use crate::rule::{self, Basic, Bound, Function, Relation, Rule, Term, Test};
@@ -12,8 +13,9 @@ pub fn judge(tables: &[u8], text: &[u8], order: &[u8]) -> Answer<Verdict> {
     let tables = read(tables)?;
     let rule = rule::read(text)?;
     let order = read_order(&rule, order)?;
+    let lower = Lower::new(&tables, &rule);
     let mut walk = Walk {
-        plan: Lower::new(&tables, &rule).plan(),
+        plan: lower.plan(),
         state: vec![State::default(); order.len()],
         verdict: Verdict {
             full: 0,
@@ -21,7 +23,10 @@ pub fn judge(tables: &[u8], text: &[u8], order: &[u8]) -> Answer<Verdict> {
             first: NO_CHOICE,
         },
     };
-    walk.run(&order);
+    // Where a variable has no item to choose, no choice is full.
+    if ceiling(&tables, &lower.kinds) > 0 {
+        walk.run(&order);
+    }
     Ok(walk.verdict)
 }
 

@@ -4,10 +4,12 @@
 //! It reads rules with [`crate::rule`] and is held against the plain modules by the tests; the
 //! benchmark compares the proved library with it.
 
+mod forecast;
 mod formula;
 mod judge;
 mod tables;
 
+pub use forecast::forecast;
 pub use formula::{rebuild, reduce};
 pub use judge::judge;
 pub use tables::{rank_step, read, Tables};
