@@ -73,7 +73,7 @@ module _ {tables rule : Bytes} {T : Tables} {ρ : Rule} (g : Given tables rule T
   pub given-fits : Fits T
   given-fits = accepted-sound tables (g .reads) .fits
 
-  -- "never above 64^8, so it fits a word"
+  -- It is at most 64 ^ 8, so that it fits a word.
   pub given-ceiling : ceilingOf T (ruleVars [] ρ) ≤ 64 ^ 8
   given-ceiling = ceiling-fits T given-fits (ruleVars [] ρ) (tree-few ρ (accepted-tree rule ρ (g .accepts) (g .tree)))
 

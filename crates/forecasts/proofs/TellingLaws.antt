@@ -14,8 +14,6 @@ use Rattle.answers.proofs.AnswerLaws.{kept-refused}
 use Rattle.tables.specs.Tables.{Tables}
 use Rattle.tables.specs.Bytes.{lowestFirst}
 use Rattle.tables.specs.Reading.{rejected, tablesOf}
-use Rattle.tables.specs.code.Layout.{Whole}
-use Rattle.tables.proofs.FlatLaws.{length-flat}
 use Rattle.syntax.specs.Bytes.{Bytes}
 use Rattle.syntax.specs.Rule.{ruleVars, formula}
 use Rattle.rules.specs.declared.Found.{Found}
@@ -26,15 +24,11 @@ use Rattle.rules.proofs.ParseLaws.{as-rejected, as-found, formula-exact}
 use Rattle.values.specs.Ceiling.{ceilingOf}
 use Rattle.values.specs.code.Multiplied.{CeilingBy}
 use Rattle.texts.proofs.OverwrittenLaws.{none-written}
-use Rattle.verdicts.specs.code.Judging.{Loaded}
 use Rattle.verdicts.specs.code.Writing.{Behind}
 use Rattle.verdicts.proofs.LoadedLaws.{Took}
 use Rattle.forecasts.specs.Forecast.{forecastSize, twoWords, ruleForecast, tablesForecast, forecastOf}
 use Rattle.forecasts.specs.code.Telling.{ForecastsOn}
 use Rattle.forecasts.proofs.ForecastLaws.{tables-refused}
-
-pub loaded-whole : {ts : List ℕ} → Loaded ts → Whole ts
-loaded-whole l = rw (l .holds .words) (length-flat (l .tables))
 
 -- 11 to 15.
 pub told-rejected : {ts s ns ks vs : List ℕ} {f : Found} {r : Refusal} (old : Bytes) → Finds s ns ks vs f → f ≡ Rejected r → ForecastsOn ts s old old (Refused r)

@@ -1,6 +1,6 @@
 -- The rule that gathered lines make together: it is lent with the tables, its parts are the lines' rules, and its counts are theirs.
 -- Assumes nothing.
-use mathlib.Core.Path.{_≡_, refl, sym, ap, subst, _∙_}
+use mathlib.Core.Path.{_≡_, refl, sym, subst, _∙_}
 use mathlib.Core.Bool.{Bool, true, false, true≢false, _||_}
 use mathlib.Core.List.{List, []}
 use mathlib.Core.Logic.{_⊎_, ⊎-elim}
@@ -12,7 +12,6 @@ use lib.Seq.{length-take-le}
 use Rattle.words.specs.Words.{has, joinOf}
 use Rattle.words.proofs.WordsLaws.{has-zero, has-in, has-join, join-lt}
 use Rattle.tables.specs.Tables.{Tables}
-use Rattle.tables.proofs.FlatLaws.{length-flat}
 use Rattle.syntax.specs.Bytes.{Bytes}
 use Rattle.syntax.specs.Term.{Choices}
 use Rattle.syntax.specs.Rule.{Rule, ruleVars, ruleOf}
@@ -27,6 +26,7 @@ use Rattle.judging.specs.code.Lent.{CaseBy, LentBy}
 use Rattle.verdicts.specs.Verdict.{fullCount, breakingCount}
 use Rattle.verdicts.specs.code.Judging.{TablesAt, Loaded}
 use Rattle.verdicts.proofs.HeldLaws.{held-rule}
+use Rattle.verdicts.proofs.LoadedLaws.{loaded-whole}
 use Rattle.sharing.specs.declared.together.Shared.{Shared}
 use Rattle.sharing.specs.declared.together.Shared.the-variants.{No, Yes}
 use Rattle.sharing.specs.code.Part.{Part}
@@ -64,7 +64,7 @@ module _ {p : Parsed} {starts members : List ℕ} {many : ℕ} (W : Whole p star
   whole-lent L lk lv = record {
     lent = record {
       ready = record {
-        whole = ap length (L .holds .words) ∙ length-flat (L .tables);
+        whole = loaded-whole L;
         tidy = W .bound .tidy;
         kinded = omega (arith, W .bound .small);
         below = W .bound .within;

@@ -76,7 +76,7 @@ module _ (tables rule old new : Bytes) (r : ℕ) (s : Forecasts tables rule old 
       let rule-same : ρ₂ ≡ ρ = cc (a .tree, g .tree) in
       rw (reported .reports .fulls, told .most, tables-same, rule-same) (full-below T (given-fits g) ρ)
 
-  -- "never above 64^8, so it fits a word"
+  -- It is at most 64 ^ 8, so that it fits a word.
   pub ceiling-most : toldCeiling new ≤ 64 ^ 8
   ceiling-most =
       let (T, ρ, g, room, n, told) = forecast-writes tables rule old new r s .0 wrote in

@@ -61,7 +61,7 @@ module _ (T : Tables) (f : Fits T) where
   unfolding ceilingOf
   ceiling-items σ = ap (productTo (length σ)) (fun-ext (λ v. count-size (kind (setOf σ v))))
 
-  -- and "never above 64^8".
+  -- and at most 64 ^ 8.
   pub ceiling-fits : (σ : Choices) → length σ ≤ choicesLimit → ceilingOf T σ ≤ 64 ^ 8
   unfolding ceilingOf
   ceiling-fits σ few = le-trans (ceiling-within (λ v. countOfKind T (kind (setOf σ v))) (λ v. count-within (kind (setOf σ v))) (length σ)) (pow-le-pow-right (lit< tt) few)

@@ -1,6 +1,6 @@
 -- From a parsed rule to its verdict on the tables that the words hold.
 -- Assumes nothing.
-use mathlib.Core.Path.{_≡_, refl, sym, ap, _∙_}
+use mathlib.Core.Path.{_≡_, refl, sym, _∙_}
 use mathlib.Core.List.{List}
 use mathlib.Core.Option.{Option, none, some}
 use Prim.Native.Nat.{ℕ, _≤_}
@@ -9,7 +9,6 @@ use lib.ListN.{length, take}
 use lib.Seq.{length-take-le}
 use Rattle.answers.specs.declared.Refusal.{Refusal}
 use Rattle.tables.specs.Tables.{Tables}
-use Rattle.tables.proofs.FlatLaws.{length-flat}
 use Rattle.syntax.specs.Bytes.{Bytes}
 use Rattle.syntax.specs.Rule.{Rule}
 use Rattle.rules.specs.declared.Checked.{Checked}
@@ -21,6 +20,7 @@ use Rattle.verdicts.specs.declared.Verdict.{Verdict}
 use Rattle.verdicts.specs.Verdict.{refusedBy, orderVerdict, treeVerdict, acceptedVerdict}
 use Rattle.judging.specs.code.Lent.{Case, Lent}
 use Rattle.verdicts.specs.code.Judging.{TablesAt, Loaded}
+use Rattle.verdicts.proofs.LoadedLaws.{loaded-whole}
 
 checked-none : (q : Option Refusal) → checkedOf q ≡ Accepted → q ≡ none
 checked-none none e = refl
@@ -62,7 +62,7 @@ module _ {s : Bytes} {ns ks vs : List ℕ} {o : Checked} {n root count : ℕ} (p
     pub parsed-lent : {ts : List ℕ} → Loaded ts → length ns ≡ 256 → length ks ≡ 256 → length vs ≡ 8 → Lent ts ns n ks (take count vs) root
     parsed-lent L ln lk lv = record {
       ready = record {
-        whole = ap length (L .holds .words) ∙ length-flat (L .tables);
+        whole = loaded-whole L;
         tidy = parsed-rule .tidy;
         kinded = omega (arith, parsed-rule .tidy .fits);
         below = parsed-rule .within;

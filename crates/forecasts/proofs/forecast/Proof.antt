@@ -1,8 +1,6 @@
 -- `forecasts::forecast` meets its contract: refused tables give their refusal, accepted ones go on to the rule.
 -- Assumes nothing.
-use Rattle.tables.specs.Reading.{tablesOf}
-use Rattle.tables.proofs.LoadLaws.{outcome-number}
-use Rattle.verdicts.proofs.LoadedLaws.{was-rejected, was-taken, took-loaded}
+use Rattle.verdicts.proofs.LoadedLaws.{load-rejected, load-taken, took-loaded}
 use Rattle.forecasts.proofs.TellingLaws.{told-refused, told-taken}
 use borrow.Author.Needs.{needs}
 use Rattle.forecasts.proofs.forecast.Statement.{statement}
@@ -12,13 +10,13 @@ on-tables-requires : tie.Need-on-tables-requires
 on-tables-requires c κs =
     let at-load = c .before .before .before .before .before in
     let at-start = at-load .before .before .before .before .before in
-    took-loaded (was-taken (at-start .args .tables .now) (outcome-number (tablesOf (at-start .args .tables .now)) (at-load .load .ensures .0)) (at-load .load .ensures .1 .0 (c .before .before .enum-told .given .1)) (c .before .before .enum-told .given .1))
+    took-loaded (load-taken (at-start .args .tables .now) (at-load .load .ensures .0) (at-load .load .ensures .1 .0) (c .before .before .enum-told .given .1))
 
 returns : tie.Need-returns
 returns c =
     let at-load = c .before .before .before .before in
     let at-start = at-load .before .before .before .before .before in
-    told-refused (at-start .args .tables .now) (at-start .args .rule .now) _ (was-rejected (at-start .args .tables .now) (outcome-number (tablesOf (at-start .args .tables .now)) (at-load .load .ensures .0)) (c .before .e .given .1))
+    told-refused (at-start .args .tables .now) (at-start .args .rule .now) _ (load-rejected (at-start .args .tables .now) (at-load .load .ensures .0) (c .before .e .given .1))
 
 returns-2 : tie.Need-returns-2
 returns-2 c =
@@ -26,7 +24,7 @@ returns-2 c =
     let at-load = at-enum-told .before .before .before in
     let at-start = at-load .before .before .before .before .before in
     told-taken (at-start .args .tables .now) (at-start .args .rule .now)
-    (was-taken (at-start .args .tables .now) (outcome-number (tablesOf (at-start .args .tables .now)) (at-load .load .ensures .0)) (at-load .load .ensures .1 .0 (at-enum-told .enum-told .given .1)) (at-enum-told .enum-told .given .1))
+    (load-taken (at-start .args .tables .now) (at-load .load .ensures .0) (at-load .load .ensures .1 .0) (at-enum-told .enum-told .given .1))
     (c .before .before .on-tables .ensures)
 
 pub forecast-spec : {M : Type 1} → statement M

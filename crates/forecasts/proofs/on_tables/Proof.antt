@@ -3,7 +3,8 @@
 use native.Mathlib.Omega.{arith}
 use lib.ListN.{length-take}
 use Rattle.rules.proofs.ParseLaws.{as-found, found-few, found-tidy}
-use Rattle.forecasts.proofs.TellingLaws.{loaded-whole, told-rejected, told-found}
+use Rattle.verdicts.proofs.LoadedLaws.{loaded-whole}
+use Rattle.forecasts.proofs.TellingLaws.{told-rejected, told-found}
 use borrow.Author.Needs.{needs}
 use Rattle.forecasts.proofs.on_tables.Statement.{statement}
 use Rattle.forecasts.proofs.on_tables.Tie as tie

@@ -1,8 +1,6 @@
 -- `pages::judge` meets its contract: refused tables give their refusal, accepted ones go on to the page.
 -- Assumes nothing.
-use Rattle.tables.specs.Reading.{tablesOf}
-use Rattle.tables.proofs.LoadLaws.{outcome-number}
-use Rattle.verdicts.proofs.LoadedLaws.{was-rejected, was-taken, took-loaded}
+use Rattle.verdicts.proofs.LoadedLaws.{load-rejected, load-taken, took-loaded}
 use Rattle.pages.proofs.PageLaws.{refusal-answers, tables-refused, tables-taken}
 use borrow.Author.Needs.{needs}
 use Rattle.pages.proofs.judge.Statement.{statement}
@@ -13,13 +11,13 @@ on-tables-requires c κs =
     let at-start = c .before .before .before .before .before .before .before .before .before .before in
     let tables = at-start .args .tables .now in
     let told = c .before .before .enum-told .given .1 in
-    took-loaded (was-taken tables (outcome-number (tablesOf tables) (c .before .before .before .before .before .load .ensures .0)) (c .before .before .before .before .before .load .ensures .1 .0 told) told)
+    took-loaded (load-taken tables (c .before .before .before .before .before .load .ensures .0) (c .before .before .before .before .before .load .ensures .1 .0) told)
 
 returns : tie.Need-returns
 returns c =
     let at-start = c .before .before .before .before .before .before .before .before .before in
     let tables = at-start .args .tables .now in
-    refusal-answers _ _ (tables-refused tables _ (was-rejected tables (outcome-number (tablesOf tables) (c .before .before .before .before .load .ensures .0)) (c .before .e .given .1)))
+    refusal-answers _ _ (tables-refused tables _ (load-rejected tables (c .before .before .before .before .load .ensures .0) (c .before .e .given .1)))
 
 returns-2 : tie.Need-returns-2
 returns-2 c =
@@ -27,7 +25,7 @@ returns-2 c =
     let at-start = at-load .before .before .before .before .before in
     let tables = at-start .args .tables .now in
     let told = c .before .before .before .before .before .enum-told .given .1 in
-    let q = was-taken tables (outcome-number (tablesOf tables) (at-load .load .ensures .0)) (at-load .load .ensures .1 .0 told) told in
+    let q = load-taken tables (at-load .load .ensures .0) (at-load .load .ensures .1 .0) told in
     rw (tables-taken tables (at-start .args .page .now) (q .is)) (c .before .before .on-tables .ensures (q .tables) (q .holds))
 
 pub judge-spec : {M : Type 1} → statement M

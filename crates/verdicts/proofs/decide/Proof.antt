@@ -1,10 +1,8 @@
 -- `verdicts::decide` meets its contract: refused tables give their refusal, accepted ones go on to the rule.
 -- Assumes nothing.
 use mathlib.Core.Path.{sym, _∙_}
-use Rattle.tables.specs.Reading.{tablesOf}
-use Rattle.tables.proofs.LoadLaws.{outcome-number}
 use Rattle.verdicts.proofs.OutcomeLaws.{same-gives}
-use Rattle.verdicts.proofs.LoadedLaws.{was-rejected, was-taken, took-loaded, took-judged}
+use Rattle.verdicts.proofs.LoadedLaws.{load-rejected, load-taken, took-loaded, took-judged}
 use Rattle.verdicts.proofs.JudgedLaws.{tables-rejected}
 use borrow.Author.Needs.{needs}
 use Rattle.verdicts.proofs.decide.Statement.{statement}
@@ -14,7 +12,7 @@ on-tables-requires : tie.Need-on-tables-requires
 on-tables-requires c κs =
     let at-load = c .before .before .before .before in
     let at-start = at-load .before .before .before .before .before in
-    took-loaded (was-taken (at-start .args .tables .now) (outcome-number (tablesOf (at-start .args .tables .now)) (at-load .load .ensures .0)) (at-load .load .ensures .1 .0 (c .before .enum-told .given .1)) (c .before .enum-told .given .1))
+    took-loaded (load-taken (at-start .args .tables .now) (at-load .load .ensures .0) (at-load .load .ensures .1 .0) (c .before .enum-told .given .1))
 
 returns : tie.Need-returns
 returns c =
@@ -22,7 +20,7 @@ returns c =
     let at-load = at-e .before .before .before in
     let at-start = at-load .before .before .before .before .before in
     let e = at-e .e .given .0 .0 in
-    let said = was-rejected (at-start .args .tables .now) (outcome-number (tablesOf (at-start .args .tables .now)) (at-load .load .ensures .0)) (at-e .e .given .1) in
+    let said = load-rejected (at-start .args .tables .now) (at-load .load .ensures .0) (at-e .e .given .1) in
     same-gives (c .refused .ensures ∙ sym (tables-rejected (at-start .args .tables .now) (at-start .args .rule .now) (at-start .args .order .now) e said))
 
 returns-2 : tie.Need-returns-2
@@ -31,7 +29,7 @@ returns-2 c =
     let at-load = at-enum-told .before .before .before in
     let at-start = at-load .before .before .before .before .before in
     let told = at-enum-told .enum-told .given .1 in
-    let q = was-taken (at-start .args .tables .now) (outcome-number (tablesOf (at-start .args .tables .now)) (at-load .load .ensures .0)) (at-load .load .ensures .1 .0 told) told in
+    let q = load-taken (at-start .args .tables .now) (at-load .load .ensures .0) (at-load .load .ensures .1 .0) told in
     same-gives (took-judged q (at-start .args .rule .now) (at-start .args .order .now) (c .on-tables .ensures (q .tables) (q .holds)))
 
 pub decide-spec : {M : Type 1} → statement M
