@@ -14,7 +14,7 @@ use Rattle.answers.specs.Written.{numberIn, lengthIn, Answers}
 use Rattle.answers.specs.declared.Refusal.{Refusal}
 use Rattle.answers.specs.declared.Refusal.the-variants.{CutShort, Overfull, NotEntered, BadMark, NoSuchItem, Miscounted}
 use Rattle.answers.specs.declared.Refusal.the-variants.{Rank, Overreach, Twin, LeftOver, RuleLength, Deep, NotARule}
-use Rattle.answers.specs.declared.Refusal.the-variants.{KindMismatch, Choices, NoRulesFormula, ShortSheet, NotAnOrder, Page}
+use Rattle.answers.specs.declared.Refusal.the-variants.{KindMismatch, Choices, NoRulesFormula, ShortSheet, NotAnOrder, Page, Left}
 use Rattle.answers.specs.declared.Written.{Written}
 use Rattle.answers.specs.declared.Written.the-variants.{Refused, Wrote}
 
@@ -22,12 +22,12 @@ use Rattle.answers.specs.declared.Written.the-variants.{Refused, Wrote}
 listed : List Refusal
 listed =
     CutShort ∷ CutShort ∷ Overfull ∷ NotEntered ∷ BadMark ∷ NoSuchItem ∷ Miscounted ∷ Rank ∷ Overreach ∷ Twin ∷ LeftOver
-    ∷ RuleLength ∷ Deep ∷ NotARule ∷ KindMismatch ∷ Choices ∷ NoRulesFormula ∷ ShortSheet ∷ NotAnOrder ∷ Page ∷ []
+    ∷ RuleLength ∷ Deep ∷ NotARule ∷ KindMismatch ∷ Choices ∷ NoRulesFormula ∷ ShortSheet ∷ NotAnOrder ∷ Page ∷ Left ∷ []
 
--- One line for each refusal: its number is from 1 to 19, and its place in the list.
+-- One line for each refusal: its number is from 1 to 20, and its place in the list.
 record Numbered (r : Refusal) : Type 0 where
   some : 1 ≤ numberOf r
-  few : numberOf r ≤ 19
+  few : numberOf r ≤ 20
   back : getD listed (numberOf r) CutShort ≡ r
 
 numbered : (r : Refusal) → Numbered r
@@ -51,11 +51,12 @@ numbered NoRulesFormula = record { some = omega arith; few = omega arith; back =
 numbered ShortSheet = record { some = omega arith; few = omega arith; back = refl }
 numbered NotAnOrder = record { some = omega arith; few = omega arith; back = refl }
 numbered Page = record { some = omega arith; few = omega arith; back = refl }
+numbered Left = record { some = omega arith; few = omega arith; back = refl }
 
 pub number-some : (r : Refusal) → 1 ≤ numberOf r
 number-some r = numbered r .some
 
-pub number-few : (r : Refusal) → numberOf r ≤ 19
+pub number-few : (r : Refusal) → numberOf r ≤ 20
 number-few r = numbered r .few
 
 pub same-number : (a b : Refusal) → numberOf a ≡ numberOf b → a ≡ b

@@ -4,14 +4,14 @@ use Prim.Native.Nat.{ℕ}
 use Rattle.answers.specs.declared.Refusal.{Refusal}
 use Rattle.answers.specs.declared.Refusal.the-variants.{CutShort, Overfull, NotEntered, BadMark, NoSuchItem, Miscounted}
 use Rattle.answers.specs.declared.Refusal.the-variants.{Rank, Overreach, Twin, LeftOver, RuleLength, Deep, NotARule}
-use Rattle.answers.specs.declared.Refusal.the-variants.{KindMismatch, Choices, NoRulesFormula, ShortSheet, NotAnOrder, Page}
+use Rattle.answers.specs.declared.Refusal.the-variants.{KindMismatch, Choices, NoRulesFormula, ShortSheet, NotAnOrder, Page, Left}
 
 -- "No.", with the table's word and condition beside each.
 abbrev pub numberOf : Refusal → ℕ
 numberOf CutShort = 1  -- cut short: bytes end where a count or row is due, or inside a row
 numberOf Overfull = 2  -- overfull: count above its limit
 numberOf NotEntered = 3  -- not entered: mark 0
-numberOf BadMark = 4  -- bad mark: mark above 1
+numberOf BadMark = 4  -- bad mark: mark above 1, in a user row above 2 (document 02, N6)
 numberOf NoSuchItem = 5  -- no such item: bit or user number at or above its count
 numberOf Miscounted = 6  -- miscounted: permissions not operations × objects
 numberOf Rank = 7  -- rank: role rows not reflexive, transitive, antisymmetric
@@ -27,3 +27,4 @@ numberOf NoRulesFormula = 16  -- no rule's formula: no accepted rule has this fo
 numberOf ShortSheet = 17  -- short sheet: lent output shorter than L
 numberOf NotAnOrder = 18  -- order: not an order of the rule's variables
 numberOf Page = 19  -- page: no line or above 32 (document 02, N3)
+numberOf Left = 20  -- left: a row of mark 2 with a word not zero, a session of a leaver, or a CU word naming one (document 02, N6)

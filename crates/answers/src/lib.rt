@@ -29,6 +29,7 @@ pub enum Refusal {
     ShortSheet,
     NotAnOrder,
     Page,
+    Left,
 }
 
 // What a call that writes to a lent output says: a refusal, or the number of bytes written.
@@ -61,6 +62,7 @@ pub fn number(refusal: Refusal) -> u32
         Refusal::ShortSheet => 17,
         Refusal::NotAnOrder => 18,
         Refusal::Page => 19,
+        Refusal::Left => 20,
     }
 }
 

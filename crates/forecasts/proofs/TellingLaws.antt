@@ -46,7 +46,7 @@ module _ {s ns ks vs : List ℕ} {f : Found} {n root count : ℕ} (p : Finds s n
   told-found {ts} {size} {most} x y {old} a T t =
       let long : size ≡ length (formula (at .tree)) = formula-exact (as-found p e .0) at x in
       let high : most ≡ ceilingOf T (ruleVars [] (at .tree))
-      = y T ns n (ruleVars [] (at .tree)) (record { fits = t .sound .fits; words = t .words; kinds = at .kinds; variables = at .knows }) in
+      = y T ns n (ruleVars [] (at .tree)) (record { fits = t .passes .sound .fits; words = t .words; kinds = at .kinds; variables = at .knows }) in
       rw (as-found p e .0, at .reads, ← long, ← high) a
 
 -- On tables that are refused, and on those that are taken.

@@ -11,9 +11,9 @@ use lib.Arith.{digits-div, digits-mod}
 use lib.Dec.{eqb, ltb}
 use lib.ListN.{length, getD, length-map, List·getD-eq-default}
 use Rattle.words.specs.Words.{has, anyTo, itemOf, meetOf, imageOf, preimageOf}
-use Rattle.words.proofs.WordsLaws.{word-ext, both, and-true, and-both, any-here, any-witness, any-ext, has-zero, has-item, has-meet}
+use Rattle.words.proofs.WordsLaws.{word-ext, both, eqb-comm, and-true, and-both, any-here, any-witness, any-ext, has-zero, has-item, has-meet}
 use Rattle.words.proofs.RelationLaws.{reach, reach-ext, image-reach, preimage-reach, image-image, preimage-image, has-preimage}
-use Rattle.tables.specs.Tables.{Tables, sessionUsers, sessionRoles}
+use Rattle.tables.specs.Tables.{Tables, userRows, sessionUsers, sessionRoles}
 use Rattle.tables.specs.Accepted.{Fits}
 use Rattle.tables.specs.code.Layout.{roleCountAt, userCountAt, sessionCountAt, permissionCountAt, roleRowsAt, userRowsAt, sessionUsersAt}
 use Rattle.tables.specs.code.Layout.{sessionRolesAt, permissionRowsAt, objectRowsAt, operationRowsAt, sectionAt}
@@ -25,9 +25,6 @@ use Rattle.tables.specs.Functions.{juniorsOfUsers, juniorsOfSessions, seniorsOf
 use Rattle.tables.specs.Functions.{permissionsOfRoles, permissionsOfJuniors, objectsOfPermissions, operationsOn}
 
 -- ---- the rows of one item
-
-pub eqb-comm : (a b : ℕ) → eqb a b ≡ eqb b a
-eqb-comm a b = both (eqb a b) (eqb b a) (λ e. eq-eqb b a (sym (eqb-true a b e))) (λ e. eq-eqb a b (sym (eqb-true b a e)))
 
 -- Row i is the word of the item y, or 0 past the last row.
 row-is : (rows : List ℕ) (n i x y : ℕ) → x < 64 → length rows ≡ n → (i < n → getD rows i 0 ≡ itemOf y) → has (getD rows i 0) x ≡ (ltb i n && eqb y x)
@@ -126,7 +123,7 @@ counted-roles T = refl
 
 pub counted-users : (T : Tables) → getD (counts T) userCountAt 0 ≡ length (sectionAt T userRowsAt)
 unfolding counts sections
-counted-users T = refl
+counted-users T = sym (length-map (T .users) (λ u. u .assigned))
 
 pub counted-sessions : (T : Tables) → getD (counts T) sessionCountAt 0 ≡ length (sectionAt T sessionUsersAt)
 unfolding counts sections
@@ -156,11 +153,11 @@ sessions-of-users T w =
 
 pub user-of-roles : (T : Tables) (w : ℕ) → preimageOf (sectionAt T userRowsAt) w ≡ userOfRoles T w
 unfolding sections userOfRoles reach
-user-of-roles T w = preimage-reach (T .userRows) w
+user-of-roles T w = preimage-reach (userRows T) w
 
 pub roles-of-users : (T : Tables) (w : ℕ) → imageOf (sectionAt T userRowsAt) w ≡ rolesOfUsers T w
 unfolding sections rolesOfUsers reach
-roles-of-users T w = image-reach (T .userRows) w
+roles-of-users T w = image-reach (userRows T) w
 
 pub roles-of-sessions : (T : Tables) (w : ℕ) → imageOf (sectionAt T sessionRolesAt) w ≡ rolesOfSessions T w
 unfolding sections rolesOfSessions reach

@@ -4,21 +4,20 @@ use mathlib.Core.Path.{_≡_, refl, sym, ap, ap₂, _∙_}
 use mathlib.Core.Bool.{Bool, true, false, _&&_, _||_}
 use Prim.Native.Nat.{ℕ, zero, suc, _<_}
 use native.Mathlib.Omega.{arith}
-use borrow.Author.Tests.{lt-ltb}
+use borrow.Author.Tests.{lt-ltb, eq-eqb}
 use lib.Dec.{eqb}
 use lib.ListN.{length, getD}
 use Rattle.words.specs.Words.{has, anyTo, itemOf, joinOf}
-use Rattle.words.proofs.WordsLaws.{word-ext, word-in, any-ext, has-join}
-use Rattle.tables.specs.Tables.{Tables, sessionUsers}
-use Rattle.tables.specs.Accepted.{Sound}
+use Rattle.words.proofs.WordsLaws.{word-ext, word-in, any-ext, and-both, eqb-comm, has-join}
+use Rattle.tables.specs.Tables.{Tables, isPresent, sessionUsers}
+use Rattle.tables.specs.Accepted.{Passes}
 use Rattle.tables.specs.Functions.{dominates, assigned, active, heldBy, sessionOf, isPermission, those, someIn}
 use Rattle.tables.specs.Functions.{userOfSessions, userOfRoles, rolesOfUsers, rolesOfSessions, rolesOfPermissions}
 use Rattle.tables.specs.Functions.{juniorsOfUsers, juniorsOfSessions, seniorsOfPermissions, sessionsOfUsers}
 use Rattle.tables.specs.Functions.{permissionsOfRoles, permissionsOfJuniors, objectsOfPermissions, operationsOn}
 use Rattle.functions.specs.Union.{Unites}
-use Rattle.tables.proofs.FitsLaws.{users-below}
+use Rattle.tables.proofs.LeaverLaws.{session-present, passes-gone}
 use Rattle.tables.proofs.CheckLaws.{some-item}
-use Rattle.functions.proofs.FunctionsLaws.{eqb-comm}
 
 -- Some item of a union is an item of the one or of the other.
 or-swap : (a b c d : Bool) → ((a || b) || (c || d)) ≡ ((a || c) || (b || d))
@@ -116,17 +115,20 @@ module _ (T : Tables) where
   unfolding operationsOn
   operations-on o = unites (λ a r. someIn o (λ b. anyTo 64 (λ p. isPermission T p a b && heldBy T p r)))
 
--- `user`: "of a session its user (one element)", who is in the tables.
-pub user-of-one : (T : Tables) → Sound T → (s : ℕ) → s < length (T .sessions)
-    → (userOfSessions T (itemOf s) ≡ itemOf (getD (sessionUsers T) s 0)) × (getD (sessionUsers T) s 0 < length (T .userRows))
+-- `user`: "of a session its user (one element)", who is present.
+pub user-of-one : (T : Tables) → Passes T → (s : ℕ) → s < length (T .sessions)
+    → (userOfSessions T (itemOf s) ≡ itemOf (getD (sessionUsers T) s 0)) × (isPresent (T .users) (getD (sessionUsers T) s 0) ≡ true)
 unfolding userOfSessions itemOf
-user-of-one T sound s l = (word-ext 64 (λ u. someIn (itemOf s) (λ s. sessionOf T s u)) (λ u. eqb u user) is, users-below _ _ (T .sessions) (sound .bounded .sessions) s l)
+user-of-one T passes s l = (
+  word-ext 64 (λ u. someIn (itemOf s) (λ s. sessionOf T s u)) (λ u. eqb u user) is,
+  session-present T (passes .sound .bounded) (passes-gone T passes) user s (and-both (lt-ltb s (length (T .sessions)) l) (eq-eqb user user refl)),
+)
   where
     user : ℕ
     user = getD (sessionUsers T) s 0
 
     is : (u : ℕ) → u < 64 → someIn (itemOf s) (λ s. sessionOf T s u) ≡ eqb u user
     is u k =
-        some-item s (λ s. sessionOf T s u) (omega (arith, sound .fits .sessions))
+        some-item s (λ s. sessionOf T s u) (omega (arith, passes .sound .fits .sessions))
         ∙ ap (λ (b : Bool). b && eqb user u) (lt-ltb s (length (T .sessions)) l)
         ∙ eqb-comm user u

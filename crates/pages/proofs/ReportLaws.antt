@@ -13,7 +13,7 @@ use Rattle.tables.specs.Tables.{Tables}
 use Rattle.tables.specs.Bytes.{lowestFirst}
 use Rattle.tables.specs.Reading.{taken, tablesOf, wordFrom}
 use Rattle.tables.proofs.BytesLaws.{word-lowest}
-use Rattle.tables.proofs.FitsLaws.{accepted-sound}
+use Rattle.tables.proofs.FitsLaws.{accepted-passes}
 use Rattle.syntax.specs.Bytes.{Bytes}
 use Rattle.syntax.specs.Rule.{Rule, ruleVars, ruleOf}
 use Rattle.rules.specs.Accept.{refusal}
@@ -82,7 +82,7 @@ module _ (tables : Bytes) {T : Tables} (t : tablesOf tables ≡ taken T) where
   unfolding verdictsOn fullSum breakingSum
   sums-fit [] h = (omega arith, omega arith)
   sums-fit (w ∷ ws) h =
-      let one = turn-fits T w (h 0 w refl) (accepted-sound tables t) in
+      let one = turn-fits T w (h 0 w refl) (accepted-passes tables t) in
       let rest = sums-fit ws (λ j u q. h (suc j) u q) in
       (omega (arith, one .few, rest .0), omega (arith, one .part, one .few, rest .1))
 

@@ -10,7 +10,7 @@ use lib.ListN.{length, getD, getElem?, take, drop, set, length-set}
 use lib.Seq.{take-at, take-append-le, drop-at, length-take-le, getD-set-same, getD-set-other}
 use borrow.Rule.Slice.PartMut.{midOf, postOf, putMid, take-put, same-len-mid}
 use Rattle.tables.specs.Tables.{Tables}
-use Rattle.tables.specs.Accepted.{Sound}
+use Rattle.tables.specs.Accepted.{Passes}
 use Rattle.texts.specs.Pieces.{lines}
 use Rattle.texts.specs.code.Overwritten.{Overwritten}
 use Rattle.texts.proofs.OverwrittenLaws.{written-length}
@@ -39,12 +39,12 @@ module _ (T : Tables) (w : Bytes) (ok : refusal w ≡ none) where
   unfolding verdictAlong
   turn-ruled = let (ρ, h, _) = accepted-rule w ok in rw (judged-in-turn T w ok ρ h)
 
-  pub turn-fits : Sound T → Fits (turnVerdict T w .full) (turnVerdict T w .breaking)
+  pub turn-fits : Passes T → Fits (turnVerdict T w .full) (turnVerdict T w .breaking)
   unfolding verdictAlong
-  turn-fits sound =
+  turn-fits passes =
       let (ρ, h, _) = accepted-rule w ok in
       let few = tree-few ρ (accepted-tree w ρ ok h) in
-      let sorts = accepted-within T sound w ρ ok h in
+      let sorts = accepted-within T passes w ρ ok h in
       rw (judged-in-turn T w ok ρ h) (record { part = breaking-le-full T ρ few sorts; few = full-fits T ρ few sorts })
 
 pub tallies-none : (ts : List ℕ) (page : Bytes) (fulls breakings firsts : List ℕ) → TalliesOn ts page 0 fulls breakings firsts
@@ -110,7 +110,7 @@ module _ {ts page groups fulls breakings firsts : List ℕ} {many : ℕ} (ready 
   pub all-fit : Loaded ts → AllFit many fulls breakings
   all-fit q j l =
       let is = all .of (q .tables) (q .holds) j l in
-      let fits = turn-fits (q .tables) (lineAt page j) (ready .accepted j l) (q .holds .sound) in
+      let fits = turn-fits (q .tables) (lineAt page j) (ready .accepted j l) (q .holds .passes) in
       rw is at fits
 
   pub all-rows : (T : Tables) → TablesAt ts T → Rows (verdictsOn T (lines page)) fulls breakings firsts many

@@ -51,11 +51,11 @@ module _ {p : Parsed} {starts members : List ℕ} {many : ℕ} (W : Whole p star
   sorts : (T : Tables) {ts : List ℕ} → TablesAt ts T → Within (itemsOf T (ruleVars [] tree)) (inSet T (ruleVars [] tree)) (length (ruleVars [] tree))
   sorts T H =
       let a = W .accepted tree in
-      subst (λ (σ : Choices). Within (itemsOf T σ) (inSet T σ) (length σ)) (line-part 0 (W .some-line) .vars) (accepted-within T (H .sound) (a .0) (getD (W .rules) 0 tree) (a .1) (a .2))
+      subst (λ (σ : Choices). Within (itemsOf T σ) (inSet T σ) (length σ)) (line-part 0 (W .some-line) .vars) (accepted-within T (H .passes) (a .0) (getD (W .rules) 0 tree) (a .1) (a .2))
 
   pub whole-case : {ts : List ℕ} {T : Tables} → TablesAt ts T → CaseBy ts p T tree
   whole-case {T = T} H = record {
-    world = record { fits = H .sound .fits; words = H .words; kinds = W .bound .fitted .kinds; variables = W .bound .fitted .knows };
+    world = record { fits = H .passes .sound .fits; words = H .words; kinds = W .bound .fitted .kinds; variables = W .bound .fitted .knows };
     holds = W .bound .holds;
     sorts = sorts T H;
   }

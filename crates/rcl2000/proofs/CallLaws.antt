@@ -13,13 +13,13 @@ use borrow.Author.Tests.{leb-true}
 use Rattle.answers.specs.Refusal.{numberOf}
 use Rattle.answers.specs.Answer.{Answer, refused, wrote, ifRoom, lent, reply, outputAfter}
 use Rattle.answers.specs.declared.Refusal.{Refusal}
-use Rattle.answers.proofs.AnswerLaws.{number-some, same-number, lent-wrote}
+use Rattle.answers.proofs.AnswerLaws.{number-some, number-few, same-number, lent-wrote}
 use Rattle.answers.specs.Written.{Answers}
 use Rattle.answers.specs.declared.Written.{Written}
 use Rattle.syntax.specs.Bytes.{Bytes}
 use Rattle.rcl2000.specs.code.Reply.{replyOf}
 use Rattle.rcl2000.proofs.ReplyLaws.{reply-fits, reply-is}
-use Rattle.rcl2000.specs.Calls.{Sees, Refuses, Writes, Ends, answers, refuses}
+use Rattle.rcl2000.specs.Calls.{Sees, Refuses, Writes, NotOfPages, Ends, answers, refuses}
 
 pub through : {A B C : Type 0} → A ↔ B → B ↔ C → A ↔ C
 through f g = (λ a. g .0 (f .0 a), λ c. f .1 (g .1 c))
@@ -83,10 +83,10 @@ module _ {a : Answer} {old new : Bytes} {r : ℕ} (s : Sees a old new r) where
       go (refused f) is q = absurd (omega (arith, sees-refused is .number, number-some f))
       go (wrote w) is q = (w, is)
 
-  -- "an answer or a numbered refusal", of a call that refuses by document 01's numbers
-  pub call-ends : Short a → ((e : Refusal) → lent (length old) a ≡ refused e → numberOf e ≤ 18) → Ends old new r
-  call-ends h low = go (lent (length old) a) refl
+  -- "an answer or a numbered refusal", of a call that is for no page
+  pub call-ends : Short a → ((e : Refusal) → lent (length old) a ≡ refused e → NotOfPages e) → Ends old new r
+  call-ends h other = go (lent (length old) a) refl
     where
       go : (b : Answer) → lent (length old) a ≡ b → Ends old new r
-      go (refused e) is = refuses e (number-some e) (low e is) (sees-refused is)
+      go (refused e) is = refuses e (number-some e) (number-few e) (other e is) (sees-refused is)
       go (wrote w) is = answers w (sees-wrote h is)

@@ -14,12 +14,12 @@ use Rattle.answers.specs.Refusal.{numberOf}
 use Rattle.answers.specs.Answer.{Answer, refused, wrote}
 use Rattle.answers.specs.declared.Refusal.the-variants.{NoRulesFormula}
 use Rattle.answers.proofs.AnswerLaws.{same-number}
-use Rattle.tables.specs.Tables.{Tables}
+use Rattle.tables.specs.Tables.{Tables, presentIn}
 use Rattle.tables.specs.Bytes.{lowestFirst}
-use Rattle.tables.specs.Checks.{allTo, reflexive, transitive, antisymmetric, rankSteps, failingFrom, rankStep, ranked, inReach, apart, lateChecks, firstFailing}
-use Rattle.tables.specs.Reading.{next as nextRead, refuse, front, byte, count as countRead, wordFrom, wordWithin, wordRow, markedRow, sessionRow, rows, section}
+use Rattle.tables.specs.Checks.{allTo, withdrawn, leaversGone, reflexive, transitive, antisymmetric, rankSteps, failingFrom, rankStep, ranked, inReach, apart, lateChecks, firstFailing}
+use Rattle.tables.specs.Reading.{next as nextRead, refuse, front, byte, count as countRead, wordFrom, wordWithin, wordRow, markedRow, userRow, permissionRow, sessionRow, rows, section}
 use Rattle.tables.specs.Reading.{permissions as permissionsRead, rights, collections, sections, nothingLeft, settle, whole as wholeRead, taken, tablesOf}
-use Rattle.tables.proofs.FitsLaws.{accepted-sound}
+use Rattle.tables.proofs.FitsLaws.{accepted-passes}
 use Rattle.tables.specs.Functions.{userOfSessions, userOfRoles, rolesOfUsers, rolesOfSessions, rolesOfPermissions}
 use Rattle.syntax.specs.Bytes.{Bytes, next, skip, scan, either, same}
 use Rattle.syntax.proofs.BytesLaws.{same-gives}
@@ -69,7 +69,7 @@ alike-same (wrote a) (wrote b) q = ap wrote (same-gives a b q)
 abbrev tablesT : Tables
 tablesT = record {
   roleRows = 1 ∷ 2 ∷ [];
-  userRows = 3 ∷ 1 ∷ [];
+  users = record { present = true; assigned = 3 } ∷ record { present = true; assigned = 1 } ∷ [];
   sessions = [];
   operationCount = 0;
   objectCount = 0;
@@ -80,7 +80,7 @@ tablesT = record {
 }
 
 reads-T : tablesOf bytesT ≡ taken tablesT
-unfolding nextRead refuse front byte countRead wordFrom wordWithin wordRow markedRow sessionRow rows section permissionsRead rights collections sections nothingLeft settle wholeRead tablesOf lateChecks firstFailing allTo reflexive transitive antisymmetric rankSteps failingFrom rankStep ranked inReach apart hasItem
+unfolding nextRead refuse front byte countRead wordFrom wordWithin wordRow markedRow userRow permissionRow sessionRow rows section permissionsRead rights collections sections nothingLeft settle wholeRead tablesOf lateChecks firstFailing leaversGone withdrawn allTo reflexive transitive antisymmetric rankSteps failingFrom rankStep ranked inReach apart hasItem
 reads-T = refl
 
 -- By the walk, which computes, and not by the count over all choices.
@@ -120,7 +120,7 @@ unfolding judged verdictOf tablesVerdict acceptedVerdict treeVerdict
 on-T rule order h =
     let r = none-true (refusal rule) h in
     let (ρ, t, fits) = accepted-rule rule r in
-    let v = by-walk ρ order (tree-few ρ fits) (accepted-within tablesT (accepted-sound bytesT reads-T) rule ρ r t) in
+    let v = by-walk ρ order (tree-few ρ fits) (accepted-within tablesT (accepted-passes bytesT reads-T) rule ρ r t) in
     rw (reads-T, r, t, v)
 
 -- Whether a line is right, as a test that computes.
@@ -151,7 +151,7 @@ all-right (l ∷ ls) q =
 
 -- Opening this opens all that the examples compute with.
 unfoldable everything : Unit {0}
-unfolding next skip scan either same Term≟ digitFrom namedFrom spell spellMiddle opening parting oeText aoText text bracketHeads callHeads collectionHeads heads middles known closed second inner termWithin readTerm spellCmp spellBetween digits countText testText clauseText ruleText add vars countVars testVars clauseVars ruleVars quantifiers formulaWith formula cmps betweens down readCount readSecond readTest readClause readRule readFormula whole ruleOf ruleOfFormula formulaOf kept rebuilt reduced rebuiltAnswer oneOf baseKind takes makes ofElement callKind inside oneKind othersKind asSet joined row call2Kind twoKind kind countable isMember countKinds testKinds clauseKinds ruleKinds deep treeRefusal refusal sumTo walk walkFirst firstTo variablesOf isSmall count isOnce isFree isAfter isOrder shareOf sortItems kindItems ofSort callValue call2Value opValue twoValue variableOf oneValue value compared signed countValue testTrue clauseTrue ruleTrue namesIn outcomeOf lowestFirst written answerBy hasItem wordOf anyTo countTo sizeOf allOf itemOf meetOf joinOf lessOf userOfSessions userOfRoles rolesOfUsers rolesOfSessions rolesOfPermissions
+unfolding next skip scan either same Term≟ digitFrom namedFrom spell spellMiddle opening parting oeText aoText text bracketHeads callHeads collectionHeads heads middles known closed second inner termWithin readTerm spellCmp spellBetween digits countText testText clauseText ruleText add vars countVars testVars clauseVars ruleVars quantifiers formulaWith formula cmps betweens down readCount readSecond readTest readClause readRule readFormula whole ruleOf ruleOfFormula formulaOf kept rebuilt reduced rebuiltAnswer oneOf baseKind takes makes ofElement callKind inside oneKind othersKind asSet joined row call2Kind twoKind kind countable isMember countKinds testKinds clauseKinds ruleKinds deep treeRefusal refusal sumTo walk walkFirst firstTo variablesOf isSmall count isOnce isFree isAfter isOrder shareOf presentIn sortItems kindItems ofSort callValue call2Value opValue twoValue variableOf oneValue value compared signed countValue testTrue clauseTrue ruleTrue namesIn outcomeOf lowestFirst written answerBy hasItem wordOf anyTo countTo sizeOf allOf itemOf meetOf joinOf lessOf userOfSessions userOfRoles rolesOfUsers rolesOfSessions rolesOfPermissions
 everything = tt
 
 pub examples : All table

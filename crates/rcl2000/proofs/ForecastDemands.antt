@@ -22,12 +22,12 @@ use Rattle.forecasts.proofs.ForecastLaws.{full-below, given-fits, given-ceiling
 use Rattle.rcl2000.specs.Calls.{Reduces, Judges, Ends, formulaLonger, Forecasts, ForecastRefuses, toldLength, toldCeiling, Foretold}
 use Rattle.rcl2000.proofs.CallLaws.{through, sees-wrote, refuses-exactly, writes-exactly, call-ends}
 use Rattle.rcl2000.proofs.FormulaLaws.{reduced-short, formula-answered}
-use Rattle.rcl2000.proofs.ForecastLaws.{forecast-short, forecast-refused, forecast-low, given-formula, given-foretold, written-given}
+use Rattle.rcl2000.proofs.ForecastLaws.{forecast-short, forecast-refused, forecast-other, given-formula, given-foretold, written-given}
 use Rattle.rcl2000.proofs.Demands.{reduce-refuses, judge-writes}
 
 -- DEMAND 1. "finishes with an answer or a numbered refusal; a refusal carries no result and changes no lent byte".
 pub forecast-ends : (tables rule old new : Bytes) (r : ℕ) → Forecasts tables rule old new r → Ends old new r
-forecast-ends tables rule old new r s = call-ends s (forecast-short tables rule) (λ e q. forecast-low (forecast-refused tables rule (length old) e .0 q))
+forecast-ends tables rule old new r s = call-ends s (forecast-short tables rule) (λ e q. forecast-other (forecast-refused tables rule (length old) e .0 q))
 
 -- DEMAND 2. "Refused tables and rules give document 01's numbers."
 pub forecast-refuses : (tables rule old new : Bytes) (r : ℕ) → Forecasts tables rule old new r → (e : Refusal)

@@ -7,22 +7,20 @@ use mathlib.Core.Logic.{_↔_}
 use Prim.Native.Nat.{ℕ, _≤_}
 use native.Mathlib.Omega.{arith}
 use lib.ListN.{length, drop, take-append-drop}
-use Rattle.answers.specs.Refusal.{numberOf}
 use Rattle.answers.specs.Answer.{refused, wrote, lent}
 use Rattle.answers.specs.declared.Refusal.{Refusal}
 use Rattle.answers.proofs.AnswerLaws.{lent-fits, lent-short, lent-wrote}
 use Rattle.tables.specs.Tables.{Tables}
 use Rattle.tables.specs.Reading.{rejected}
-use Rattle.tables.proofs.StopLaws.{tables-low}
 use Rattle.syntax.specs.Bytes.{Bytes}
 use Rattle.syntax.specs.Rule.{Rule, formula}
 use Rattle.rules.specs.Accept.{isNone}
-use Rattle.rules.proofs.AcceptLaws.{refused-early}
 use Rattle.formulas.specs.Formulas.{RuleOf, formulaOf}
 use Rattle.forecasts.specs.Forecast.{forecastSize, forecastBytes, forecastOf, Given, Met, badTables, badRule, good}
 use Rattle.forecasts.proofs.ForecastLaws.{tables-refused, rule-refused, met, given-wrote, given-length, told-length, told-ceiling}
-use Rattle.rcl2000.specs.Calls.{Forecasts, ForecastRefuses, forecastTables, forecastRule, forecastLonger, toldLength, toldCeiling, Foretold}
+use Rattle.rcl2000.specs.Calls.{NotOfPages, Forecasts, ForecastRefuses, forecastTables, forecastRule, forecastLonger, toldLength, toldCeiling, Foretold}
 use Rattle.rcl2000.proofs.CallLaws.{Short, lent-room, sees-wrote}
+use Rattle.rcl2000.proofs.RefusalLaws.{tables-other, rule-other}
 use Rattle.rcl2000.proofs.FormulaLaws.{short-lent, stays-refused, same-refused, never-wrote}
 
 module _ (tables rule : Bytes) where
@@ -52,10 +50,10 @@ module _ (tables rule : Bytes) where
       back (forecastRule t r) = stays-refused n (rule-refused tables rule t r)
       back (forecastLonger {T} {ρ} g l) = ap (lent n) (given-wrote g) ∙ lent-short n (forecastBytes T ρ) (omega (arith, given-length g))
 
-pub forecast-low : {tables rule : Bytes} {n : ℕ} {e : Refusal} → ForecastRefuses tables rule n e → numberOf e ≤ 18
-forecast-low {tables} {e = e} (forecastTables t) = omega (arith, tables-low tables e t)
-forecast-low {rule = rule} {e = e} (forecastRule t r) = omega (arith, refused-early rule e r .1)
-forecast-low (forecastLonger g l) = omega arith
+pub forecast-other : {tables rule : Bytes} {n : ℕ} {e : Refusal} → ForecastRefuses tables rule n e → NotOfPages e
+forecast-other {tables} (forecastTables t) q = tables-other tables t q
+forecast-other {rule = rule} (forecastRule t r) q = rule-other rule r q
+forecast-other (forecastLonger g l) q = absurd (omega arith)
 
 -- The rule's formula.
 pub given-formula : {tables rule : Bytes} {T : Tables} {ρ : Rule} → Given tables rule T ρ → RuleOf (formula ρ) rule

@@ -10,4 +10,5 @@ pub mod PageDemands
 pub mod StepDemands
 pub mod ForecastLaws
 pub mod ForecastDemands
+pub mod LeaverDemands
 pub mod Examples

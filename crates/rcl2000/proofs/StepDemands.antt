@@ -15,7 +15,9 @@ use Rattle.answers.specs.declared.Refusal.the-variants.{Rank}
 use Rattle.tables.specs.Tables.{Tables}
 use Rattle.tables.specs.Checks.{reflexive, transitive, antisymmetric, rankStep, ranked, lateChecks, firstFailing}
 use Rattle.tables.specs.Reading.{took, next, refuse, sections, nothingLeft, settle, whole, rejected, tablesOf, readingNumber}
+use Rattle.tables.specs.Leavers.{LeaverRemains}
 use Rattle.tables.proofs.CheckLaws.{clash}
+use Rattle.tables.proofs.LeaverLaws.{none-gone}
 use Rattle.tables.proofs.LoadLaws.{read-once}
 use Rattle.tables.proofs.RankLaws.{step-one, step-two, step-three, step-none}
 use Rattle.tables.proofs.StopLaws.{RankRefused, rank-refused, rank-step, rank-number, rank-other}
@@ -25,7 +27,7 @@ use Rattle.rcl2000.specs.Calls.{Judges, JudgeRefuses, tablesRefused, jud
 use Rattle.rcl2000.specs.Calls.{GivesStep, StepOf, RefusedRank, other, notReflexive, notTransitive, notAntisymmetric}
 use Rattle.rcl2000.proofs.Demands.{judge-refuses}
 
--- "All three still give 7": tables that have all their sections, and nothing behind them, are refused 7 exactly where a step fails.
+-- "All three still give 7": tables that have all their sections, nothing behind them, and nothing of a leaver, are refused 7 exactly where a step fails.
 module _ (tables : Bytes) {T : Tables} (reads : sections tables ≡ took T []) where
   abbrev rows : List ℕ
   rows = T .roleRows
@@ -39,11 +41,11 @@ module _ (tables : Bytes) {T : Tables} (reads : sections tables ≡ took T []) w
       go true true false e f g = absurd (omega (arith, step-three rows e f g))
       go true true true e f g = clash (rw (e, f, g) at h)
 
-  pub step-seven : (tablesOf tables ≡ rejected Rank) ↔ ((reflexive rows && (transitive rows && antisymmetric rows)) ≡ false)
+  pub step-seven : (LeaverRemains T → ⊥) → (tablesOf tables ≡ rejected Rank) ↔ ((reflexive rows && (transitive rows && antisymmetric rows)) ≡ false)
   unfolding tablesOf whole next nothingLeft refuse settle lateChecks firstFailing ranked
-  step-seven = (
+  step-seven none = (
     λ q. go q (reflexive rows) (transitive rows) (antisymmetric rows) refl refl refl,
-    λ h. rw (reads, ne-eqb (rankStep rows) 0 (steps-fail h)),
+    λ h. rw (reads, none-gone T none, ne-eqb (rankStep rows) 0 (steps-fail h)),
   )
     where
       go : tablesOf tables ≡ rejected Rank → (a b d : Bool) → reflexive rows ≡ a → transitive rows ≡ b → antisymmetric rows ≡ d → (a && (b && d)) ≡ false

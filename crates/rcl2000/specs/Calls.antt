@@ -12,6 +12,7 @@ use Rattle.answers.specs.declared.Refusal.{Refusal}
 use Rattle.answers.specs.declared.Refusal.the-variants.{Rank, NoRulesFormula, ShortSheet, NotAnOrder, Page}
 use Rattle.tables.specs.Tables.{Tables}
 use Rattle.tables.specs.Checks.{reflexive, transitive, antisymmetric}
+use Rattle.tables.specs.Leavers.{LeaverRemains}
 use Rattle.tables.specs.Reading.{took, sections, rejected, taken, tablesOf, rankStepOf, wordFrom}
 use Rattle.texts.specs.Pieces.{lines}
 use Rattle.syntax.specs.Bytes.{Bytes}
@@ -58,10 +59,14 @@ pub record Writes (w old new : Bytes) (r : ℕ) : Type 0 where
   pub kept : drop r new ≡ drop r old
   pub same : length new ≡ length old
 
+-- 19 is said of a page alone.
+abbrev pub NotOfPages : Refusal → Type 0
+NotOfPages e = numberOf e ≡ numberOf Page → ⊥
+
 -- "finishes with an answer or a numbered refusal"
 pub data Ends (old new : Bytes) (r : ℕ) : Type 0 where
   answers : (w : Bytes) → Writes w old new r → Ends old new r
-  refuses : (e : Refusal) → 1 ≤ numberOf e → numberOf e ≤ 18 → Refuses e old new r → Ends old new r
+  refuses : (e : Refusal) → 1 ≤ numberOf e → numberOf e ≤ 20 → NotOfPages e → Refuses e old new r → Ends old new r
 
 -- Where a call refuses, and by which refusal, n bytes of output lent.
 
@@ -111,7 +116,7 @@ pub record RefusesPage (e : Refusal) (p : ℕ) (old new : Bytes) (r : ℕ) : Typ
 -- "finishes with an answer or a numbered refusal"
 pub data PageEnds (old new : Bytes) (r : ℕ) : Type 0 where
   answersPage : (w : Bytes) → Writes w old new r → PageEnds old new r
-  refusesPage : (e : Refusal) (p : ℕ) → 1 ≤ numberOf e → numberOf e ≤ 19 → RefusesPage e p old new r → PageEnds old new r
+  refusesPage : (e : Refusal) (p : ℕ) → 1 ≤ numberOf e → numberOf e ≤ 20 → RefusesPage e p old new r → PageEnds old new r
 
 -- A page of n lines takes as many bytes.
 abbrev pub pageSize : ℕ → ℕ
@@ -182,3 +187,9 @@ pub record Foretold (T : Tables) (ρ : Rule) (old new : Bytes) : Type 0 where
   pub most : toldCeiling new ≡ ceilingOf T (ruleVars [] ρ)
   pub kept : drop forecastSize new ≡ drop forecastSize old
   pub same : length new ≡ length old
+
+-- DOCUMENT 02, N6. Where 20 is due, "after 10 and before 7": the bytes have all sections and nothing behind them, and something of a leaver remains.
+pub record LeftBehind (tables : Bytes) : Type 0 where
+  pub has : Tables
+  pub reads : sections tables ≡ took has []
+  pub remains : LeaverRemains has

@@ -10,15 +10,15 @@ use native.Mathlib.Omega.{arith}
 use lib.Dec.{eqb, ltb, leb}
 use lib.ListN.{length, getD, take, drop, length-append, length-drop, take-append-drop}
 use lib.Seq.{take-at, drop-at, drop-cons, length-take-le}
-use borrow.Author.Tests.{ltb-false, le-ltb, lt-leb, eq-eqb, eqb-false}
+use borrow.Author.Tests.{ltb-false, le-ltb, lt-leb, eq-eqb, ne-eqb, eqb-false}
 use Rattle.answers.specs.declared.Refusal.the-variants.{CutShort}
-use Rattle.tables.specs.Tables.{Tables}
-use Rattle.tables.specs.Bytes.{Bytes, AreBytes, wordFrom, lowestFirst}
+use Rattle.tables.specs.Tables.{User, Tables, userRows}
+use Rattle.tables.specs.Bytes.{Bytes, AreBytes, wordFrom, lowestFirst, entered, left}
 use Rattle.tables.specs.Accepted.{Below, Known, Every, Sound, Passes}
-use Rattle.tables.specs.Reading.{Taken, Reader, stop, took, next, refuse, front, byte, count, wordWithin, wordRow, markedRow, sessionRow}
+use Rattle.tables.specs.Reading.{Taken, Reader, stop, took, next, refuse, front, byte, count, wordWithin, wordRow, MarkedRow, markedRow, userRow, permissionRow, sessionRow}
 use Rattle.tables.specs.Reading.{rows, section, permissions, Rights, rights, Collections, collections, sections, nothingLeft, settle, whole}
 use Rattle.tables.specs.Reading.{assembled, taken, tablesOf}
-use Rattle.tables.specs.Encode.{wordBytes, markedBytes, sessionBytes, joined, counted, sectionBytes, encode}
+use Rattle.tables.specs.Encode.{wordBytes, markOf, userBytes, permissionBytes, sessionBytes, joined, counted, sectionBytes, encode}
 use Rattle.tables.proofs.BytesLaws.{lowest-length, word-lowest, lowest-word, bytes-behind, bytes-before}
 use Rattle.tables.proofs.FitsLaws.{next-case, refuse-case, count-few, rows-are, sections-sound, accepted-read, accepted-passes}
 use Rattle.tables.proofs.SectionsLaws.{product-few}
@@ -95,22 +95,93 @@ nine s h {b} {t} q =
       bytes = bytes-before (drop 1 b) t (bytes-behind (getD b 0 0 ∷ []) (drop 1 b ++ t) (rw w at h));
     }
 
-marked-coded : (n : ℕ) → n ≤ 64 → Coded (λ w. w < 2 ^ n) markedBytes (markedRow n)
-unfolding markedRow markedBytes next refuse
-marked-coded n few =
+-- A mark and a word: what is read back, and which bytes and marks were read.
+abbrev markedBytes : ℕ → ℕ → Bytes
+markedBytes m w = m ∷ lowestFirst 8 w
+
+record Marking (highest : ℕ) (s t : Bytes) (m : MarkedRow) : Type 0 where
+  whole : s ≡ markedBytes (m .mark) (m .word) ++ t
+  some : m .mark ≡ 0 → ⊥
+  few : m .mark ≤ highest
+
+module _ (highest n : ℕ) where
+  marked-decodes : (m w : ℕ) → n ≤ 64 → (m ≡ 0 → ⊥) → m ≤ highest → w < 2 ^ n → (r : Bytes)
+      → markedRow highest n (markedBytes m w ++ r) ≡ took (record { mark = m; word = w }) r
+  unfolding markedRow next refuse
+  marked-decodes m w few z l h r =
+      rw (
+        front-at (markedBytes m w) r 9 (ap suc (lowest-length 8 w)),
+        ne-eqb m 0 z,
+        le-ltb highest m l,
+        within-decodes n few w h r,
+      )
+
+  marked-encodes : (s : Bytes) → AreBytes s → {m : MarkedRow} {t : Bytes} → markedRow highest n s ≡ took m t → Marking highest s t m
+  unfolding markedRow
+  marked-encodes s h {m} {t} q =
+      next-case (front 9 s) _ q λ b u e k.
+      refuse-case (eqb (getD b 0 0) 0) _ u _ k λ c₀ k₀.
+      refuse-case (ltb highest (getD b 0 0)) _ u _ k₀ λ c₁ k₁.
+      next-case (wordWithin n (drop 1 b) u) _ k₁ λ w v f l.
+      let p = nine s h e in
+      let d : record { mark = getD b 0 0; word = w } ≡ m = cc in
+      let z : v ≡ t = cc in
+      rw (← d, ← z)
+      (record {
+        whole = p .split ∙ ap (λ (x : Bytes). getD b 0 0 ∷ x) (within-encodes n (drop 1 b) u (p .eight) (p .bytes) f);
+        some = eqb-false (getD b 0 0) 0 c₀;
+        few = ltb-false highest (getD b 0 0) c₁;
+      })
+
+permission-coded : (n : ℕ) → n ≤ 64 → Coded (λ w. w < 2 ^ n) permissionBytes (permissionRow n)
+unfolding permissionRow permissionBytes next
+permission-coded n few =
     record {
-      decodes = λ w h r. rw (front-at (1 ∷ lowestFirst 8 w) r 9 (ap suc (lowest-length 8 w))) (within-decodes n few w h r);
-      encodes = λ s h w t q. next-case (front 9 s) _ q λ b u e k.
-          refuse-case (eqb (getD b 0 0) 0) _ u _ k λ c₀ k₀.
-          refuse-case (ltb 1 (getD b 0 0)) _ u _ k₀ λ c₁ k₁.
-          let p = nine s h e in
-          let one : getD b 0 0 ≡ 1 = entered (getD b 0 0) (eqb-false (getD b 0 0) 0 c₀) (ltb-false 1 (getD b 0 0) c₁) in
-          p .split ∙ ap₂ (λ (m : ℕ) (x : Bytes). m ∷ x) one (within-encodes n (drop 1 b) u (p .eight) (p .bytes) k₁);
+      decodes = λ w h r. rw (marked-decodes entered n entered w few (λ z. absurd (omega arith)) (omega arith) h r);
+      encodes = λ s h w t q. next-case (markedRow entered n s) _ q λ m u e k.
+          let p = marked-encodes entered n s h e in
+          let is : m .word ≡ w = cc in
+          let z : u ≡ t = cc in
+          rw (← is, ← z) (p .whole ∙ ap (λ (x : ℕ). x ∷ (lowestFirst 8 (m .word) ++ u)) (only (m .mark) (p .some) (p .few)));
     }
   where
-    entered : (m : ℕ) → (m ≡ 0 → ⊥) → m ≤ 1 → m ≡ 1
-    entered zero z l = absurd (z refl)
-    entered (suc m) z l = omega arith
+    only : (m : ℕ) → (m ≡ 0 → ⊥) → m ≤ entered → m ≡ entered
+    only zero z l = absurd (z refl)
+    only (suc m) z l = omega arith
+
+-- Of a user the mark says whether present or left, and nothing else.
+mark-present : (b : Bool) → eqb (markOf b) entered ≡ b
+mark-present true = refl
+mark-present false = refl
+
+mark-some : (b : Bool) → markOf b ≡ 0 → ⊥
+mark-some true z = absurd (omega arith)
+mark-some false z = absurd (omega arith)
+
+mark-few : (b : Bool) → markOf b ≤ left
+mark-few true = omega arith
+mark-few false = omega arith
+
+mark-told : (m : ℕ) → (m ≡ 0 → ⊥) → m ≤ left → m ≡ markOf (eqb m entered)
+mark-told zero z l = absurd (z refl)
+mark-told (suc zero) z l = refl
+mark-told (suc (suc m)) z l = let q : m ≡ 0 = omega arith in rw q
+
+user-coded : (n : ℕ) → n ≤ 64 → Coded (λ u. u .assigned < 2 ^ n) userBytes (userRow n)
+unfolding userRow userBytes next
+user-coded n few =
+    record {
+      decodes = λ a h r.
+          rw (
+            marked-decodes left n (markOf (a .present)) (a .assigned) few (mark-some (a .present)) (mark-few (a .present)) h r,
+            mark-present (a .present),
+          );
+      encodes = λ s h a t q. next-case (markedRow left n s) _ q λ m u e k.
+          let p = marked-encodes left n s h e in
+          let is : record { present = eqb (m .mark) entered; assigned = m .word } ≡ a = cc in
+          let z : u ≡ t = cc in
+          rw (← is, ← z) (p .whole ∙ ap (λ (x : ℕ). x ∷ (lowestFirst 8 (m .word) ++ u)) (mark-told (m .mark) (p .some) (p .few)));
+    }
 
 session-coded : (users roles : ℕ) → roles ≤ 64 → Coded (Known users roles) sessionBytes (sessionRow users roles)
 unfolding sessionRow sessionBytes next refuse
@@ -212,17 +283,17 @@ section-coded P bytes row h =
 
 -- Sections 4 to 6.
 permissions-decodes : (product roles : ℕ) → roles ≤ 64 → (xs : List ℕ) → length xs ≡ product → Every (λ w. w < 2 ^ roles) xs → (r : Bytes)
-    → permissions product roles (counted markedBytes xs ++ r) ≡ took xs r
+    → permissions product roles (counted permissionBytes xs ++ r) ≡ took xs r
 unfolding permissions counted next refuse
 permissions-decodes product roles few xs l e r =
     rw (
-      byte-decodes (length xs) (joined (map markedBytes xs) ++ r),
+      byte-decodes (length xs) (joined (map permissionBytes xs) ++ r),
       eq-eqb (length xs) product l,
-      rows-decodes (λ w. w < 2 ^ roles) markedBytes (markedRow roles) (marked-coded roles few) xs e r,
+      rows-decodes (λ w. w < 2 ^ roles) permissionBytes (permissionRow roles) (permission-coded roles few) xs e r,
     )
 
 permissions-encodes : (product roles : ℕ) → roles ≤ 64 → (s : Bytes) → AreBytes s → {xs : List ℕ} {t : Bytes} → permissions product roles s ≡ took xs t
-    → s ≡ counted markedBytes xs ++ t
+    → s ≡ counted permissionBytes xs ++ t
 unfolding permissions counted
 permissions-encodes product roles few s b {xs} {t} q =
     next-case (byte s) _ q
@@ -230,17 +301,17 @@ permissions-encodes product roles few s b {xs} {t} q =
     λ c g.
     let f : s ≡ n ∷ u = byte-encodes s e in
     let P : ℕ → Type 0 = λ w. w < 2 ^ roles in
-    let m = marked-coded roles few in
-    let l : length xs ≡ n = rows-count P markedBytes (markedRow roles) m n u g in
-    f ∙ ap₂ (λ (k : ℕ) (x : Bytes). k ∷ x) (sym l) (rows-encodes P markedBytes (markedRow roles) m n u (bytes-behind (n ∷ []) u (rw f at b)) g)
+    let m = permission-coded roles few in
+    let l : length xs ≡ n = rows-count P permissionBytes (permissionRow roles) m n u g in
+    f ∙ ap₂ (λ (k : ℕ) (x : Bytes). k ∷ x) (sym l) (rows-encodes P permissionBytes (permissionRow roles) m n u (bytes-behind (n ∷ []) u (rw f at b)) g)
 
 module _ (roles : ℕ) (few : roles ≤ 64) where
   rights-decodes : (q : Rights) → q .operationCount ≤ 8 → q .objectCount ≤ 8 → length (q .permissionRows) ≡ q .operationCount * q .objectCount
       → Every (λ w. w < 2 ^ roles) (q .permissionRows) → (r : Bytes)
-      → rights roles (q .operationCount ∷ (q .objectCount ∷ (counted markedBytes (q .permissionRows) ++ r))) ≡ took q r
+      → rights roles (q .operationCount ∷ (q .objectCount ∷ (counted permissionBytes (q .permissionRows) ++ r))) ≡ took q r
   unfolding rights next
   rights-decodes q la lb l e r =
-      let ps = counted markedBytes (q .permissionRows) ++ r in
+      let ps = counted permissionBytes (q .permissionRows) ++ r in
       rw (
         count-decodes 8 (q .operationCount) (q .objectCount ∷ ps) la,
         count-decodes 8 (q .objectCount) ps lb,
@@ -248,7 +319,7 @@ module _ (roles : ℕ) (few : roles ≤ 64) where
       )
 
   rights-encodes : (s : Bytes) → AreBytes s → {q : Rights} {t : Bytes} → rights roles s ≡ took q t
-      → s ≡ q .operationCount ∷ (q .objectCount ∷ (counted markedBytes (q .permissionRows) ++ t))
+      → s ≡ q .operationCount ∷ (q .objectCount ∷ (counted permissionBytes (q .permissionRows) ++ t))
   unfolding rights
   rights-encodes s h {q} {t} e =
       next-case (count 8 s) _ e
@@ -306,6 +377,11 @@ unfolding Below
 below-every n [] h = tt
 below-every n (w ∷ ws) h = (h 0, below-every n ws (λ i. h (suc i)))
 
+pub below-assigned : (n : ℕ) (us : List User) → Below n (map (λ u. u .assigned) us) → Every (λ u. u .assigned < 2 ^ n) us
+unfolding Below
+below-assigned n [] h = tt
+below-assigned n (u ∷ us) h = (h 0, below-assigned n us (λ i. h (suc i)))
+
 -- The nine sections.
 module _ {A B : Type 0} {P : A → Type 0} {bytes : A → Bytes} {m : Reader A} (h : Coded P bytes m) where
   then-decodes : (a : A) → P a → (r : Bytes) (f : A → Reader B) {x : Taken B} → f a r ≡ x → next (m (bytes a ++ r)) f ≡ x
@@ -318,13 +394,13 @@ sections-decodes T sound =
     let f = sound .fits in
     let b = sound .bounded in
     let R = length (T .roleRows) in
-    let U = length (T .userRows) in
+    let U = length (T .users) in
     let held : length (T .permissionRows) ≤ 64 = rw (f .permissions) (product-few (f .operations) (f .objects)) in
     let q : Rights = record { operationCount = T .operationCount; objectCount = T .objectCount; permissionRows = T .permissionRows } in
     let c : Collections = record { cr = T .cr; cu = T .cu; cp = T .cp } in
     then-decodes (section-coded (λ n w. w < 2 ^ n) wordBytes (λ n. wordRow n) word-coded) (T .roleRows) (f .roles, below-every R (T .roleRows) (b .roles)) _ _
-    (then-decodes (section-coded (λ _ w. w < 2 ^ R) markedBytes (λ _. markedRow R) (λ _ _. marked-coded R (f .roles))) (T .userRows)
-    (f .users, below-every R (T .userRows) (b .users)) _ _
+    (then-decodes (section-coded (λ _ u. u .assigned < 2 ^ R) userBytes (λ _. userRow R) (λ _ _. user-coded R (f .roles))) (T .users)
+    (f .users, below-assigned R (T .users) (b .users)) _ _
     (then-decodes (section-coded (λ _. Known U R) sessionBytes (λ _. sessionRow U R) (λ _ _. session-coded U R (f .roles))) (T .sessions)
     (f .sessions, b .sessions) _ _
     (rw (
@@ -337,7 +413,7 @@ pub sections-encodes : (s : Bytes) → AreBytes s → {T : Tables} → sections 
 unfolding sections encode sectionBytes joined
 sections-encodes s h {T} e =
     next-case (section (λ n. wordRow n) s) _ e
-    λ rs s₁ e₁ k₁. next-case (section (λ _. markedRow (length rs)) s₁) _ k₁
+    λ rs s₁ e₁ k₁. next-case (section (λ _. userRow (length rs)) s₁) _ k₁
     λ us s₂ e₂ k₂. next-case (section (λ _. sessionRow (length us) (length rs)) s₂) _ k₂
     λ ss s₃ e₃ k₃. next-case (rights (length rs) s₃) _ k₃
     λ q s₄ e₄ k₄. next-case (collections (length rs) (length us) (length (q .permissionRows)) s₄) _ k₄
@@ -351,12 +427,12 @@ sections-encodes s h {T} e =
     let U = length us in
     let f₁ = section-coded (λ n w. w < 2 ^ n) wordBytes (λ n. wordRow n) word-coded .encodes s h rs s₁ e₁ in
     let h₁ = bytes-behind (counted wordBytes rs) s₁ (rw f₁ at h) in
-    let f₂ = section-coded (λ _ w. w < 2 ^ R) markedBytes (λ _. markedRow R) (λ _ _. marked-coded R (fits .roles)) .encodes s₁ h₁ us s₂ e₂ in
-    let h₂ = bytes-behind (counted markedBytes us) s₂ (rw f₂ at h₁) in
+    let f₂ = section-coded (λ _ u. u .assigned < 2 ^ R) userBytes (λ _. userRow R) (λ _ _. user-coded R (fits .roles)) .encodes s₁ h₁ us s₂ e₂ in
+    let h₂ = bytes-behind (counted userBytes us) s₂ (rw f₂ at h₁) in
     let f₃ = section-coded (λ _. Known U R) sessionBytes (λ _. sessionRow U R) (λ _ _. session-coded U R (fits .roles)) .encodes s₂ h₂ ss s₃ e₃ in
     let h₃ = bytes-behind (counted sessionBytes ss) s₃ (rw f₃ at h₂) in
     let f₄ = rights-encodes R (fits .roles) s₃ h₃ e₄ in
-    let h₄ = bytes-behind (q .operationCount ∷ q .objectCount ∷ counted markedBytes (q .permissionRows)) s₄ (rw f₄ at h₃) in
+    let h₄ = bytes-behind (q .operationCount ∷ q .objectCount ∷ counted permissionBytes (q .permissionRows)) s₄ (rw f₄ at h₃) in
     let f₅ = collections-encodes R U (length (q .permissionRows)) (fits .roles) (fits .users) held s₄ h₄ e₅ in
     rw (← d) (rw none at (rw f₅ at (rw f₄ at (rw f₃ at (rw f₂ at f₁)))))
 

@@ -1,18 +1,19 @@
 -- What encoded tables are: bytes, and as many as the counts say.
 -- Assumes nothing.
 use mathlib.Core.Path.{_≡_, ap}
+use mathlib.Core.Bool.{Bool, true, false}
 use mathlib.Core.List.{List, [], _∷_, map}
 use Prim.Native.Nat.{ℕ, suc, _+_, _*_, _^_, _≤_, _<_}
 use native.Mathlib.Nat.{mul-suc}
 use native.Mathlib.Omega.{arith}
 use lib.ListN.{length, length-append}
-use Rattle.tables.specs.Tables.{Session, Tables}
+use Rattle.tables.specs.Tables.{User, Session, Tables}
 use Rattle.tables.specs.Bytes.{Bytes, AreBytes, lowestFirst}
 use Rattle.tables.specs.Accepted.{Known, Every, Sound}
-use Rattle.tables.specs.Encode.{wordBytes, markedBytes, sessionBytes, joined, counted, sectionBytes, encode, bytesOf}
+use Rattle.tables.specs.Encode.{wordBytes, markOf, userBytes, permissionBytes, sessionBytes, joined, counted, sectionBytes, encode, bytesOf}
 use Rattle.tables.proofs.SectionsLaws.{product-few}
 use Rattle.tables.proofs.BytesLaws.{lowest-length, lowest-bytes, bytes-cons, bytes-append}
-use Rattle.tables.proofs.EncodeLaws.{below-every}
+use Rattle.tables.proofs.EncodeLaws.{below-every, below-assigned}
 
 -- Rows of k bytes each, after their count.
 module _ {A : Type 0} (k : ℕ) (row : A → Bytes) (h : (x : A) → length (row x) ≡ k) where
@@ -29,9 +30,13 @@ words-length : (ws : List ℕ) → length (counted wordBytes ws) ≡ 1 + 8 * len
 unfolding wordBytes
 words-length ws = counted-length 8 wordBytes (λ w. lowest-length 8 w) ws
 
-marked-length : (ws : List ℕ) → length (counted markedBytes ws) ≡ 1 + 9 * length ws
-unfolding markedBytes
-marked-length ws = counted-length 9 markedBytes (λ w. ap suc (lowest-length 8 w)) ws
+users-length : (us : List User) → length (counted userBytes us) ≡ 1 + 9 * length us
+unfolding userBytes
+users-length us = counted-length 9 userBytes (λ u. ap suc (lowest-length 8 (u .assigned))) us
+
+permissions-length : (ws : List ℕ) → length (counted permissionBytes ws) ≡ 1 + 9 * length ws
+unfolding permissionBytes
+permissions-length ws = counted-length 9 permissionBytes (λ w. ap suc (lowest-length 8 w)) ws
 
 sessions-length : (ss : List Session) → length (counted sessionBytes ss) ≡ 1 + 9 * length ss
 unfolding sessionBytes
@@ -49,9 +54,9 @@ encode-length T =
     (omega (
       arith,
       words-length (T .roleRows),
-      marked-length (T .userRows),
+      users-length (T .users),
       sessions-length (T .sessions),
-      marked-length (T .permissionRows),
+      permissions-length (T .permissionRows),
       words-length (T .cr),
       words-length (T .cu),
       words-length (T .cp),
@@ -72,9 +77,19 @@ words-bytes : (n : ℕ) (ws : List ℕ) → length ws ≤ 64 → Every (λ w. w 
 unfolding wordBytes
 words-bytes n ws l e = counted-bytes (λ w. w < 2 ^ n) wordBytes (λ w _. lowest-bytes 8 w) ws l e
 
-marked-bytes : (n : ℕ) (ws : List ℕ) → length ws ≤ 64 → Every (λ w. w < 2 ^ n) ws → AreBytes (counted markedBytes ws)
-unfolding markedBytes
-marked-bytes n ws l e = counted-bytes (λ w. w < 2 ^ n) markedBytes (λ w _. bytes-cons 1 (lowestFirst 8 w) (omega arith) (lowest-bytes 8 w)) ws l e
+mark-byte : (b : Bool) → markOf b < 256
+mark-byte true = omega arith
+mark-byte false = omega arith
+
+users-bytes : (n : ℕ) (us : List User) → length us ≤ 64 → Every (λ u. u .assigned < 2 ^ n) us → AreBytes (counted userBytes us)
+unfolding userBytes
+users-bytes n us l e =
+    counted-bytes (λ u. u .assigned < 2 ^ n) userBytes
+    (λ u _. bytes-cons (markOf (u .present)) (lowestFirst 8 (u .assigned)) (mark-byte (u .present)) (lowest-bytes 8 (u .assigned))) us l e
+
+permissions-bytes : (n : ℕ) (ws : List ℕ) → length ws ≤ 64 → Every (λ w. w < 2 ^ n) ws → AreBytes (counted permissionBytes ws)
+unfolding permissionBytes
+permissions-bytes n ws l e = counted-bytes (λ w. w < 2 ^ n) permissionBytes (λ w _. bytes-cons 1 (lowestFirst 8 w) (omega arith) (lowest-bytes 8 w)) ws l e
 
 sessions-bytes : (users roles : ℕ) → users ≤ 64 → (ss : List Session) → length ss ≤ 64 → Every (Known users roles) ss → AreBytes (counted sessionBytes ss)
 unfolding sessionBytes
@@ -89,15 +104,15 @@ encode-bytes T sound =
     let f = sound .fits in
     let b = sound .bounded in
     let R = length (T .roleRows) in
-    let U = length (T .userRows) in
+    let U = length (T .users) in
     let held : length (T .permissionRows) ≤ 64 = rw (f .permissions) (product-few (f .operations) (f .objects)) in
     bytes-append (counted wordBytes (T .roleRows)) _ (words-bytes R (T .roleRows) (f .roles) (below-every R (T .roleRows) (b .roles)))
-    (bytes-append (counted markedBytes (T .userRows)) _ (marked-bytes R (T .userRows) (f .users) (below-every R (T .userRows) (b .users)))
+    (bytes-append (counted userBytes (T .users)) _ (users-bytes R (T .users) (f .users) (below-assigned R (T .users) (b .users)))
     (bytes-append (counted sessionBytes (T .sessions)) _ (sessions-bytes U R (f .users) (T .sessions) (f .sessions) (b .sessions))
     (bytes-cons (T .operationCount) _ (omega (arith, f .operations))
     (bytes-cons (T .objectCount) _ (omega (arith, f .objects))
-    (bytes-append (counted markedBytes (T .permissionRows)) _
-    (marked-bytes R (T .permissionRows) held (below-every R (T .permissionRows) (b .permissions)))
+    (bytes-append (counted permissionBytes (T .permissionRows)) _
+    (permissions-bytes R (T .permissionRows) held (below-every R (T .permissionRows) (b .permissions)))
     (bytes-append (counted wordBytes (T .cr)) _ (words-bytes R (T .cr) (f .crs) (below-every R (T .cr) (b .crs)))
     (bytes-append (counted wordBytes (T .cu)) _ (words-bytes U (T .cu) (f .cus) (below-every U (T .cu) (b .cus)))
     (bytes-append (counted wordBytes (T .cp)) [] (words-bytes (length (T .permissionRows)) (T .cp) (f .cps) (below-every (length (T .permissionRows)) (T .cp) (b .cps)))

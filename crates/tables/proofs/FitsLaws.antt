@@ -11,14 +11,14 @@ use lib.Pow.{pow-pos}
 use borrow.Author.Tests.{ltb-false, leb-false, eqb-true, not-false}
 use Rattle.answers.specs.declared.Refusal.{Refusal}
 use Rattle.answers.specs.declared.Refusal.the-variants.{NoSuchItem}
-use Rattle.tables.specs.Tables.{Session, Tables}
+use Rattle.tables.specs.Tables.{User, Session, Tables}
 use Rattle.tables.specs.declared.Outcome.{Outcome}
 use Rattle.tables.specs.declared.Outcome.the-variants.{Refused, Accepted}
 use Rattle.tables.specs.Checks.{late}
 use Rattle.tables.specs.Accepted.{Below, Known, Every, Sound, Passes}
 use Rattle.tables.specs.Reading.{Bytes, Taken, Reader, stop, took, next, refuse, front, byte, count, wordFrom, wordWithin}
-use Rattle.tables.specs.Reading.{wordRow, markedRow, sessionRow, rows, section, permissions, Rights, rights, Collections, collections}
-use Rattle.tables.specs.Reading.{sections, nothingLeft, settle, whole, taken, readingOf, tablesOf, assembled}
+use Rattle.tables.specs.Reading.{wordRow, MarkedRow, markedRow, userRow, permissionRow, sessionRow, rows, section, permissions, Rights, rights, Collections, collections}
+use Rattle.tables.specs.Reading.{sections, nothingLeft, settle, whole, taken, readingOf, tablesOf, assembled, entered, left}
 
 -- Where something was taken, all that was read on the way was.
 module _ {A B : Type 0} {C : Type 0} where
@@ -58,13 +58,32 @@ word-below : (n : ℕ) (s : Bytes) {w : ℕ} {t : Bytes} → wordRow n s ≡ too
 unfolding wordRow
 word-below n s q = next-case (front 8 s) _ q λ b u e h. within-below n b u h
 
-marked-below : (n : ℕ) (s : Bytes) {w : ℕ} {t : Bytes} → markedRow n s ≡ took w t → w < 2 ^ n
+marked-below : (highest n : ℕ) (s : Bytes) {m : MarkedRow} {t : Bytes} → markedRow highest n s ≡ took m t → m .word < 2 ^ n
 unfolding markedRow
-marked-below n s q =
+marked-below highest n s {m} q =
     next-case (front 9 s) _ q
     λ b u e h. refuse-case _ _ u _ h
     λ c k. refuse-case _ _ u _ k
-    λ d l. within-below n _ u l
+    λ d l. next-case (wordWithin n _ u) _ l
+    λ w v f o.
+    let is : record { mark = getD b 0 0; word = w } ≡ m = cc in
+    rw (← is) (within-below n _ u f)
+
+user-below : (n : ℕ) (s : Bytes) {a : User} {t : Bytes} → userRow n s ≡ took a t → a .assigned < 2 ^ n
+unfolding userRow
+user-below n s {a} q =
+    next-case (markedRow left n s) _ q
+    λ m u e h.
+    let is : record { present = eqb (m .mark) entered; assigned = m .word } ≡ a = cc in
+    rw (← is) (marked-below left n s e)
+
+permission-below : (n : ℕ) (s : Bytes) {w : ℕ} {t : Bytes} → permissionRow n s ≡ took w t → w < 2 ^ n
+unfolding permissionRow
+permission-below n s {w} q =
+    next-case (markedRow entered n s) _ q
+    λ m u e h.
+    let is : m .word ≡ w = cc in
+    rw is at (marked-below entered n s e)
 
 session-known : (users roles : ℕ) (s : Bytes) {a : Session} {t : Bytes} → sessionRow users roles s ≡ took a t → Known users roles a
 unfolding sessionRow
@@ -114,6 +133,13 @@ every-below n [] e i = pow-pos n
 every-below n (x ∷ xs) e zero = e .0
 every-below n (x ∷ xs) e (suc i) = every-below n xs (e .1) i
 
+-- The users' assigned roles.
+pub assigned-below : (n : ℕ) (us : List User) → Every (λ u. u .assigned < 2 ^ n) us → Below n (map (λ u. u .assigned) us)
+unfolding Below
+assigned-below n [] e i = pow-pos n
+assigned-below n (u ∷ us) e zero = e .0
+assigned-below n (u ∷ us) e (suc i) = assigned-below n us (e .1) i
+
 -- The sessions' active roles, and their users.
 pub active-below : (users roles : ℕ) (ss : List Session) → Every (Known users roles) ss → Below roles (map (λ s. s .active) ss)
 unfolding Below
@@ -143,7 +169,7 @@ rights-fit roles s {q} {t} e =
     λ ps w ep m. next-case (byte v) _ ep
     λ n x en o. refuse-case (not (eqb n (a * b))) _ x _ o
     λ c g.
-    let r = rows-are (λ y. y < 2 ^ roles) (markedRow roles) (λ z y y′ h. marked-below roles z h) n x g in
+    let r = rows-are (λ y. y < 2 ^ roles) (permissionRow roles) (λ z y y′ h. permission-below roles z h) n x g in
     let d : record { operationCount = a; objectCount = b; permissionRows = ps } ≡ q = cc in
     rw (← d)
     (record {
@@ -189,13 +215,13 @@ pub sections-sound : (s : Bytes) {T : Tables} {t : Bytes} → sections s ≡ too
 unfolding sections
 sections-sound s {T} {t} e =
     next-case (section (λ n. wordRow n) s) _ e
-    λ rs s₁ e₁ k₁. next-case (section (λ _. markedRow (length rs)) s₁) _ k₁
+    λ rs s₁ e₁ k₁. next-case (section (λ _. userRow (length rs)) s₁) _ k₁
     λ us s₂ e₂ k₂. next-case (section (λ _. sessionRow (length us) (length rs)) s₂) _ k₂
     λ ss s₃ e₃ k₃. next-case (rights (length rs) s₃) _ k₃
     λ q s₄ e₄ k₄. next-case (collections (length rs) (length us) (length (q .permissionRows)) s₄) _ k₄
     λ c s₅ e₅ k₅.
     let r = section-are (λ n w. w < 2 ^ n) (λ n. wordRow n) (λ n z y y′ h. word-below n z h) s e₁ in
-    let u = section-are (λ _ w. w < 2 ^ length rs) (λ _. markedRow (length rs)) (λ n z y y′ h. marked-below (length rs) z h) s₁ e₂ in
+    let u = section-are (λ _ u. u .assigned < 2 ^ length rs) (λ _. userRow (length rs)) (λ n z y y′ h. user-below (length rs) z h) s₁ e₂ in
     let o = section-are (λ _. Known (length us) (length rs)) (λ _. sessionRow (length us) (length rs)) (λ n z y y′ h. session-known (length us) (length rs) z h) s₂ e₃ in
     let g = rights-fit (length rs) s₃ e₄ in
     let f = collections-fit (length rs) (length us) (length (q .permissionRows)) s₄ e₅ in
@@ -215,7 +241,7 @@ sections-sound s {T} {t} e =
       };
       bounded = record {
         roles = every-below (length rs) rs (r .every);
-        users = every-below (length rs) us (u .every);
+        users = assigned-below (length rs) us (u .every);
         sessions = o .every;
         permissions = g .below;
         crs = f .crBelow;

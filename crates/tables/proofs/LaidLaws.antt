@@ -7,11 +7,11 @@ use native.Mathlib.Omega.{arith}
 use lib.ListN.{length, getD, set, length-set, length-append, length-map, replicate}
 use lib.Seq.{set-append-left, set-getD, set-set, getD-set-same}
 use Rattle.words.specs.Words.{itemOf}
-use Rattle.tables.specs.Tables.{Session, Tables}
+use Rattle.tables.specs.Tables.{User, Session, Tables, userRows, presentIn, presentUsers}
 use Rattle.tables.specs.Accepted.{Fits}
 use Rattle.tables.specs.Flat.{wholeLength, room, padded, tabulate, counts, objectRows, operationRows, sections, laid, flat}
 use Rattle.tables.specs.Reading.{Rights, Collections}
-use Rattle.tables.specs.code.Reads.{put, putSessions, withCount, withSection, withSessions, withNames, withRights, withCollections, Filled}
+use Rattle.tables.specs.code.Reads.{put, putUsers, putSessions, withCount, withSection, withUsers, withSessions, withNames, withRights, withCollections, Filled}
 use Rattle.tables.proofs.FlatLaws.{length-padded, length-tabulate}
 use Rattle.tables.proofs.SectionsLaws.{product-few}
 
@@ -78,24 +78,35 @@ section-laid cs ss k xs l h q m = rw (count-laid cs ss (length xs) l) (rows-laid
 abbrev ten : (a b c d e f g h i j : List ℕ) → List (List ℕ)
 ten a b c d e f g h i j = a ∷ b ∷ c ∷ d ∷ e ∷ f ∷ g ∷ h ∷ i ∷ j ∷ []
 
-module _ (x y : ℕ) (r u : List ℕ) where
+users-laid : (x : ℕ) (r : List ℕ) (us : List User) → length us ≤ room
+    → withUsers (laid ((x ∷ []) ∷ ten r [] [] [] [] [] [] [] [] [])) us
+    ≡ laid ((x ∷ length us ∷ presentIn us ∷ []) ∷ ten r (map (λ u. u .assigned) us) [] [] [] [] [] [] [] [])
+unfolding withCount putUsers
+users-laid x r us l =
+    let rows = map (λ u. u .assigned) us in
+    let lr : length rows ≡ length us = length-map us (λ u. u .assigned) in
+    rw (count-laid (x ∷ []) (ten r [] [] [] [] [] [] [] [] []) (length us) (omega arith))
+    (rw (rows-laid (x ∷ length us ∷ []) (ten r [] [] [] [] [] [] [] [] []) 1 rows (omega arith) refl (omega arith))
+    (count-laid (x ∷ length us ∷ []) (ten r rows [] [] [] [] [] [] [] []) (presentIn us) (omega arith)))
+
+module _ (x y h : ℕ) (r u : List ℕ) where
   sessions-laid : (ss : List Session) → length ss ≤ room
-      → withSessions (laid ((x ∷ y ∷ []) ∷ ten r u [] [] [] [] [] [] [] [])) ss
-      ≡ laid ((x ∷ y ∷ length ss ∷ []) ∷ ten r u (map itemOf (map (λ s. s .user) ss)) (map (λ s. s .active) ss) [] [] [] [] [] [])
+      → withSessions (laid ((x ∷ y ∷ h ∷ []) ∷ ten r u [] [] [] [] [] [] [] [])) ss
+      ≡ laid ((x ∷ y ∷ h ∷ length ss ∷ []) ∷ ten r u (map itemOf (map (λ s. s .user) ss)) (map (λ s. s .active) ss) [] [] [] [] [] [])
   unfolding withCount putSessions
   sessions-laid ss l =
       let o = map itemOf (map (λ s. s .user) ss) in
       let v = map (λ s. s .active) ss in
       let lo : length o ≡ length ss = length-map (map (λ s. s .user) ss) itemOf ∙ length-map ss (λ s. s .user) in
       let lv : length v ≡ length ss = length-map ss (λ s. s .active) in
-      rw (count-laid (x ∷ y ∷ []) (ten r u [] [] [] [] [] [] [] []) (length ss) (omega arith))
-      (rw (rows-laid (x ∷ y ∷ length ss ∷ []) (ten r u [] [] [] [] [] [] [] []) 2 o (omega arith) refl (omega arith))
-      (rows-laid (x ∷ y ∷ length ss ∷ []) (ten r u o [] [] [] [] [] [] []) 3 v (omega arith) refl (omega arith)))
+      rw (count-laid (x ∷ y ∷ h ∷ []) (ten r u [] [] [] [] [] [] [] []) (length ss) (omega arith))
+      (rw (rows-laid (x ∷ y ∷ h ∷ length ss ∷ []) (ten r u [] [] [] [] [] [] [] []) 2 o (omega arith) refl (omega arith))
+      (rows-laid (x ∷ y ∷ h ∷ length ss ∷ []) (ten r u o [] [] [] [] [] [] []) 3 v (omega arith) refl (omega arith)))
 
   module _ (z : ℕ) (o v : List ℕ) where
     rights-laid : (q : Rights) → length (q .permissionRows) ≤ room
-        → withRights (laid ((x ∷ y ∷ z ∷ []) ∷ ten r u o v [] [] [] [] [] [])) q
-        ≡ laid ((x ∷ y ∷ z ∷ q .operationCount ∷ q .objectCount ∷ length (q .permissionRows) ∷ [])
+        → withRights (laid ((x ∷ y ∷ h ∷ z ∷ []) ∷ ten r u o v [] [] [] [] [] [])) q
+        ≡ laid ((x ∷ y ∷ h ∷ z ∷ q .operationCount ∷ q .objectCount ∷ length (q .permissionRows) ∷ [])
         ∷ ten r u o v (q .permissionRows) [] [] []
         (tabulate (length (q .permissionRows)) (λ p. itemOf (p % q .objectCount)))
         (tabulate (length (q .permissionRows)) (λ p. itemOf (p / q .objectCount))))
@@ -109,25 +120,25 @@ module _ (x y : ℕ) (r u : List ℕ) where
         let li : length i ≡ length ps = length-tabulate (length ps) (λ p. itemOf (p % b)) in
         let lj : length j ≡ length ps = length-tabulate (length ps) (λ p. itemOf (p / b)) in
         let none = ten r u o v [] [] [] [] [] [] in
-        let six = x ∷ y ∷ z ∷ a ∷ b ∷ length ps ∷ [] in
-        rw (count-laid (x ∷ y ∷ z ∷ []) none a (omega arith))
-        (rw (count-laid (x ∷ y ∷ z ∷ a ∷ []) none b (omega arith))
-        (rw (section-laid (x ∷ y ∷ z ∷ a ∷ b ∷ []) none 4 ps (omega arith) (omega arith) refl l)
-        (rw (rows-laid six (ten r u o v ps [] [] [] [] []) 8 i (omega arith) refl (omega arith))
-        (rows-laid six (ten r u o v ps [] [] [] i []) 9 j (omega arith) refl (omega arith)))))
+        let seven = x ∷ y ∷ h ∷ z ∷ a ∷ b ∷ length ps ∷ [] in
+        rw (count-laid (x ∷ y ∷ h ∷ z ∷ []) none a (omega arith))
+        (rw (count-laid (x ∷ y ∷ h ∷ z ∷ a ∷ []) none b (omega arith))
+        (rw (section-laid (x ∷ y ∷ h ∷ z ∷ a ∷ b ∷ []) none 4 ps (omega arith) (omega arith) refl l)
+        (rw (rows-laid seven (ten r u o v ps [] [] [] [] []) 8 i (omega arith) refl (omega arith))
+        (rows-laid seven (ten r u o v ps [] [] [] i []) 9 j (omega arith) refl (omega arith)))))
 
     module _ (a b n : ℕ) (ps i j : List ℕ) where
       collections-laid : (c : Collections) → length (c .cr) ≤ room → length (c .cu) ≤ room → length (c .cp) ≤ room
-          → withCollections (laid ((x ∷ y ∷ z ∷ a ∷ b ∷ n ∷ []) ∷ ten r u o v ps [] [] [] i j)) c
-          ≡ laid ((x ∷ y ∷ z ∷ a ∷ b ∷ n ∷ length (c .cr) ∷ length (c .cu) ∷ length (c .cp) ∷ []) ∷ ten r u o v ps (c .cr) (c .cu) (c .cp) i j)
+          → withCollections (laid ((x ∷ y ∷ h ∷ z ∷ a ∷ b ∷ n ∷ []) ∷ ten r u o v ps [] [] [] i j)) c
+          ≡ laid ((x ∷ y ∷ h ∷ z ∷ a ∷ b ∷ n ∷ length (c .cr) ∷ length (c .cu) ∷ length (c .cp) ∷ []) ∷ ten r u o v ps (c .cr) (c .cu) (c .cp) i j)
       unfolding withCollections
       collections-laid c l₁ l₂ l₃ =
-          let six = x ∷ y ∷ z ∷ a ∷ b ∷ n ∷ [] in
+          let seven = x ∷ y ∷ h ∷ z ∷ a ∷ b ∷ n ∷ [] in
           let k₁ = length (c .cr) in
           let k₂ = length (c .cu) in
-          rw (section-laid six (ten r u o v ps [] [] [] i j) 5 (c .cr) (omega arith) (omega arith) refl l₁)
-          (rw (section-laid (six ++ (k₁ ∷ [])) (ten r u o v ps (c .cr) [] [] i j) 6 (c .cu) (omega arith) (omega arith) refl l₂)
-          (section-laid (six ++ (k₁ ∷ k₂ ∷ [])) (ten r u o v ps (c .cr) (c .cu) [] i j) 7 (c .cp) (omega arith) (omega arith) refl l₃))
+          rw (section-laid seven (ten r u o v ps [] [] [] i j) 5 (c .cr) (omega arith) (omega arith) refl l₁)
+          (rw (section-laid (seven ++ (k₁ ∷ [])) (ten r u o v ps (c .cr) [] [] i j) 6 (c .cu) (omega arith) (omega arith) refl l₂)
+          (section-laid (seven ++ (k₁ ∷ k₂ ∷ [])) (ten r u o v ps (c .cr) (c .cu) [] i j) 7 (c .cp) (omega arith) (omega arith) refl l₃))
 
 -- All sections stored in empty words are the flat tables.
 empty : replicate wholeLength 0 ≡ laid ([] ∷ ten [] [] [] [] [] [] [] [] [] [])
@@ -138,18 +149,19 @@ pub filled-flat : {T : Tables} {new : List ℕ} {v : ℕ} → Fits T → Filled 
 unfolding flat sections counts objectRows operationRows
 filled-flat {T} fits g =
     let rs = T .roleRows in
-    let us = T .userRows in
+    let us = userRows T in
+    let h = presentUsers T in
     let ss = T .sessions in
     let held : length (T .permissionRows) ≤ room = rw (fits .permissions) (product-few (fits .operations) (fits .objects)) in
     let x = length rs in
-    let y = length us in
+    let y = length (T .users) in
     let o = map itemOf (map (λ s. s .user) ss) in
     let v = map (λ s. s .active) ss in
     let q : Rights = record { operationCount = T .operationCount; objectCount = T .objectCount; permissionRows = T .permissionRows } in
     let c : Collections = record { cr = T .cr; cu = T .cu; cp = T .cp } in
     g .words ∙
     rw (empty, section-laid [] (ten [] [] [] [] [] [] [] [] [] []) 0 rs (omega arith) (omega arith) refl (fits .roles))
-    (rw (section-laid (x ∷ []) (ten rs [] [] [] [] [] [] [] [] []) 1 us (omega arith) (omega arith) refl (fits .users))
-    (rw (sessions-laid x y rs us ss (fits .sessions))
-    (rw (rights-laid x y rs us (length ss) o v q held)
-    (collections-laid x y rs us (length ss) o v _ _ _ _ _ _ c (fits .crs) (fits .cus) (fits .cps)))))
+    (rw (users-laid x rs (T .users) (fits .users))
+    (rw (sessions-laid x y h rs us ss (fits .sessions))
+    (rw (rights-laid x y h rs us (length ss) o v q held)
+    (collections-laid x y h rs us (length ss) o v _ _ _ _ _ _ c (fits .crs) (fits .cus) (fits .cps)))))

@@ -11,9 +11,9 @@ use lib.Pow.{pow-pos}
 use borrow.Author.Tests.{eqb-true, eq-eqb, ne-eqb}
 use Rattle.words.specs.Words.{has, itemOf}
 use Rattle.words.proofs.WordsLaws.{has-zero, has-item, item-lt}
-use Rattle.tables.specs.Tables.{Session, Tables, sessionRoles}
+use Rattle.tables.specs.Tables.{User, Session, Tables, isPresent, sessionRoles}
 use Rattle.tables.specs.Functions.{dominates}
-use Rattle.tables.specs.Checks.{rankStep, ranked, inReach, apart, lateChecks, firstFailing}
+use Rattle.tables.specs.Checks.{allTo, leaversGone, rankStep, ranked, inReach, apart, lateChecks, firstFailing}
 use Rattle.tables.specs.Bytes.{Bytes, AreBytes}
 use Rattle.tables.specs.Accepted.{Below, Known, Every, Passes}
 use Rattle.tables.specs.Reading.{taken, tablesOf}
@@ -29,7 +29,7 @@ use Rattle.tables.proofs.EncodedLaws.{encode-length, encode-bytes}
 pub accepted-size : (b : Bytes) → AreBytes b → {T : Tables} → tablesOf b ≡ taken T → length b ≡ bytesOf T
 accepted-size b h {T} q = ap length (accepted-bytes b h q) ∙ encode-length T
 
--- Full sections: roles that dominate themselves alone, users and permissions without roles, 64 sessions of user 0, and the words 0 to 63.
+-- Full sections: roles that dominate themselves alone, users, all present, and permissions without roles, 64 sessions of user 0, and the words 0 to 63.
 abbrev alone : List ℕ
 alone = tabulate 64 itemOf
 
@@ -38,6 +38,12 @@ zeros = tabulate 64 (λ _. 0)
 
 abbrev first : List ℕ
 first = tabulate 64 (λ i. i)
+
+abbrev nobody : User
+nobody = record { present = true; assigned = 0 }
+
+everybody : List User
+everybody = replicate 64 nobody
 
 abbrev idle : Session
 idle = record { user = 0; active = 0 }
@@ -49,7 +55,7 @@ full : Tables
 full =
     record {
       roleRows = alone;
-      userRows = zeros;
+      users = everybody;
       sessions = idlers;
       operationCount = 8;
       objectCount = 8;
@@ -96,6 +102,25 @@ idle-reach : (T : Tables) → ((s : ℕ) → getD (sessionRoles T) s 0 ≡ 0) �
 unfolding inReach
 idle-reach T h = all-every (length (T .sessions)) _ λ s l. all-every (length (T .roleRows)) _ λ r k. rw (h s, has-zero r)
 
+-- Users who are all present, without roles.
+all-here : (n u : ℕ) → u < n → isPresent (replicate n nobody) u ≡ true
+all-here zero u l = absurd (omega arith)
+all-here (suc n) zero l = refl
+all-here (suc n) (suc u) l = all-here n u (omega arith)
+
+nobody-left : (T : Tables) (n : ℕ) → T .users ≡ replicate n nobody → length (T .users) ≡ n → leaversGone T ≡ true
+unfolding leaversGone
+nobody-left T n e l = all-every (length (T .users)) _ λ u k. rw (e, all-here n u (omega arith))
+
+no-roles : (n i : ℕ) → getD (map (λ (u : User). u .assigned) (replicate n nobody)) i 0 ≡ 0
+no-roles zero i = refl
+no-roles (suc n) zero = refl
+no-roles (suc n) (suc i) = no-roles n i
+
+roleless : (roles n : ℕ) → Below roles (map (λ (u : User). u .assigned) (replicate n nobody))
+unfolding Below
+roleless roles n i = rw (no-roles n i) (pow-pos roles)
+
 -- Sessions of user 0 without a role.
 module _ (users roles : ℕ) (some : 0 < users) where
   idle-known : (n : ℕ) → Every (Known users roles) (replicate n idle)
@@ -113,12 +138,14 @@ unfolding Below
 sixty-four n f m e h = rw e (tabulate-less (2 ^ 64) n f (omega arith) h)
 
 full-passes : Passes full
-unfolding full idlers lateChecks firstFailing
+unfolding full everybody idlers lateChecks firstFailing
 full-passes =
     let la : length alone ≡ 64 = length-tabulate 64 itemOf in
     let lz : length zeros ≡ 64 = length-tabulate 64 (λ _. 0) in
     let lf : length first ≡ 64 = length-tabulate 64 (λ i. i) in
     let none : Below (length alone) zeros = sixty-four 64 (λ _. 0) (length alone) la (λ i l. omega arith) in
+    let users : length everybody ≡ 64 = refl in
+    let gone : leaversGone full ≡ true = nobody-left full 64 refl users in
     let rank : ranked alone ≡ true = single-ranked alone (omega arith) (λ r l. tabulate-at 64 itemOf r (omega arith)) in
     let reach : inReach full ≡ true = idle-reach full (idle-roles 64) in
     let apart : apart first ≡ true = differing-apart first (λ i l. tabulate-at 64 (λ i. i) i (omega arith)) in
@@ -137,20 +164,20 @@ full-passes =
         };
         bounded = record {
           roles = sixty-four 64 itemOf (length alone) la (λ i l. item-lt i);
-          users = none;
-          sessions = idle-known (length zeros) (length alone) (omega arith) 64;
+          users = roleless (length alone) 64;
+          sessions = idle-known 64 (length alone) (omega arith) 64;
           permissions = none;
           crs = sixty-four 64 (λ i. i) (length alone) la (λ i l. omega arith);
-          cus = sixty-four 64 (λ i. i) (length zeros) lz (λ i l. omega arith);
+          cus = sixty-four 64 (λ i. i) 64 refl (λ i l. omega arith);
           cps = sixty-four 64 (λ i. i) (length zeros) lz (λ i l. omega arith);
         };
       };
-      late = rw (rank, reach, apart);
+      late = rw (gone, rank, reach, apart);
     }
 
 -- "The largest tables take 3,785 bytes": that many bytes are accepted.
 pub largest : (b : Bytes) × AreBytes b × (length b ≡ 3785) × (T : Tables) × (tablesOf b ≡ taken T)
-unfolding full idlers
+unfolding full everybody idlers
 largest = (
   encode full,
   encode-bytes full (full-passes .sound),

@@ -10,6 +10,8 @@ pub mod TwinLaws
 pub mod CheckLaws
 pub mod RankLaws
 pub mod ReachLaws
+pub mod PresentLaws
+pub mod LeaverLaws
 pub mod FitsLaws
 pub mod BytesLaws
 pub mod EncodeLaws

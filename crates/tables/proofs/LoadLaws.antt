@@ -1,15 +1,16 @@
--- Laws of the whole reading: what follows the sections, in the order 10, 7, 8, 9.
+-- Laws of the whole reading: what follows the sections, in the order 10, 20, 7, 8, 9.
 -- Assumes nothing.
 use mathlib.Core.Path.{_≡_, refl, sym, ap, _∙_}
 use mathlib.Core.Bool.{Bool, true, false}
 use mathlib.Core.List.{List, [], _∷_}
+use mathlib.Core.Logic.{_⊎_, inl, inr}
 use Prim.Native.Nat.{ℕ, _≤_, _<_}
 use native.Mathlib.Omega.{arith}
 use lib.Dec.{ltb}
 use lib.ListN.{length, drop, length-drop, replicate}
 use borrow.Author.Tests.{lt-ltb, le-ltb}
 use Rattle.answers.specs.declared.Refusal.{Refusal}
-use Rattle.answers.specs.declared.Refusal.the-variants.{LeftOver}
+use Rattle.answers.specs.declared.Refusal.the-variants.{LeftOver, Left}
 use Rattle.answers.specs.Refusal.{numberOf}
 use Rattle.tables.specs.declared.Outcome.{Outcome}
 use Rattle.tables.specs.declared.Outcome.the-variants.{Refused, Accepted}
@@ -36,9 +37,12 @@ pub left-over : (b : Bytes) {T : Tables} {t : Bytes} → sections b ≡ took T t
 unfolding tablesOf whole next nothingLeft refuse
 left-over b {T} {t} q l = rw (q, lt-ltb 0 (length t) l)
 
--- Once the sections are read, a refusal is one of 7 to 10.
+-- The numbers that tables are refused by: 1 to 10, and 20. Once the sections are read, it is none below 7.
+abbrev pub OfTables : Refusal → Type 0
+OfTables e = (numberOf e ≤ 10) ⊎ (numberOf e ≡ numberOf Left)
+
 abbrev Late : Refusal → Type 0
-Late e = (7 ≤ numberOf e) × (numberOf e ≤ 10)
+Late e = (7 ≤ numberOf e) × OfTables e
 
 failing-late : (cs : List Check) → Every (λ c. Late (c .refusal)) cs → {e : Refusal} → firstFailing cs ≡ Refused e → Late e
 unfolding firstFailing
@@ -51,14 +55,15 @@ failing-late (c ∷ cs) h {e} q = go (c .holds) refl (λ k. failing-late cs (h .
 
 late-refusals : (T : Tables) → Every (λ c. Late (c .refusal)) (lateChecks T)
 unfolding lateChecks
-late-refusals T = ((omega arith, omega arith), ((omega arith, omega arith), ((omega arith, omega arith), tt)))
+late-refusals T =
+    ((omega arith, inr refl), ((omega arith, inl (omega arith)), ((omega arith, inl (omega arith)), ((omega arith, inl (omega arith)), tt))))
 
 pub late-refusal : (b : Bytes) {T : Tables} {t : Bytes} {e : Refusal} → sections b ≡ took T t → tablesOf b ≡ rejected e → Late e
 unfolding tablesOf whole next nothingLeft refuse settle
 late-refusal b {T} {t} {e} q h = go (ltb 0 (length t)) (late T) refl refl
   where
     go : (w : Bool) (o : Outcome) → ltb 0 (length t) ≡ w → late T ≡ o → Late e
-    go true o e₀ e₁ = let d : LeftOver ≡ e = cc (rw (q, e₀) at h) in rw (← d) (omega arith, omega arith)
+    go true o e₀ e₁ = let d : LeftOver ≡ e = cc (rw (q, e₀) at h) in rw (← d) (omega arith, inl (omega arith))
     go false (Refused f) e₀ e₁ = let d : f ≡ e = cc (rw (q, e₀, e₁) at h) in rw d at (failing-late (lateChecks T) (late-refusals T) e₁)
     go false Accepted e₀ e₁ = let o : _≡_ {A = ℕ} 0 1 = cc (rw (q, e₀, e₁) at h) in absurd (omega arith)
 

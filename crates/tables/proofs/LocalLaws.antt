@@ -16,7 +16,7 @@ use Rattle.answers.specs.declared.Refusal.the-variants.{CutShort, Overfull, Not
 use Rattle.answers.specs.Refusal.{numberOf}
 use Rattle.answers.proofs.AnswerLaws.{number-some, same-number}
 use Rattle.tables.specs.Tables.{Tables}
-use Rattle.tables.specs.Reading.{Bytes, Taken, Reader, stop, took, next, refuse, front, byte, count, wordFrom, wordWithin, wordRow, markedRow}
+use Rattle.tables.specs.Reading.{Bytes, Taken, Reader, stop, took, next, refuse, front, byte, count, wordFrom, wordWithin, wordRow, markedRow, userRow, permissionRow}
 use Rattle.tables.specs.Reading.{sessionRow, rows, section, permissions, rights, collections, sections, rejected, taken, tablesOf}
 use Rattle.tables.proofs.SectionsLaws.{product-few}
 use Rattle.tables.proofs.FitsLaws.{next-case, count-few, Read, accepted-read}
@@ -114,11 +114,21 @@ local-word : (n : ℕ) → Local 8 (wordRow n)
 unfolding wordRow
 local-word n = local-next Any 8 0 (λ s a t q. tt) (local-front 8) (λ b u. local-within n b)
 
-local-marked : (n : ℕ) → Local 9 (markedRow n)
+local-marked : (highest n : ℕ) → Local 9 (markedRow highest n)
 unfolding markedRow
-local-marked n =
+local-marked highest n =
     local-next Any 9 0 (λ s a t q. tt) (local-front 9)
-    (λ b u. local-refuse _ NotEntered 0 (omega arith) (λ c. local-refuse _ BadMark 0 (omega arith) (λ d. local-within n (drop 1 b))))
+    (λ b u. local-refuse _ NotEntered 0 (omega arith)
+    (λ c. local-refuse _ BadMark 0 (omega arith)
+    (λ d. local-next Any 0 0 (λ s a t q. tt) (local-within n (drop 1 b)) (λ w v. local-give _))))
+
+local-user : (n : ℕ) → Local 9 (userRow n)
+unfolding userRow
+local-user n = local-next Any 9 0 (λ s a t q. tt) (local-marked _ n) (λ m v. local-give _)
+
+local-permission : (n : ℕ) → Local 9 (permissionRow n)
+unfolding permissionRow
+local-permission n = local-next Any 9 0 (λ s a t q. tt) (local-marked _ n) (λ m v. local-give _)
 
 local-session : (users roles : ℕ) → Local 9 (sessionRow users roles)
 unfolding sessionRow
@@ -148,7 +158,7 @@ local-permissions product roles l =
     (λ n u. local-refuse (not (eqb n product)) Miscounted 576 (omega arith)
     (λ c.
     let e = eqb-true n product (not-false (eqb n product) c) in
-    weaken (9 * n) 576 (omega arith) (local-rows 9 (markedRow roles) (local-marked roles) n)))
+    weaken (9 * n) 576 (omega arith) (local-rows 9 (permissionRow roles) (local-permission roles) n)))
 
 local-rights : (roles : ℕ) → Local (1 + (1 + (577 + 0))) (rights roles)
 unfolding rights
@@ -168,7 +178,7 @@ local-sections : Local 3785 sections
 unfolding sections
 local-sections =
     local-next Any 513 3272 (λ s a t q. tt) (local-section 8 (λ n. wordRow n) local-word)
-    (λ rs i. local-next Any 577 2695 (λ s a t q. tt) (local-section 9 (λ _. markedRow (length rs)) (λ n. local-marked (length rs)))
+    (λ rs i. local-next Any 577 2695 (λ s a t q. tt) (local-section 9 (λ _. userRow (length rs)) (λ n. local-user (length rs)))
     (λ us j. local-next Any 577 2118 (λ s a t q. tt) (local-section 9 (λ _. sessionRow (length us) (length rs)) (λ n. local-session (length us) (length rs)))
     (λ ss k. local-next Any 579 1539 (λ s a t q. tt) (local-rights (length rs))
     (λ q l. local-next Any 1539 0 (λ s a t q. tt) (local-collections _ _ _) (λ c m. local-give _)))))

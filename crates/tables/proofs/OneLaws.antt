@@ -1,7 +1,7 @@
 -- The flat words of sound tables are those of no other tables.
 -- Assumes nothing.
 use mathlib.Core.Path.{_≡_, refl, sym, ap, ap₂, _∙_}
-use mathlib.Core.Bool.{true}
+use mathlib.Core.Bool.{Bool, true, false}
 use mathlib.Core.List.{List, [], _∷_, map}
 use Prim.Native.Nat.{ℕ, _+_, _*_, _<_, _≤_}
 use native.Mathlib.Omega.{arith}
@@ -11,17 +11,39 @@ use lib.Seq.{ext-getD}
 use borrow.Author.Tests.{eq-eqb, eqb-true}
 use Rattle.words.specs.Words.{has, itemOf}
 use Rattle.words.proofs.WordsLaws.{has-item}
-use Rattle.tables.specs.Tables.{Session, Tables, sessionUsers, sessionRoles}
+use Rattle.tables.specs.Tables.{User, Session, Tables, userRows, isPresent, presentIn, sessionUsers, sessionRoles}
 use Rattle.tables.specs.Flat.{room, counts, sections, flat}
 use Rattle.tables.specs.Accepted.{Fits, Known, Every, Sound}
 use Rattle.tables.proofs.FlatLaws.{flat-at}
 use Rattle.tables.proofs.SectionsLaws.{product-few}
+use Rattle.tables.proofs.PresentLaws.{has-present}
 
 -- An item's word is that of no other number.
 item-one : (x y : ℕ) → y < 64 → itemOf x ≡ itemOf y → x ≡ y
 item-one x y l e =
     let q : eqb y x ≡ true = sym (has-item x y l) ∙ ap (λ (w : ℕ). has w y) e ∙ has-item y y l ∙ eq-eqb y y refl in
     sym (eqb-true y x q)
+
+-- Users are known by their rows and the word of those present.
+users-each : (us vs : List User) → map (λ u. u .present) us ≡ map (λ u. u .present) vs → map (λ u. u .assigned) us ≡ map (λ u. u .assigned) vs → us ≡ vs
+users-each [] [] e f = refl
+users-each [] (v ∷ vs) e f = absurd (omega (arith, ap length f))
+users-each (u ∷ us) [] e f = absurd (omega (arith, ap length f))
+users-each (u ∷ us) (v ∷ vs) e f =
+    let present : u .present ≡ v .present = cc in
+    let assigned : u .assigned ≡ v .assigned = cc in
+    let rest : map (λ (x : User). x .present) us ≡ map (λ (x : User). x .present) vs = cc in
+    let rest′ : map (λ (x : User). x .assigned) us ≡ map (λ (x : User). x .assigned) vs = cc in
+    let same : _≡_ {A = User} (record { present = u .present; assigned = u .assigned }) (record { present = v .present; assigned = v .assigned }) = rw (present, assigned) in
+    ap₂ (λ (x : User) (xs : List User). x ∷ xs) same (users-each us vs rest rest′)
+
+users-one : (us vs : List User) → length us ≤ 64 → length us ≡ length vs → map (λ u. u .assigned) us ≡ map (λ u. u .assigned) vs → presentIn us ≡ presentIn vs → us ≡ vs
+users-one us vs few l rows here = users-each us vs (ext-getD false _ _ (length-map us (λ u. u .present) ∙ l ∙ sym (length-map vs (λ u. u .present))) at) rows
+  where
+    at : (i : ℕ) → i < length (map (λ (u : User). u .present) us) → isPresent us i ≡ isPresent vs i
+    at i k =
+        let m : i < 64 = omega (arith, length-map us (λ u. u .present)) in
+        sym (has-present us i m) ∙ ap (λ (w : ℕ). has w i) here ∙ has-present vs i m
 
 -- Sessions are known by their users' words and their roles.
 sessions-one : (users roles : ℕ) (ss us : List Session) → users ≤ 64 → Every (Known users roles) us
@@ -42,7 +64,7 @@ sessions-one users roles (s ∷ ss) (u ∷ us) l k e f =
 abbrev again : Tables → Tables
 again T = record {
   roleRows = T .roleRows;
-  userRows = T .userRows;
+  users = T .users;
   sessions = T .sessions;
   operationCount = T .operationCount;
   objectCount = T .objectCount;
@@ -68,7 +90,7 @@ module _ (T U : Tables) (e : flat T ≡ flat U) where
   unfolding sections counts
   tables-one F S =
       let held : length (T .permissionRows) ≤ 64 = rw (F .permissions) (product-few (F .operations) (F .objects)) in
-      let many : length (T .sessions) ≡ length (U .sessions) = count-one 2 (omega arith) in
+      let many : length (T .sessions) ≡ length (U .sessions) = count-one 3 (omega arith) in
       let ut : length (map itemOf (sessionUsers T)) ≡ length (T .sessions) = length-map (sessionUsers T) itemOf ∙ length-map (T .sessions) (λ s. s .user) in
       let uu : length (map itemOf (sessionUsers U)) ≡ length (U .sessions) = length-map (sessionUsers U) itemOf ∙ length-map (U .sessions) (λ s. s .user) in
       let at : length (sessionRoles T) ≡ length (T .sessions) = length-map (T .sessions) (λ s. s .active) in
@@ -76,13 +98,17 @@ module _ (T U : Tables) (e : flat T ≡ flat U) where
       let users : map itemOf (sessionUsers T) ≡ map itemOf (sessionUsers U) = list-one 3 (omega (arith, F .sessions)) (omega arith) in
       let actives : sessionRoles T ≡ sessionRoles U = list-one 4 (omega (arith, F .sessions)) (omega arith) in
       let roleRows : T .roleRows ≡ U .roleRows = list-one 1 (F .roles) (count-one 0 (omega arith)) in
-      let userRows : T .userRows ≡ U .userRows = list-one 2 (F .users) (count-one 1 (omega arith)) in
-      let sessions : T .sessions ≡ U .sessions = sessions-one (length (U .userRows)) (length (U .roleRows)) (T .sessions) (U .sessions) (S .fits .users) (S .bounded .sessions) users actives in
-      let operations : T .operationCount ≡ U .operationCount = count-one 3 (omega arith) in
-      let objects : T .objectCount ≡ U .objectCount = count-one 4 (omega arith) in
-      let permissions : T .permissionRows ≡ U .permissionRows = list-one 5 held (count-one 5 (omega arith)) in
-      let crs : T .cr ≡ U .cr = list-one 6 (F .crs) (count-one 6 (omega arith)) in
-      let cus : T .cu ≡ U .cu = list-one 7 (F .cus) (count-one 7 (omega arith)) in
-      let cps : T .cp ≡ U .cp = list-one 8 (F .cps) (count-one 8 (omega arith)) in
-      let same : again T ≡ again U = rw (roleRows, userRows, sessions, operations, objects, permissions, crs, cus, cps) in
+      let many-users : length (T .users) ≡ length (U .users) = count-one 1 (omega arith) in
+      let rt = length-map (T .users) (λ u. u .assigned) in
+      let ru = length-map (U .users) (λ u. u .assigned) in
+      let rows : userRows T ≡ userRows U = list-one 2 (omega (arith, F .users)) (omega arith) in
+      let people : T .users ≡ U .users = users-one (T .users) (U .users) (F .users) many-users rows (count-one 2 (omega arith)) in
+      let sessions : T .sessions ≡ U .sessions = sessions-one (length (U .users)) (length (U .roleRows)) (T .sessions) (U .sessions) (S .fits .users) (S .bounded .sessions) users actives in
+      let operations : T .operationCount ≡ U .operationCount = count-one 4 (omega arith) in
+      let objects : T .objectCount ≡ U .objectCount = count-one 5 (omega arith) in
+      let permissions : T .permissionRows ≡ U .permissionRows = list-one 5 held (count-one 6 (omega arith)) in
+      let crs : T .cr ≡ U .cr = list-one 6 (F .crs) (count-one 7 (omega arith)) in
+      let cus : T .cu ≡ U .cu = list-one 7 (F .cus) (count-one 8 (omega arith)) in
+      let cps : T .cp ≡ U .cp = list-one 8 (F .cps) (count-one 9 (omega arith)) in
+      let same : again T ≡ again U = rw (roleRows, people, sessions, operations, objects, permissions, crs, cus, cps) in
       same

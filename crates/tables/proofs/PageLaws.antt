@@ -5,17 +5,18 @@ use mathlib.Core.Bool.{Bool, true, false, _&&_}
 use mathlib.Core.List.{List, [], _∷_, _++_}
 use Prim.Native.Nat.{ℕ, _≤_, _<_, _^_}
 use native.Mathlib.Omega.{arith}
-use lib.Dec.{leb}
+use lib.Dec.{eqb, leb}
 use lib.ListN.{length, getD, take, drop, replicate}
-use borrow.Author.Tests.{leb-true, leb-false, le-leb, lt-leb}
-use Rattle.answers.specs.declared.Refusal.the-variants.{CutShort, NotEntered, BadMark, NoSuchItem}
+use borrow.Author.Tests.{leb-true, leb-false, le-leb, lt-leb, le-ltb, ne-eqb}
+use Rattle.answers.specs.declared.Refusal.{Refusal}
+use Rattle.answers.specs.declared.Refusal.the-variants.{CutShort, NotEntered, BadMark, NoSuchItem, Left}
 use Rattle.words.specs.Words.{has, anyTo}
 use Rattle.words.proofs.WordsLaws.{has-out, word-self, word-more, any-here, any-witness, both, and-true, and-both, word-lt}
-use Rattle.tables.specs.Tables.{Tables}
-use Rattle.tables.specs.Checks.{allTo, reflexive, transitive, antisymmetric, rankSteps, failingFrom, rankStep, ranked, inReach, apart, lateChecks, firstFailing}
-use Rattle.tables.specs.Reading.{Bytes, stop, took, rejected, taken, tablesOf, next, refuse, front, byte, count, wordFrom, wordWithin, wordRow, markedRow, sessionRow}
+use Rattle.tables.specs.Tables.{User, Tables}
+use Rattle.tables.specs.Checks.{allTo, withdrawn, leaversGone, reflexive, transitive, antisymmetric, rankSteps, failingFrom, rankStep, ranked, inReach, apart, lateChecks, firstFailing}
+use Rattle.tables.specs.Reading.{Bytes, stop, took, rejected, taken, tablesOf, next, refuse, front, byte, count, wordFrom, wordWithin, wordRow, MarkedRow, markedRow, userRow, permissionRow, sessionRow, entered, left}
 use Rattle.tables.specs.Reading.{rows, section, permissions, rights, collections, sections, nothingLeft, settle, whole}
-use Rattle.tables.proofs.ReadLaws.{nine, word-row-cut, marked-cut, session-cut, word-row, marked-none, marked-bad, marked-row, session-none, within-over, within-took}
+use Rattle.tables.proofs.ReadLaws.{nine, word-row-cut, marked-cut, session-cut, word-row, marked-none, marked-bad, session-none, within-over, within-took}
 
 -- "bit i stands for item i"; "bit .. at or above its count": a word of 64 bits is 2 ^ n or more exactly where it has a bit at or above n.
 pub outside-bits : (n w : ℕ) → n ≤ 64 → w < 2 ^ 64 → leb (2 ^ n) w ≡ anyTo 64 (λ i. leb n i && has w i)
@@ -52,11 +53,11 @@ outside-bits n w h l = both (leb (2 ^ n) w) (anyTo 64 f) there back
         go false q i k g = q ∙ sym (has-out w n i (leb-false (2 ^ n) w q) k) ∙ g
 
 -- Tables of roles and users alone.
-abbrev small : List ℕ → List ℕ → Tables
+abbrev small : List ℕ → List User → Tables
 small rs us =
     record {
       roleRows = rs;
-      userRows = us;
+      users = us;
       sessions = [];
       operationCount = 0;
       objectCount = 0;
@@ -72,11 +73,11 @@ oneUser mark low = 1 ∷ 1 ∷ replicate 7 0 ++ 1 ∷ mark ∷ low ∷ replicate
 
 -- Open the definitions of the checks, and all of reading.
 checking : Unit {0}
-unfolding lateChecks firstFailing ranked rankStep rankSteps failingFrom reflexive transitive antisymmetric inReach apart allTo has nothingLeft
+unfolding lateChecks firstFailing leaversGone withdrawn ranked rankStep rankSteps failingFrom reflexive transitive antisymmetric inReach apart allTo has nothingLeft
 checking = tt
 
 everything : Unit {0}
-unfolding checking tablesOf whole settle sections section rows next refuse front byte count wordFrom wordWithin wordRow markedRow permissions rights collections
+unfolding checking tablesOf whole settle sections section rows next refuse front byte count wordFrom wordWithin wordRow markedRow userRow permissionRow permissions rights collections
 everything = tt
 
 -- "nine zero bytes are accepted"; "An entered empty word is a person without roles; a mark 0 never is."
@@ -84,7 +85,7 @@ pub nine-zeros : tablesOf (replicate 9 0) ≡ taken (small [] [])
 unfolding everything
 nine-zeros = refl
 
-pub person-without-roles : tablesOf (oneUser 1 0) ≡ taken (small (1 ∷ []) (0 ∷ []))
+pub person-without-roles : tablesOf (oneUser 1 0) ≡ taken (small (1 ∷ []) (record { present = true; assigned = 0 } ∷ []))
 unfolding everything
 person-without-roles = refl
 
@@ -92,30 +93,76 @@ pub never-entered : tablesOf (oneUser 0 0) ≡ rejected NotEntered
 unfolding everything
 never-entered = refl
 
+-- Document 02, N6: "Mark 2 in a user row means left"; 20 where his word is not zero; "Bad mark (4) in a user row is now a mark above 2."
+pub person-who-left : tablesOf (oneUser 2 0) ≡ taken (small (1 ∷ []) (record { present = false; assigned = 0 } ∷ []))
+unfolding everything
+person-who-left = refl
+
+pub leaver-with-roles : tablesOf (oneUser 2 1) ≡ rejected Left
+unfolding everything
+leaver-with-roles = refl
+
+pub mark-of-three : tablesOf (oneUser 3 0) ≡ rejected BadMark
+unfolding everything
+mark-of-three = refl
+
+-- A user's row and a permission's stop where their mark or their word does, and take what these are.
+module _ (n : ℕ) (s : Bytes) where
+  pub user-stops : {e : Refusal} → markedRow left n s ≡ stop e → userRow n s ≡ stop e
+  unfolding userRow next
+  user-stops q = rw q
+
+  pub user-takes : {m : MarkedRow} {t : Bytes} → markedRow left n s ≡ took m t → userRow n s ≡ took (record { present = eqb (m .mark) entered; assigned = m .word }) t
+  unfolding userRow next
+  user-takes q = rw q
+
+  pub permission-stops : {e : Refusal} → markedRow entered n s ≡ stop e → permissionRow n s ≡ stop e
+  unfolding permissionRow next
+  permission-stops q = rw q
+
+  pub permission-takes : {m : MarkedRow} {t : Bytes} → markedRow entered n s ≡ took m t → permissionRow n s ≡ took (m .word) t
+  unfolding permissionRow next
+  permission-takes q = rw q
+
 -- "A row must be complete before it is examined": fewer bytes than the row has are 1, whatever they are.
 module _ (s : Bytes) where
   pub cut-word-row : (n : ℕ) → length s < 8 → wordRow n s ≡ stop CutShort
   cut-word-row n h = word-row-cut s 0 n (omega arith)
 
-  pub cut-marked-row : (n : ℕ) → length s < 9 → markedRow n s ≡ stop CutShort
-  cut-marked-row n h = marked-cut s 0 n (omega arith)
+  pub cut-marked-row : (highest n : ℕ) → length s < 9 → markedRow highest n s ≡ stop CutShort
+  cut-marked-row highest n h = marked-cut s 0 highest n (omega arith)
 
   pub cut-session-row : (users n : ℕ) → length s < 9 → sessionRow users n s ≡ stop CutShort
   cut-session-row users n h = session-cut s 0 users n (omega arith)
 
 -- "mark, then user number, then word": of a complete row, whatever its later bytes are.
 module _ (s : Bytes) (whole : 9 ≤ length s) where
-  pub mark-zero : (n : ℕ) → getD s 0 0 ≡ 0 → markedRow n s ≡ stop NotEntered
-  mark-zero n e = marked-none s 0 n whole e
+  pub mark-zero : (highest n : ℕ) → getD s 0 0 ≡ 0 → markedRow highest n s ≡ stop NotEntered
+  mark-zero highest n e = marked-none s 0 highest n whole e
 
-  pub mark-above : (n : ℕ) → 1 < getD s 0 0 → markedRow n s ≡ stop BadMark
-  mark-above n l = marked-bad s 0 n whole l
+  pub mark-above : (highest n : ℕ) → highest < getD s 0 0 → markedRow highest n s ≡ stop BadMark
+  mark-above highest n l = marked-bad s 0 highest n whole l
 
-  pub marked-over : (n : ℕ) → getD s 0 0 ≡ 1 → 2 ^ n ≤ wordFrom (take 8 (drop 1 s)) → markedRow n s ≡ stop NoSuchItem
-  marked-over n e l = marked-row s 0 n whole (λ z. absurd (omega arith)) (omega arith) ∙ within-over n (take 8 (drop 1 s)) (drop 9 s) refl refl (le-leb (2 ^ n) _ l)
+  module _ (highest n : ℕ) (some : getD s 0 0 ≡ 0 → ⊥) (few : getD s 0 0 ≤ highest) where
+    pub marked-over : 2 ^ n ≤ wordFrom (take 8 (drop 1 s)) → markedRow highest n s ≡ stop NoSuchItem
+    unfolding markedRow next refuse
+    marked-over l =
+        rw (
+          nine s 0 whole,
+          ne-eqb (getD s 0 0) 0 some,
+          le-ltb highest (getD s 0 0) few,
+          within-over n (take 8 (drop 1 s)) (drop 9 s) refl refl (le-leb (2 ^ n) _ l),
+        )
 
-  pub marked-taken : (n : ℕ) → getD s 0 0 ≡ 1 → wordFrom (take 8 (drop 1 s)) < 2 ^ n → markedRow n s ≡ took (wordFrom (take 8 (drop 1 s))) (drop 9 s)
-  marked-taken n e l = marked-row s 0 n whole (λ z. absurd (omega arith)) (omega arith) ∙ within-took n (take 8 (drop 1 s)) (drop 9 s) refl refl (lt-leb (2 ^ n) _ l)
+    pub marked-taken : wordFrom (take 8 (drop 1 s)) < 2 ^ n → markedRow highest n s ≡ took (record { mark = getD s 0 0; word = wordFrom (take 8 (drop 1 s)) }) (drop 9 s)
+    unfolding markedRow next refuse
+    marked-taken l =
+        rw (
+          nine s 0 whole,
+          ne-eqb (getD s 0 0) 0 some,
+          le-ltb highest (getD s 0 0) few,
+          within-took n (take 8 (drop 1 s)) (drop 9 s) refl refl (lt-leb (2 ^ n) _ l),
+        )
 
   pub user-above : (users n : ℕ) → users ≤ getD s 0 0 → sessionRow users n s ≡ stop NoSuchItem
   user-above users n l = session-none s 0 users n whole l

@@ -5,18 +5,20 @@ use mathlib.Core.Bool.{true}
 use mathlib.Core.List.{List, [], _∷_, map}
 use Prim.Native.Nat.{ℕ, zero, suc, _+_, _*_, _≤_, _<_}
 use native.Mathlib.Omega.{arith}
+use lib.Dec.{eqb}
 use lib.ListN.{length, getD, take, drop, length-map, length-drop}
 use lib.Seq.{take-append-le, drop-append-add, length-take-le}
-use Rattle.words.specs.Words.{itemOf}
-use Rattle.tables.specs.Tables.{Tables, sessionUsers, sessionRoles}
-use Rattle.tables.specs.Checks.{rankStep, ranked, inReach}
-use Rattle.tables.specs.code.Layout.{Whole, roleCountAt, userCountAt, sessionCountAt, crCountAt, cuCountAt, cpCountAt, roleRowsAt, userRowsAt}
+use Rattle.words.specs.Words.{allOf, itemOf, lessOf}
+use Rattle.tables.specs.Tables.{Tables, userRows, sessionUsers, sessionRoles}
+use Rattle.tables.specs.Checks.{leaversGone, rankStep, ranked, inReach}
+use Rattle.tables.specs.code.Layout.{Whole, roleCountAt, userCountAt, presentAt, sessionCountAt, crCountAt, cuCountAt, cpCountAt, roleRowsAt, userRowsAt}
 use Rattle.tables.specs.code.Layout.{sessionUsersAt, sessionRolesAt, crAt, cuAt, cpAt}
 use Rattle.tables.specs.Flat.{wholeLength, room, padded, counts, sections, laid, flat}
 use Rattle.tables.specs.Accepted.{Fits, Below, Bounded}
-use Rattle.tables.specs.code.Reads.{reaching, CountsFit}
+use Rattle.tables.specs.code.Reads.{reaching, usersMet, CountsFit}
 use Rattle.tables.proofs.FlatLaws.{length-padded, length-flat, count-at}
 use Rattle.tables.proofs.ReachLaws.{reach-words}
+use Rattle.tables.proofs.LeaverLaws.{leavers-words, all-present}
 
 padded-front : (n : ℕ) (xs : List ℕ) → length xs ≤ n → take (length xs) (padded n xs) ≡ xs
 unfolding padded
@@ -49,9 +51,11 @@ module _ (T : Tables) (fits : Fits T) {ws : List ℕ} (e : ws ≡ flat T) where
   unfolding sections counts
   roles-part q = q ∙ part-at roleCountAt 1 (omega arith) refl (fits .roles)
 
-  users-part : {p : List ℕ} → p ≡ take (getD ws userCountAt 0) (drop userRowsAt ws) → p ≡ T .userRows
+  users-part : {p : List ℕ} → p ≡ take (getD ws userCountAt 0) (drop userRowsAt ws) → p ≡ userRows T
   unfolding sections counts
-  users-part q = q ∙ part-at userCountAt 2 (omega arith) refl (fits .users)
+  users-part q =
+      let l = length-map (T .users) (λ u. u .assigned) in
+      q ∙ part-at userCountAt 2 (omega arith) (sym l) (omega (arith, fits .users))
 
   owners-part : {p : List ℕ} → p ≡ take (getD ws sessionCountAt 0) (drop sessionUsersAt ws) → p ≡ map itemOf (sessionUsers T)
   unfolding sections counts
@@ -81,6 +85,18 @@ module _ (T : Tables) (fits : Fits T) {ws : List ℕ} (e : ws ≡ flat T) where
       → a ≡ take (getD ws userCountAt 0) (drop userRowsAt ws) → o ≡ take (getD ws sessionCountAt 0) (drop sessionUsersAt ws)
       → v ≡ take (getD ws sessionCountAt 0) (drop sessionRolesAt ws) → reaching r a o v ≡ inReach T
   reach-part b ok qr qa qo qv = rw (roles-part qr, users-part qa, owners-part qo, active-part qv) (reach-words T fits b ok)
+
+  pub present-part : getD ws presentAt 0 ≡ allOf (getD ws userCountAt 0) → leaversGone T ≡ true
+  unfolding counts
+  present-part q = all-present T fits (rw (counts-here presentAt (omega arith), counts-here userCountAt (omega arith)) at q)
+
+  -- What the code asks of the users, by the parts of the words and the word of those present.
+  pub leavers-part : Bounded T → {r o c : List ℕ} {m : ℕ} → r ≡ take (getD ws userCountAt 0) (drop userRowsAt ws)
+      → o ≡ take (getD ws sessionCountAt 0) (drop sessionUsersAt ws) → c ≡ take (getD ws cuCountAt 0) (drop cuAt ws)
+      → m ≡ usersMet r o c → eqb (lessOf m (getD ws presentAt 0)) 0 ≡ leaversGone T
+  unfolding counts
+  leavers-part b qr qo qc qm =
+      rw (qm, users-part qr, owners-part qo, cu-part qc, counts-here presentAt (omega arith)) (leavers-words T fits b)
 
   pub rank-part : Bounded T → {p : List ℕ} {r : ℕ} → p ≡ take (getD ws roleCountAt 0) (drop roleRowsAt ws) → (Below (length p) p → r ≡ rankStep p)
       → r ≡ rankStep (T .roleRows)

@@ -1,7 +1,7 @@
 -- Laws of writing lists into the words: one word more, and two lists that grow side by side.
 -- Assumes nothing.
 use mathlib.Core.Path.{_≡_, refl, ap, _∙_}
-use mathlib.Core.List.{List, [], _∷_, _++_}
+use mathlib.Core.List.{List, [], _∷_, _++_, map}
 use Prim.Native.Nat.{ℕ, zero, suc, _+_, _/_, _%_, _<_}
 use native.Mathlib.Omega.{arith}
 use native.Mathlib.Numerals.{add-one}
@@ -12,6 +12,10 @@ use Rattle.tables.specs.code.Reads.{put, withNames}
 use Rattle.tables.specs.code.Layout.{objectRowsAt, operationRowsAt}
 use Rattle.tables.specs.Flat.{room, tabulate}
 use Rattle.tables.proofs.FlatLaws.{length-tabulate}
+
+pub map-more : {A B : Type 0} (f : A → B) (xs : List A) (x : A) → map f (xs ++ (x ∷ [])) ≡ map f xs ++ (f x ∷ [])
+map-more f [] x = refl
+map-more f (y ∷ xs) x = ap (λ r. f y ∷ r) (map-more f xs x)
 
 pub length-put : (ws : List ℕ) (k : ℕ) (xs : List ℕ) → length (put ws k xs) ≡ length ws
 unfolding put

@@ -11,7 +11,7 @@ use Rattle.words.specs.Words.{has, itemOf, joinOf, lessOf, imageOf}
 use Rattle.words.proofs.WordsLaws.{word-ext, word-none, word-self, has-zero, has-in, has-join, has-less, and-true, and-both, any-here, any-witness}
 use Rattle.words.proofs.LoopLaws.{image-turn, image-begin, image-end}
 use Rattle.words.proofs.RelationLaws.{reach, image-image, has-image}
-use Rattle.tables.specs.Tables.{Tables, sessionUsers, sessionRoles}
+use Rattle.tables.specs.Tables.{Tables, userRows, sessionUsers, sessionRoles}
 use Rattle.tables.specs.Functions.{dominates, assigned, active, juniorsOfUsers}
 use Rattle.tables.specs.Checks.{implies, reflexive, ranked, inReach}
 use Rattle.tables.specs.Accepted.{Fits, Below, Bounded}
@@ -76,20 +76,20 @@ reach-found rows assigned users active s {own} qo qv qb =
 -- ---- the definition
 
 -- `roles*` of users is two steps forth.
-pub juniors-words : (T : Tables) (w : ℕ) → imageOf (T .roleRows) (imageOf (T .userRows) w) ≡ juniorsOfUsers T w
+pub juniors-words : (T : Tables) (w : ℕ) → imageOf (T .roleRows) (imageOf (userRows T) w) ≡ juniorsOfUsers T w
 unfolding juniorsOfUsers reach
-juniors-words T w = image-image (T .userRows) (T .roleRows) w
+juniors-words T w = image-image (userRows T) (T .roleRows) w
 
 -- What a user has been assigned is among what these roles dominate, since a role dominates itself.
 module _ (T : Tables) (b : Bounded T) (self : reflexive (T .roleRows) ≡ true) (w : ℕ) where
   abbrev own : ℕ
-  own = imageOf (T .userRows) w
+  own = imageOf (userRows T) w
 
   own-dominated : (x : ℕ) → x < 64 → has own x ≡ true → has (imageOf (T .roleRows) own) x ≡ true
   unfolding reflexive Below
   own-dominated x l h =
-      let p = any-witness 64 (λ u. has w u && has (getD (T .userRows) u 0) x) (sym (has-image (T .userRows) w x l) ∙ h) in
-      let k = has-in (getD (T .userRows) (p .0) 0) (length (T .roleRows)) x (b .users (p .0)) (and-true (has w (p .0)) (has (getD (T .userRows) (p .0) 0) x) (p .2) .1) in
+      let p = any-witness 64 (λ u. has w u && has (getD (userRows T) u 0) x) (sym (has-image (userRows T) w x l) ∙ h) in
+      let k = has-in (getD (userRows T) (p .0) 0) (length (T .roleRows)) x (b .users (p .0)) (and-true (has w (p .0)) (has (getD (userRows T) (p .0) 0) x) (p .2) .1) in
       has-image (T .roleRows) own x l
       ∙ any-here 64 (λ r. has own r && has (getD (T .roleRows) r 0) x) x l
       (and-both h (all-at (length (T .roleRows)) (λ r. dominates (T .roleRows) r r) self x k))
@@ -109,7 +109,7 @@ module _ (T : Tables) (b : Bounded T) (self : reflexive (T .roleRows) ≡ true) 
       absorbed false o i h = refl
 
 pub reach-words : (T : Tables) → Fits T → Bounded T → ranked (T .roleRows) ≡ true
-    → reaching (T .roleRows) (T .userRows) (map itemOf (sessionUsers T)) (sessionRoles T) ≡ inReach T
+    → reaching (T .roleRows) (userRows T) (map itemOf (sessionUsers T)) (sessionRoles T) ≡ inReach T
 unfolding reaching inReach Below
 reach-words T f b ok =
     let R = length (T .roleRows) in
@@ -120,7 +120,7 @@ reach-words T f b ok =
     let u = itemOf (getD (sessionUsers T) s 0) in
     let k : s < length (sessionUsers T) = omega (arith, length-map (T .sessions) (λ s. s .user)) in
     rw (map-at itemOf (sessionUsers T) s k, less-own T b (ranked-self (T .roleRows) ok) u (getD (sessionRoles T) s 0), juniors-words T u)
-    (less-zero R (getD (sessionRoles T) s 0) (juniorsOfUsers T u) (f .roles) (active-below (length (T .userRows)) R (T .sessions) (b .sessions) s))))
+    (less-zero R (getD (sessionRoles T) s 0) (juniorsOfUsers T u) (f .roles) (active-below (length (T .users)) R (T .sessions) (b .sessions) s))))
 
 -- Document 02, N2, moves no tables from accepted to 8: where each active role is assigned, as document 01 asked, no session overreaches.
 pub assigned-reach : (T : Tables) → Fits T → Bounded T → ranked (T .roleRows) ≡ true
@@ -135,7 +135,7 @@ assigned-reach T f b ok direct =
     at s l r k true e =
         let u = getD (sessionUsers T) s 0 in
         let lr : r < 64 = omega (arith, f .roles) in
-        let lu : u < 64 = omega (arith, users-below (length (T .userRows)) (length (T .roleRows)) (T .sessions) (b .sessions) s l, f .users) in
-        let h : has (imageOf (T .userRows) (itemOf u)) r ≡ true =
-        has-image (T .userRows) (itemOf u) r lr ∙ some-item u (λ i. has (getD (T .userRows) i 0) r) lu ∙ direct s r l e in
+        let lu : u < 64 = omega (arith, users-below (length (T .users)) (length (T .roleRows)) (T .sessions) (b .sessions) s l, f .users) in
+        let h : has (imageOf (userRows T) (itemOf u)) r ≡ true =
+        has-image (userRows T) (itemOf u) r lr ∙ some-item u (λ i. has (getD (userRows T) i 0) r) lu ∙ direct s r l e in
         sym (ap (λ (w : ℕ). has w r) (juniors-words T (itemOf u))) ∙ own-dominated T b (ranked-self (T .roleRows) ok) (itemOf u) r lr h

@@ -18,7 +18,7 @@ use Rattle.tables.specs.declared.Step.{Step}
 use Rattle.tables.specs.declared.Step.the-variants.{Stopped, Took}
 use Rattle.tables.specs.Reading.{Bytes, Taken, stop, took, next, refuse, front, byte, count, wordFrom, wordWithin}
 use Rattle.tables.specs.Reading.{wordRow, markedRow, sessionRow}
-use Rattle.tables.specs.code.Reads.{Reads, stops, takes, Is, IsSession}
+use Rattle.tables.specs.code.Reads.{Reads, stops, takes, Is, IsMarked, IsSession}
 
 -- What the code took.
 pub record Got {A : Type 0} (s : Bytes) (Holds : A → ℕ → Type 0) (v n : ℕ) (r : Taken A) : Type 0 where
@@ -186,22 +186,29 @@ module _ (s : Bytes) (at : ℕ) where
       let l : at < length s = omega arith in
       rw (q, front-took s at 9 h, drop-cons s at 0, add-one)
 
-  pub marked-cut : (n : ℕ) → length s - at < 9 → markedRow n (drop at s) ≡ stop CutShort
-  unfolding markedRow next
-  marked-cut n h = rw (front-cut s at 9 h)
+  module _ (highest n : ℕ) where
+    pub marked-cut : length s - at < 9 → markedRow highest n (drop at s) ≡ stop CutShort
+    unfolding markedRow next
+    marked-cut h = rw (front-cut s at 9 h)
 
-  pub marked-none : (n : ℕ) → at + 9 ≤ length s → getD s at 0 ≡ 0 → markedRow n (drop at s) ≡ stop NotEntered
-  unfolding markedRow next refuse
-  marked-none n h q = rw (nine h, eq-eqb (getD s at 0) 0 q)
+    pub marked-none : at + 9 ≤ length s → getD s at 0 ≡ 0 → markedRow highest n (drop at s) ≡ stop NotEntered
+    unfolding markedRow next refuse
+    marked-none h q = rw (nine h, eq-eqb (getD s at 0) 0 q)
 
-  pub marked-bad : (n : ℕ) → at + 9 ≤ length s → 1 < getD s at 0 → markedRow n (drop at s) ≡ stop BadMark
-  unfolding markedRow next refuse
-  marked-bad n h l = rw (nine h, ne-eqb (getD s at 0) 0 (omega arith), lt-ltb 1 (getD s at 0) l)
+    pub marked-bad : at + 9 ≤ length s → highest < getD s at 0 → markedRow highest n (drop at s) ≡ stop BadMark
+    unfolding markedRow next refuse
+    marked-bad h l = rw (nine h, ne-eqb (getD s at 0) 0 (omega arith), lt-ltb highest (getD s at 0) l)
 
-  pub marked-row : (n : ℕ) → at + 9 ≤ length s → (getD s at 0 ≡ 0 → ⊥) → getD s at 0 ≤ 1
-      → markedRow n (drop at s) ≡ wordWithin n (take 8 (drop (at + 1) s)) (drop (at + 1 + 8) s)
-  unfolding markedRow next refuse
-  marked-row n h k l = rw (nine h, ne-eqb (getD s at 0) 0 k, le-ltb 1 (getD s at 0) l)
+    pub marked-row : {c : Step} → at + 9 ≤ length s → (getD s at 0 ≡ 0 → ⊥) → getD s at 0 ≤ highest
+        → Reads s Is c (wordWithin n (take 8 (drop (at + 1) s)) (drop (at + 1 + 8) s)) → Reads s (IsMarked s at) c (markedRow highest n (drop at s))
+    unfolding markedRow next refuse
+    marked-row h k l (stops {e = e} q) =
+        let f : markedRow highest n (drop at s) ≡ stop e = rw (nine h, ne-eqb (getD s at 0) 0 k, le-ltb highest (getD s at 0) l, q) in
+        stops f
+    marked-row h k l (takes {n = m} {a = a} q w e) =
+        let f : markedRow highest n (drop at s) ≡ took (record { mark = getD s at 0; word = a }) (drop m s) =
+        rw (nine h, ne-eqb (getD s at 0) 0 k, le-ltb highest (getD s at 0) l, q) in
+        takes f w (record { mark = refl; word = e; complete = omega arith })
 
   pub session-cut : (users n : ℕ) → length s - at < 9 → sessionRow users n (drop at s) ≡ stop CutShort
   unfolding sessionRow next

@@ -4,17 +4,20 @@ use mathlib.Core.Path.{_≡_, refl, sym, ap, _∙_}
 use mathlib.Core.List.{List, [], _∷_, _++_, map, append-assoc, append-nil}
 use Prim.Native.Nat.{ℕ, suc, _+_, _-_, _≤_, _<_}
 use native.Mathlib.Omega.{arith}
+use lib.Dec.{eqb}
+use borrow.Author.Tests.{eq-eqb, ne-eqb}
 use lib.ListN.{length, getD, drop, set, length-append, length-map}
 use Rattle.answers.specs.declared.Refusal.{Refusal}
-use Rattle.words.specs.Words.{itemOf}
+use Rattle.words.specs.Words.{itemOf, joinOf}
 use Rattle.tables.specs.declared.Step.the-variants.{Took}
 use Rattle.tables.specs.Flat.{room}
-use Rattle.tables.specs.Tables.{Session}
-use Rattle.tables.specs.Reading.{Bytes, Taken, Reader, stop, took, next, rows}
-use Rattle.tables.specs.code.Reads.{Reads, takes, Is, IsSession, put, rowsFrom, putSessions, RowsAt}
-use Rattle.tables.specs.code.Layout.{sessionUsersAt, sessionRolesAt}
+use Rattle.tables.specs.Tables.{User, Session, presentIn}
+use Rattle.tables.specs.Reading.{Bytes, Taken, Reader, stop, took, next, markedRow, userRow, rows, entered, left}
+use Rattle.tables.specs.code.Reads.{Reads, takes, Is, IsMarked, IsSession, put, rowsFrom, putAssigned, putUsers, putSessions, RowsAt}
+use Rattle.tables.specs.code.Layout.{userRowsAt, presentAt, sessionUsersAt, sessionRolesAt}
 use Rattle.tables.proofs.ReadLaws.{Got}
-use Rattle.tables.proofs.PutLaws.{length-put, put-more, put-both}
+use Rattle.tables.proofs.PutLaws.{map-more, length-put, put-more, put-both}
+use Rattle.tables.proofs.PresentLaws.{present-none, present-more, present-same}
 
 -- Rows read before others.
 abbrev onto : {A : Type 0} → List A → Taken (List A) → Taken (List A)
@@ -108,11 +111,74 @@ module _ (row : Reader ℕ) (n to : ℕ) where
       let w : set new (to + i) v ≡ put old to (a .done ++ (r .value ∷ [])) = rw (r .holds, g .words, ← a .size) (put-more old to (a .done) v) in
       storing-more row n g l (r .reads) (r .within) w (ap length w ∙ length-put old to (a .done ++ (r .value ∷ [])))
 
--- Sessions, in two lists.
-map-more : {A B : Type 0} (f : A → B) (xs : List A) (x : A) → map f (xs ++ (x ∷ [])) ≡ map f xs ++ (f x ∷ [])
-map-more f [] x = refl
-map-more f (y ∷ xs) x = ap (λ r. f y ∷ r) (map-more f xs x)
+-- A user's row: whether the user is present, the mark says.
+pub record IsUser (s : Bytes) (at : ℕ) (a : User) (v : ℕ) : Type 0 where
+  pub present : a .present ≡ eqb (getD s at 0) entered
+  pub assigned : a .assigned ≡ v
 
+pub user-got : (s : Bytes) (at roles : ℕ) {v m : ℕ} → Got s (IsMarked s at) v m (markedRow left roles (drop at s)) → Got s (IsUser s at) v m (userRow roles (drop at s))
+unfolding userRow next
+user-got s at roles {v} {m} g =
+    let a : User = record { present = eqb (g .value .mark) entered; assigned = g .value .word } in
+    let q : userRow roles (drop at s) ≡ took a (drop m s) = rw (g .reads) in
+    record {
+      value = a;
+      reads = q;
+      within = g .within;
+      holds = record { present = ap (λ (k : ℕ). eqb k entered) (g .holds .mark); assigned = g .holds .word };
+    }
+
+pub user-stop : (s : Bytes) (at roles : ℕ) {e : Refusal} → markedRow left roles (drop at s) ≡ stop e → userRow roles (drop at s) ≡ stop e
+unfolding userRow next
+user-stop s at roles q = rw q
+
+-- Users: their assigned roles are stored as they are read, and the word of those present is kept beside.
+pub record StoringUsers (row : Reader User) (n : ℕ) (b s : Bytes) (old new : List ℕ) (present from i : ℕ) : Type 0 where
+  pub rows : Storing row n b s putAssigned old new from i
+  pub here : present ≡ presentIn (rows .along .done)
+
+module _ (row : Reader User) (n : ℕ) where
+  pub users-none : (s : Bytes) (at : ℕ) (old : List ℕ) → at ≤ length s → StoringUsers row n (drop at s) s old old 0 at 0
+  unfolding put storing-none along-none
+  users-none s at old h = record { rows = storing-none row n s at putAssigned old refl h; here = present-none }
+
+  module _ {b s : Bytes} {old new : List ℕ} {present from i : ℕ} (g : StoringUsers row n b s old new present from i) where
+    users-more : {v m p : ℕ} → i < n → (r : Got s (IsUser s from) v m (row (drop from s))) → p ≡ presentIn (g .rows .along .done ++ (r .value ∷ []))
+        → StoringUsers row n b s old (set new (userRowsAt + i) v) p m (i + 1)
+    unfolding storing-more along-more
+    users-more {v} {m} {p} l r k =
+        let al = g .rows .along in
+        let d = al .done in
+        let rs = map (λ (u : User). u .assigned) d in
+        let lr : length rs ≡ i = length-map d (λ u. u .assigned) ∙ al .size in
+        let w : set new (userRowsAt + i) v ≡ putAssigned old (d ++ (r .value ∷ [])) =
+        rw (g .rows .words, map-more (λ (u : User). u .assigned) d (r .value), r .holds .assigned, ← lr) (put-more old userRowsAt rs v) in
+        record { rows = storing-more row n (g .rows) l (r .reads) (r .within) w (ap length w ∙ length-put old userRowsAt _); here = k }
+
+    -- A row of mark 1, and one of another mark.
+    pub users-in : {v m p : ℕ} → i < n → n ≤ room → Got s (IsUser s from) v m (row (drop from s)) → getD s from 0 ≡ entered
+        → p ≡ joinOf present (itemOf i) → StoringUsers row n b s old (set new (userRowsAt + i) v) p m (i + 1)
+    users-in l h r e k =
+        let al = g .rows .along in
+        let few : length (al .done) < 64 = omega (arith, al .size) in
+        users-more l r
+        (k ∙ rw (g .here, ← al .size) (present-more (al .done) (r .value) few (r .holds .present ∙ eq-eqb (getD s from 0) entered e)))
+
+    pub users-out : {v m p : ℕ} → i < n → Got s (IsUser s from) v m (row (drop from s)) → (getD s from 0 ≡ entered → ⊥)
+        → p ≡ present → StoringUsers row n b s old (set new (userRowsAt + i) v) p m (i + 1)
+    users-out l r e k =
+        users-more l r (k ∙ g .here ∙ present-same (g .rows .along .done) (r .value) (r .holds .present ∙ ne-eqb (getD s from 0) entered e))
+
+    -- At the end the word is stored.
+    pub users-all : n ≤ i → Reads s (RowsAt putUsers old (set new presentAt present) n) (Took n from) (rows row n b)
+    unfolding putUsers
+    users-all l =
+        let a = g .rows .along in
+        let h : RowsAt putUsers old (set new presentAt present) n (a .done) n =
+        record { count = omega (arith, a .size, a .few); all = refl; words = rw (g .rows .words, g .here) } in
+        takes (along-all row n a l) (a .within) h
+
+-- Sessions, in two lists.
 module _ (row : Reader Session) (n : ℕ) where
   pub sessions-none : (s : Bytes) (at : ℕ) (old : List ℕ) → at ≤ length s → Storing row n (drop at s) s putSessions old old at 0
   unfolding putSessions put

@@ -11,7 +11,7 @@ use Rattle.answers.specs.declared.Refusal.the-variants.{Miscounted}
 use Rattle.tables.specs.declared.Step.{Step}
 use Rattle.tables.specs.Flat.{room}
 use Rattle.tables.specs.Reading.{Bytes, Reader, stop, next, refuse, byte, count, rows, section}
-use Rattle.tables.specs.Reading.{markedRow, permissions}
+use Rattle.tables.specs.Reading.{permissionRow, permissions}
 use Rattle.tables.specs.code.Reads.{Reads, Is, IsCount, RowsAt, SectionAt, withCount}
 use Rattle.tables.proofs.ReadLaws.{Got, read-on}
 
@@ -35,7 +35,7 @@ module _ (s : Bytes) (at product roles : ℕ) where
   permissions-wrong {v} g h = rw (g .reads, g .holds, ne-eqb v product h)
 
   pub permissions-on : {Holds : List ℕ → ℕ → Type 0} {c : Step} {v n : ℕ} → Got s Is v n (byte (drop at s)) → v ≡ product
-      → Reads s Holds c (rows (markedRow roles) v (drop n s)) → Reads s Holds c (permissions product roles (drop at s))
+      → Reads s Holds c (rows (permissionRow roles) v (drop n s)) → Reads s Holds c (permissions product roles (drop at s))
   unfolding permissions next refuse
   permissions-on {v = v} g h x = rw (g .reads, g .holds, eq-eqb v product h) x
 

@@ -9,11 +9,11 @@ use Rattle.answers.specs.declared.Refusal.{Refusal}
 use Rattle.tables.specs.declared.Step.{Step}
 use Rattle.tables.specs.declared.Step.the-variants.{Took}
 use Rattle.tables.specs.Reading.{Bytes, stop, took, next, count, section, permissions, Rights, rights, Collections, collections}
-use Rattle.tables.specs.Reading.{wordRow, markedRow, sessionRow, sections, assembled}
+use Rattle.tables.specs.Reading.{wordRow, userRow, sessionRow, sections, assembled}
 use Rattle.tables.specs.code.Reads.{Reads, stops, takes, IsCount, SectionAt, PermissionsAt, RightsAt, CollectionsAt, Filled}
-use Rattle.tables.specs.code.Reads.{withNames, rowsFrom, putSessions, withRights, withCollections}
+use Rattle.tables.specs.code.Reads.{withNames, rowsFrom, putUsers, putSessions, withRights, withCollections}
 use Rattle.tables.specs.code.Layout.{roleCountAt, userCountAt, sessionCountAt, operationCountAt, objectCountAt, crCountAt, cuCountAt}
-use Rattle.tables.specs.code.Layout.{cpCountAt, roleRowsAt, userRowsAt, crAt, cuAt, cpAt}
+use Rattle.tables.specs.code.Layout.{cpCountAt, roleRowsAt, crAt, cuAt, cpAt}
 use Rattle.tables.proofs.ReadLaws.{Got}
 
 pub product-few : {a b : ℕ} → a ≤ 8 → b ≤ 8 → a * b ≤ 64
@@ -74,11 +74,11 @@ module _ (s : Bytes) where
   sections-stop q = rw q
 
   module _ {old w₁ : List ℕ} {r i : ℕ} (f : Got s (SectionAt (rowsFrom roleRowsAt) roleCountAt old w₁) r i (section (λ n. wordRow n) s)) where
-    pub sections-stop-2 : {e : Refusal} → section (λ _. markedRow r) (drop i s) ≡ stop e → sections s ≡ stop e
+    pub sections-stop-2 : {e : Refusal} → section (λ _. userRow r) (drop i s) ≡ stop e → sections s ≡ stop e
     unfolding sections next
     sections-stop-2 q = rw (f .reads, ← f .holds .count, q)
 
-    module _ {w₂ : List ℕ} {u j : ℕ} (g : Got s (SectionAt (rowsFrom userRowsAt) userCountAt w₁ w₂) u j (section (λ _. markedRow r) (drop i s))) where
+    module _ {w₂ : List ℕ} {u j : ℕ} (g : Got s (SectionAt putUsers userCountAt w₁ w₂) u j (section (λ _. userRow r) (drop i s))) where
       pub sections-stop-3 : {e : Refusal} → section (λ _. sessionRow u r) (drop j s) ≡ stop e → sections s ≡ stop e
       unfolding sections next
       sections-stop-3 q = rw (f .reads, ← f .holds .count, g .reads, ← g .holds .count, q)

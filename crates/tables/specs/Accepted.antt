@@ -4,7 +4,7 @@ use mathlib.Core.Path.{_≡_}
 use mathlib.Core.List.{List, [], _∷_}
 use Prim.Native.Nat.{ℕ, _*_, _^_, _≤_, _<_}
 use lib.ListN.{length, getD}
-use Rattle.tables.specs.Tables.{Session, Tables}
+use Rattle.tables.specs.Tables.{Session, Tables, userRows}
 use Rattle.tables.specs.declared.Outcome.the-variants.{Accepted}
 use Rattle.tables.specs.Checks.{late}
 
@@ -12,7 +12,7 @@ use Rattle.tables.specs.Checks.{late}
 -- "Permissions, exactly operations × objects", CR, CU, CP: "At most 64 words each".
 pub record Fits (T : Tables) : Type 0 where
   pub roles : length (T .roleRows) ≤ 64
-  pub users : length (T .userRows) ≤ 64
+  pub users : length (T .users) ≤ 64
   pub sessions : length (T .sessions) ≤ 64
   pub operations : T .operationCount ≤ 8
   pub objects : T .objectCount ≤ 8
@@ -38,11 +38,11 @@ Every P (x ∷ xs) = P x × Every P xs
 -- The rows: words of roles, of users and of permissions; the sessions.
 pub record Bounded (T : Tables) : Type 0 where
   pub roles : Below (length (T .roleRows)) (T .roleRows)
-  pub users : Below (length (T .roleRows)) (T .userRows)
-  pub sessions : Every (Known (length (T .userRows)) (length (T .roleRows))) (T .sessions)
+  pub users : Below (length (T .roleRows)) (userRows T)
+  pub sessions : Every (Known (length (T .users)) (length (T .roleRows))) (T .sessions)
   pub permissions : Below (length (T .roleRows)) (T .permissionRows)
   pub crs : Below (length (T .roleRows)) (T .cr)
-  pub cus : Below (length (T .userRows)) (T .cu)
+  pub cus : Below (length (T .users)) (T .cu)
   pub cps : Below (length (T .permissionRows)) (T .cp)
 
 -- What is checked while the sections are read.
@@ -50,7 +50,7 @@ pub record Sound (T : Tables) : Type 0 where
   pub fits : Fits T
   pub bounded : Bounded T
 
--- "Tables are accepted when no check on them refuses": those, and "After the last section" rank, overreach and twin.
+-- "Tables are accepted when no check on them refuses": those, and "After the last section" left, rank, overreach and twin.
 pub record Passes (T : Tables) : Type 0 where
   pub sound : Sound T
   pub late : late T ≡ Accepted

@@ -1,4 +1,4 @@
--- Document 01, "Tables": bytes, and words as bytes.
+-- Document 01, "Tables": bytes, words as bytes, and the marks of rows.
 -- Assumes nothing.
 use mathlib.Core.List.{List, [], _∷_}
 use Prim.Native.Nat.{ℕ, zero, suc, _+_, _*_, _/_, _%_, _<_}
@@ -19,3 +19,10 @@ wordFrom (b ∷ s) = b + 256 * wordFrom s
 unfoldable pub lowestFirst : ℕ → ℕ → Bytes
 lowestFirst zero w = []
 lowestFirst (suc n) w = w % 256 ∷ lowestFirst n (w / 256)
+
+-- "a mark byte (1 entered, 0 never entered)"; document 02, N6: "Mark 2 in a user row means left."
+abbrev pub entered : ℕ
+entered = 1
+
+abbrev pub left : ℕ
+left = 2

@@ -1,4 +1,4 @@
--- Document 01, "Turned back" 7 to 9: what is asked of the tables as a whole, once all sections are read.
+-- Document 01, "Turned back" 7 to 9, and document 02, N6, 20: what is asked of the tables as a whole, once all sections are read.
 -- Assumes nothing.
 use mathlib.Core.Bool.{Bool, true, _&&_, _||_, not, cond}
 use mathlib.Core.List.{List, [], _∷_}
@@ -7,10 +7,10 @@ use lib.Dec.{eqb}
 use lib.ListN.{length, getD}
 use Rattle.words.specs.Words.{has, itemOf}
 use Rattle.answers.specs.declared.Refusal.{Refusal}
-use Rattle.answers.specs.declared.Refusal.the-variants.{Rank, Overreach, Twin}
+use Rattle.answers.specs.declared.Refusal.the-variants.{Left, Rank, Overreach, Twin}
 use Rattle.tables.specs.declared.Outcome.{Outcome}
 use Rattle.tables.specs.declared.Outcome.the-variants.{Refused, Accepted}
-use Rattle.tables.specs.Tables.{Tables, sessionUsers}
+use Rattle.tables.specs.Tables.{Tables, userRows, isPresent, sessionUsers}
 use Rattle.tables.specs.Functions.{dominates, active, juniorsOfUsers}
 
 -- f holds of every number below n.
@@ -20,6 +20,18 @@ allTo (suc n) f = allTo n f && f n
 
 abbrev pub implies : Bool → Bool → Bool
 implies a b = not a || b
+
+-- 20, left, as document 02, N6, adds it: "a row of mark 2 with a word not zero, a session of a leaver, or a CU word naming one".
+-- Nothing of that is there of user u;
+unfoldable pub withdrawn : Tables → ℕ → Bool
+withdrawn T u =
+    eqb (getD (userRows T) u 0) 0
+    && (allTo (length (T .sessions)) (λ s. not (eqb (getD (sessionUsers T) s 0) u))
+    && allTo (length (T .cu)) (λ i. not (has (getD (T .cu) i 0) u)))
+
+-- and so it is of each who left.
+unfoldable pub leaversGone : Tables → Bool
+leaversGone T = allTo (length (T .users)) (λ u. isPresent (T .users) u || withdrawn T u)
 
 -- 7, rank: "role rows not reflexive, transitive, antisymmetric"; each over the whole hierarchy.
 unfoldable pub reflexive : List ℕ → Bool
@@ -64,14 +76,15 @@ apart ws = allTo (length ws) (λ i. allTo i (λ j. not (eqb (getD ws j 0) (getD 
 abbrev pub noTwin : Tables → Bool
 noTwin T = apart (T .cr) && (apart (T .cu) && apart (T .cp))
 
--- "After the last section come 10, 7, 8, 9 in that order": the checks of the whole, each with its refusal; the first that fails is the answer.
+-- "After the last section come 10, 7, 8, 9 in that order", and 20 "after 10 and before 7": the checks of the whole, each with its refusal; the first that fails is the answer.
 pub record Check : Type 0 where
   pub refusal : Refusal
   pub holds : Bool
 
 unfoldable pub lateChecks : Tables → List Check
 lateChecks T =
-    record { refusal = Rank; holds = ranked (T .roleRows) }
+    record { refusal = Left; holds = leaversGone T }
+    ∷ record { refusal = Rank; holds = ranked (T .roleRows) }
     ∷ record { refusal = Overreach; holds = inReach T }
     ∷ record { refusal = Twin; holds = noTwin T }
     ∷ []

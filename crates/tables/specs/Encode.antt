@@ -1,17 +1,26 @@
 -- Document 01, "Tables": the bytes of tables. A section is one line of `sectionBytes`.
 -- Assumes nothing.
+use mathlib.Core.Bool.{Bool, true, false}
 use mathlib.Core.List.{List, [], _∷_, _++_, map}
 use Prim.Native.Nat.{ℕ, _+_, _*_}
 use lib.ListN.{length}
-use Rattle.tables.specs.Tables.{Session, Tables}
-use Rattle.tables.specs.Bytes.{Bytes, lowestFirst}
+use Rattle.tables.specs.Tables.{User, Session, Tables}
+use Rattle.tables.specs.Bytes.{Bytes, lowestFirst, entered, left}
 
--- "A row is a word"; "A row is a mark byte (1 entered ..), then a word"; "A row is a user number (1 byte), then a word of active roles."
+-- "A row is a word"; "A row is a mark byte (1 entered ..), then a word", and of a user "Mark 2 .. means left" (document 02, N6);
+-- "A row is a user number (1 byte), then a word of active roles."
 unfoldable pub wordBytes : ℕ → Bytes
 wordBytes w = lowestFirst 8 w
 
-unfoldable pub markedBytes : ℕ → Bytes
-markedBytes w = 1 ∷ lowestFirst 8 w
+abbrev pub markOf : Bool → ℕ
+markOf true = entered
+markOf false = left
+
+unfoldable pub userBytes : User → Bytes
+userBytes u = markOf (u .present) ∷ lowestFirst 8 (u .assigned)
+
+unfoldable pub permissionBytes : ℕ → Bytes
+permissionBytes w = entered ∷ lowestFirst 8 w
 
 unfoldable pub sessionBytes : Session → Bytes
 sessionBytes s = s .user ∷ lowestFirst 8 (s .active)
@@ -32,11 +41,11 @@ countOnly n = n ∷ []
 unfoldable pub sectionBytes : Tables → List Bytes
 sectionBytes T =
     counted wordBytes (T .roleRows)
-    ∷ counted markedBytes (T .userRows)
+    ∷ counted userBytes (T .users)
     ∷ counted sessionBytes (T .sessions)
     ∷ countOnly (T .operationCount)
     ∷ countOnly (T .objectCount)
-    ∷ counted markedBytes (T .permissionRows)
+    ∷ counted permissionBytes (T .permissionRows)
     ∷ counted wordBytes (T .cr)
     ∷ counted wordBytes (T .cu)
     ∷ counted wordBytes (T .cp)
@@ -49,4 +58,4 @@ encode T = joined (sectionBytes T)
 abbrev pub bytesOf : Tables → ℕ
 bytesOf T =
     9 + 8 * (length (T .roleRows) + length (T .cr) + length (T .cu) + length (T .cp))
-    + 9 * (length (T .userRows) + length (T .sessions) + length (T .permissionRows))
+    + 9 * (length (T .users) + length (T .sessions) + length (T .permissionRows))

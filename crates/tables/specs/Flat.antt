@@ -4,7 +4,7 @@ use mathlib.Core.List.{List, [], _∷_, _++_, map}
 use Prim.Native.Nat.{ℕ, zero, suc, _/_, _%_}
 use lib.ListN.{length}
 use Rattle.words.specs.Words.{itemOf}
-use Rattle.tables.specs.Tables.{Tables, sessionUsers, sessionRoles}
+use Rattle.tables.specs.Tables.{Tables, userRows, presentUsers, sessionUsers, sessionRoles}
 
 -- Eleven sections of 64 words each: the words of a section, and of all.
 abbrev pub room : ℕ
@@ -24,10 +24,10 @@ unfoldable pub tabulate : ℕ → (ℕ → ℕ) → List ℕ
 tabulate zero f = []
 tabulate (suc n) f = f 0 ∷ tabulate n (λ i. f (suc i))
 
--- Section 0: how many roles, users, sessions, operations, objects, permissions, and words of CR, CU, CP.
+-- Section 0: how many roles and users, which users are present, how many sessions, operations, objects, permissions, and words of CR, CU, CP.
 unfoldable pub counts : Tables → List ℕ
 counts T =
-    length (T .roleRows) ∷ length (T .userRows) ∷ length (T .sessions) ∷ T .operationCount ∷ T .objectCount
+    length (T .roleRows) ∷ length (T .users) ∷ presentUsers T ∷ length (T .sessions) ∷ T .operationCount ∷ T .objectCount
     ∷ length (T .permissionRows) ∷ length (T .cr) ∷ length (T .cu) ∷ length (T .cp) ∷ []
 
 -- Sections 9 and 10: of each permission its object and its operation, as words of one item:
@@ -41,7 +41,7 @@ operationRows T = tabulate (length (T .permissionRows)) (λ p. itemOf (p / T .ob
 -- The sections in their order; section k starts at word room × k. Section 3 has of each session its user, as a word of one item.
 unfoldable pub sections : Tables → List (List ℕ)
 sections T =
-    counts T ∷ T .roleRows ∷ T .userRows ∷ map itemOf (sessionUsers T) ∷ sessionRoles T ∷ T .permissionRows
+    counts T ∷ T .roleRows ∷ userRows T ∷ map itemOf (sessionUsers T) ∷ sessionRoles T ∷ T .permissionRows
     ∷ T .cr ∷ T .cu ∷ T .cp ∷ objectRows T ∷ operationRows T ∷ []
 
 -- Sections one after another, each with room for 64 words.

@@ -6,7 +6,7 @@ use Prim.Native.Nat.{ℕ, _+_, _*_}
 use lib.Dec.{eqb, ltb}
 use lib.ListN.{length, getD}
 use Rattle.words.specs.Words.{has, wordOf, anyTo}
-use Rattle.tables.specs.Tables.{Tables, sessionUsers, sessionRoles}
+use Rattle.tables.specs.Tables.{Tables, userRows, sessionUsers, sessionRoles}
 
 -- "Junior or equal" is domination by the role rows: role r is senior or equal to q.
 abbrev pub dominates : List ℕ → ℕ → ℕ → Bool
@@ -14,7 +14,7 @@ dominates rows r q = has (getD rows r 0) q
 
 -- UA: user u is assigned role r. Session s has the role r active. PA: permission p is held by role r.
 abbrev pub assigned : Tables → ℕ → ℕ → Bool
-assigned T u r = has (getD (T .userRows) u 0) r
+assigned T u r = has (getD (userRows T) u 0) r
 
 abbrev pub active : Tables → ℕ → ℕ → Bool
 active T s r = has (getD (sessionRoles T) s 0) r

@@ -1,4 +1,4 @@
--- Document 01, "Tables" and "Turned back" 1 to 10: from bytes to a refusal or the tables, front to back; document 02, N4: to a step of the rank test.
+-- Document 01, "Tables" and "Turned back" 1 to 10, document 02, N6: from bytes to a refusal or the tables, front to back; document 02, N4: to a step of the rank test.
 -- Assumes nothing.
 use mathlib.Core.Bool.{Bool, true, false, not, cond}
 use mathlib.Core.List.{List, [], _∷_}
@@ -10,10 +10,10 @@ use Rattle.answers.specs.declared.Refusal.{Refusal}
 use Rattle.answers.specs.declared.Refusal.the-variants.{CutShort, Overfull, NotEntered, BadMark, NoSuchItem, Miscounted, Rank, LeftOver}
 use Rattle.tables.specs.declared.Outcome.{Outcome}
 use Rattle.tables.specs.declared.Outcome.the-variants.{Refused, Accepted}
-use Rattle.tables.specs.Tables.{Session, Tables}
+use Rattle.tables.specs.Tables.{User, Session, Tables}
 use Rattle.tables.specs.Checks.{rankStep, late}
 use Rattle.tables.specs.Flat.{wholeLength, flat}
-unfoldable pub use Rattle.tables.specs.Bytes.{Bytes, wordFrom}
+unfoldable pub use Rattle.tables.specs.Bytes.{Bytes, wordFrom, entered, left}
 
 -- "the first refusal met is the answer and nothing further is read": a refusal, or what was taken and the bytes left.
 pub data Taken (A : Type 0) : Type 0 where
@@ -72,13 +72,30 @@ wordRow n = do
   b ← front 8
   wordWithin n b
 
--- "A row is a mark byte (1 entered, 0 never entered), then a word of assigned roles". 3: "mark 0"; 4: "mark above 1".
-unfoldable pub markedRow : ℕ → Reader ℕ
-markedRow n = do
+-- "A row is a mark byte (1 entered, 0 never entered), then a word". 3: "mark 0"; 4: a mark above the highest that such rows know.
+pub record MarkedRow : Type 0 where
+  pub mark : ℕ
+  pub word : ℕ
+
+unfoldable pub markedRow : ℕ → ℕ → Reader MarkedRow
+markedRow highest n = do
   b ← front 9
   refuse (eqb (getD b 0 0) 0) NotEntered
-  refuse (ltb 1 (getD b 0 0)) BadMark
-  wordWithin n (drop 1 b)
+  refuse (ltb highest (getD b 0 0)) BadMark
+  w ← wordWithin n (drop 1 b)
+  give (record { mark = getD b 0 0; word = w })
+
+-- A user's row: "then a word of assigned roles". Document 02, N6: "Bad mark (4) in a user row is now a mark above 2."
+unfoldable pub userRow : ℕ → Reader User
+userRow roles = do
+  m ← markedRow left roles
+  give (record { present = eqb (m .mark) entered; assigned = m .word })
+
+-- A permission's: "Permission rows still know marks 0 and 1 only."
+unfoldable pub permissionRow : ℕ → Reader ℕ
+permissionRow roles = do
+  m ← markedRow entered roles
+  give (m .word)
 
 -- "A row is a user number (1 byte), then a word of active roles." 5: "user number at or above its count".
 unfoldable pub sessionRow : ℕ → ℕ → Reader Session
@@ -112,7 +129,7 @@ unfoldable pub permissions : ℕ → ℕ → Reader (List ℕ)
 permissions product roles = do
   n ← byte
   refuse (not (eqb n product)) Miscounted
-  rows (markedRow roles) n
+  rows (permissionRow roles) n
 
 -- Sections 4 to 6: "Operations, at most 8; count only." "Objects, at most 8; count only." Permissions.
 pub record Rights : Type 0 where
@@ -141,11 +158,11 @@ collections roles users permissions = do
   give (record { cr = r; cu = u; cp = p })
 
 -- The nine sections.
-abbrev pub assembled : List ℕ → List ℕ → List Session → Rights → Collections → Tables
+abbrev pub assembled : List ℕ → List User → List Session → Rights → Collections → Tables
 assembled rs us ss q c =
     record {
       roleRows = rs;
-      userRows = us;
+      users = us;
       sessions = ss;
       operationCount = q .operationCount;
       objectCount = q .objectCount;
@@ -158,7 +175,7 @@ assembled rs us ss q c =
 unfoldable pub sections : Reader Tables
 sections = do
   rs ← roles
-  us ← section (λ _. markedRow (length rs))
+  us ← section (λ _. userRow (length rs))
   ss ← section (λ _. sessionRow (length us) (length rs))
   q ← rights (length rs)
   c ← collections (length rs) (length us) (length (q .permissionRows))
@@ -168,7 +185,7 @@ sections = do
 unfoldable pub nothingLeft : Reader (Unit {0})
 nothingLeft s = refuse (ltb 0 (length s)) LeftOver s
 
--- "After the last section come 10, 7, 8, 9 in that order": 10 here, the others in `late`.
+-- "After the last section come 10, 7, 8, 9 in that order", 20 between 10 and 7: 10 here, the others in `late`.
 unfoldable pub settle : Outcome → Reader (Unit {0})
 settle (Refused e) s = stop e
 settle Accepted s = took tt s

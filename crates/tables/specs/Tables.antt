@@ -1,7 +1,15 @@
 -- The tables that were accepted (document 01, "Tables"), as lists of words.
 -- Assumes nothing.
-use mathlib.Core.List.{List, map}
-use Prim.Native.Nat.{ℕ}
+use mathlib.Core.Bool.{Bool, false}
+use mathlib.Core.List.{List, [], _∷_, map}
+use Prim.Native.Nat.{ℕ, _+_}
+use lib.ListN.{getD}
+use Rattle.words.specs.Words.{gate, wordOf}
+
+-- A user: present (mark 1) or left (mark 2; document 02, N6), and the assigned roles (UA).
+pub record User : Type 0 where
+  pub present : Bool
+  pub assigned : ℕ
 
 -- A session: its user's number and its active roles.
 pub record Session : Type 0 where
@@ -10,7 +18,7 @@ pub record Session : Type 0 where
 
 pub record Tables : Type 0 where
   pub roleRows : List ℕ  -- 1: for each role the roles dominated, itself included
-  pub userRows : List ℕ  -- 2: for each user the assigned roles (UA)
+  pub users : List User  -- 2: a row for each user number, leavers' rows included
   pub sessions : List Session  -- 3
   pub operationCount : ℕ  -- 4
   pub objectCount : ℕ  -- 5
@@ -18,6 +26,25 @@ pub record Tables : Type 0 where
   pub cr : List ℕ  -- 7: words of roles
   pub cu : List ℕ  -- 8: words of users
   pub cp : List ℕ  -- 9: words of permissions
+
+-- Of each user number the assigned roles.
+abbrev pub userRows : Tables → List ℕ
+userRows T = map (λ u. u .assigned) (T .users)
+
+-- Document 02, N6: "U is then the users marked 1": whether user u is one of them, and their word.
+abbrev pub isPresent : List User → ℕ → Bool
+isPresent us u = getD (map (λ x. x .present) us) u false
+
+unfoldable pub presentIn : List User → ℕ
+presentIn us = wordOf 64 (isPresent us)
+
+abbrev pub presentUsers : Tables → ℕ
+presentUsers T = presentIn (T .users)
+
+-- How many they are.
+unfoldable pub presentCount : List User → ℕ
+presentCount [] = 0
+presentCount (u ∷ us) = gate (u .present) 1 + presentCount us
 
 -- The sessions' users, and their active roles.
 abbrev pub sessionUsers : Tables → List ℕ

@@ -1,11 +1,11 @@
-// What is asked of the tables as a whole: rank, overreach, twins.
+// What is asked of the tables as a whole: leavers, rank, overreach, twins.
 // Each check takes the very rows that it is about.
 ghost use mathlib.Core.Path.{_≡_};
 ghost use mathlib.Core.Bool.{true};
 ghost use Prim.Native.Nat.{_+_, _≤_};
 ghost use lib.ListN.{length, take, drop};
-ghost use Rattle.tables.specs.Checks.{rankStep, ranked, inReach as inReachOf, noTwin, late};
-ghost use Rattle.tables.specs.code.Reads.{coveredBy, reaching, CountsFit};
+ghost use Rattle.tables.specs.Checks.{leaversGone, rankStep, ranked, inReach as inReachOf, noTwin, late};
+ghost use Rattle.tables.specs.code.Reads.{coveredBy, reaching, usersMet, CountsFit};
 ghost use Rattle.tables.specs.Tables.{Tables};
 ghost use Rattle.tables.specs.Accepted.{Fits, Bounded};
 ghost use Rattle.tables.specs.code.Layout.{Whole};
@@ -15,10 +15,13 @@ use crate::hierarchy::first_failing;
 use crate::layout;
 use crate::twins::apart;
 use answers::Refusal;
+use words::all;
 use words::image;
 use words::item;
+use words::join;
 use words::less;
 use words::lowest;
+use words::preimage;
 use words::row;
 
 // Whether the roles of `over` are dominated by roles of `own`. No more rows are looked at than that takes.
@@ -63,6 +66,36 @@ pub fn part(words: &[u64], from: usize, n: usize) -> &[u64]
     &words[from..end]
 }
 
+// The users who have a role or a session, or stand in a word of CU.
+pub fn users_met(rows: &[u64], theirs: &[u64], cu: &[u64]) -> u64
+    ensures { λ r. ⌜ r ≡ usersMet (now (rows .entry)) (now (theirs .entry)) (now (cu .entry)) ⌝ }
+{
+    let roled = preimage(rows, all(layout::ROOM));
+    let busy = image(theirs, all(theirs.len()));
+    let named = image(cu, all(cu.len()));
+    join(roled, join(busy, named))
+}
+
+// Whether nothing is left of those who left. Where nobody did, nothing is looked at.
+pub fn leavers_gone(words: &[u64]) -> bool
+    requires { ⌜ CountsFit (now words) ⌝ }
+    ensures { λ b. ⌜ ((T : Tables) → Fits T → Bounded T → now (words .entry) ≡ flat T → b ≡ leaversGone T) ⌝ }
+{
+    let users = words[layout::USER_COUNT] as usize;
+    let present = words[layout::PRESENT];
+    if present == all(users) {
+        return true;
+    }
+    let rows = part(words, layout::USER_ROWS, users);
+    let theirs = part(
+        words,
+        layout::SESSION_USERS,
+        words[layout::SESSION_COUNT] as usize,
+    );
+    let cu = part(words, layout::CU, words[layout::CU_COUNT] as usize);
+    less(users_met(rows, theirs, cu), present) == 0
+}
+
 // The first step of the hierarchy test that fails on the tables' roles, 0 where none does.
 pub fn failing_step(words: &[u64]) -> u32
     requires { ⌜ CountsFit (now words) ⌝ }
@@ -100,11 +133,14 @@ pub fn collections_apart(words: &[u64]) -> bool
     apart(part(words, layout::CP, words[layout::CP_COUNT] as usize))
 }
 
-// The checks 7, 8 and 9, in that order.
+// The checks 20, 7, 8 and 9, in that order.
 pub fn checked(words: &[u64]) -> Outcome
     requires { ⌜ CountsFit (now words) ⌝ }
     ensures { λ r. ⌜ ((T : Tables) → Fits T → Bounded T → now (words .entry) ≡ flat T → r ≡ late T) ⌝ }
 {
+    if !leavers_gone(words) {
+        return Outcome::Refused(Refusal::Left);
+    }
     if failing_step(words) != 0 {
         return Outcome::Refused(Refusal::Rank);
     }

@@ -5,24 +5,26 @@ pub const ROOM: usize = 64;
 
 pub const WHOLE: usize = ROOM * 11;
 
-// The first section has the counts, in the sections' order of document 01.
+// The first section has the counts, in the sections' order of document 01, and behind the users' the word of those present.
 pub const ROLE_COUNT: usize = 0;
 
 pub const USER_COUNT: usize = 1;
 
-pub const SESSION_COUNT: usize = 2;
+pub const PRESENT: usize = 2;
 
-pub const OPERATION_COUNT: usize = 3;
+pub const SESSION_COUNT: usize = 3;
 
-pub const OBJECT_COUNT: usize = 4;
+pub const OPERATION_COUNT: usize = 4;
 
-pub const PERMISSION_COUNT: usize = 5;
+pub const OBJECT_COUNT: usize = 5;
 
-pub const CR_COUNT: usize = 6;
+pub const PERMISSION_COUNT: usize = 6;
 
-pub const CU_COUNT: usize = 7;
+pub const CR_COUNT: usize = 7;
 
-pub const CP_COUNT: usize = 8;
+pub const CU_COUNT: usize = 8;
+
+pub const CP_COUNT: usize = 9;
 
 // Where the others begin.
 pub const ROLE_ROWS: usize = ROOM;

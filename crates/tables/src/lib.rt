@@ -31,7 +31,7 @@ pub struct Loaded {
     pub words: [u64; WHOLE],
 }
 
-// A row of one word, with the count that its items are below: the word alone, or a mark and the word.
+// A row of one word, with the count that its items are below: the word alone, or behind the mark of what was entered.
 pub enum Row {
     Plain(u64),
     Marked(u64),

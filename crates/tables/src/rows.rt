@@ -5,10 +5,15 @@ ghost use Prim.Native.Nat.{_+_, _≤_, _<_, _^_};
 ghost use lib.Dec.{leb};
 ghost use lib.ListN.{length, drop, take};
 ghost use Rattle.tables.specs.Reading.{wordFrom, byte as byteOf, count as countOf, wordWithin, wordRow, markedRow, sessionRow};
-ghost use Rattle.tables.specs.code.Reads.{Reads, Is, IsCount, IsSession, rowOf, RowFits};
+ghost use Rattle.tables.specs.code.Reads.{Reads, Is, IsCount, IsMarked, IsSession, rowOf, RowFits};
 use crate::Row;
 use crate::Step;
 use answers::Refusal;
+
+// The marks of rows: entered, and of a user's row left (document 02, N6).
+pub const ENTERED: u8 = 1;
+
+pub const LEFT: u8 = 2;
 
 pub fn wide(x: u8) -> u64
     ensures { λ r. ⌜ r ≡ x ⌝ }
@@ -94,10 +99,11 @@ pub fn word_row(bytes: &[u8], at: usize, n: u64) -> Step
     word_within(bytes, at, n)
 }
 
-pub fn marked_row(bytes: &[u8], at: usize, n: u64) -> Step
+// The mark is the byte at `at`; the value is the word behind it.
+pub fn marked_row(bytes: &[u8], at: usize, highest: u8, n: u64) -> Step
     requires { ⌜ at ≤ length (now bytes) ⌝ }
     requires { ⌜ n ≤ 64 ⌝ }
-    ensures { λ r. ⌜ Reads (now (bytes .entry)) Is r (markedRow n (drop at (now (bytes .entry)))) ⌝ }
+    ensures { λ r. ⌜ Reads (now (bytes .entry)) (IsMarked (now (bytes .entry)) at) r (markedRow highest n (drop at (now (bytes .entry)))) ⌝ }
 {
     if bytes.len() - at < 9 {
         return Step::Stopped(Refusal::CutShort);
@@ -106,7 +112,7 @@ pub fn marked_row(bytes: &[u8], at: usize, n: u64) -> Step
     if mark == 0 {
         return Step::Stopped(Refusal::NotEntered);
     }
-    if 1 < mark {
+    if highest < mark {
         return Step::Stopped(Refusal::BadMark);
     }
     word_within(bytes, at + 1, n)
@@ -119,7 +125,7 @@ pub fn row(bytes: &[u8], at: usize, kind: Row) -> Step
 {
     match kind {
         Row::Plain(items) => word_row(bytes, at, items),
-        Row::Marked(items) => marked_row(bytes, at, items),
+        Row::Marked(items) => marked_row(bytes, at, ENTERED, items),
     }
 }
 

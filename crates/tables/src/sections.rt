@@ -4,11 +4,11 @@ ghost use mathlib.Core.Path.{_≡_};
 ghost use Prim.Native.Nat.{_+_, _*_, _≤_, _<_};
 ghost use lib.ListN.{length, drop};
 ghost use Rattle.tables.specs.Flat.{room, wholeLength};
-ghost use Rattle.tables.specs.Reading.{wordRow, sessionRow, rows as rowsOf, section as sectionOf};
+ghost use Rattle.tables.specs.Reading.{wordRow, userRow, sessionRow, rows as rowsOf, section as sectionOf};
 ghost use Rattle.tables.specs.Reading.{permissions as permissionsOf, rights as rightsOf};
 ghost use Rattle.tables.specs.Reading.{collections as collectionsOf, sections as sectionsOf};
-ghost use Rattle.tables.specs.code.Layout.{Whole, roleCountAt, roleRowsAt, sessionCountAt};
-ghost use Rattle.tables.specs.code.Reads.{Reads, rowOf, RowFits, rowsFrom, putSessions, RowsAt, SectionAt};
+ghost use Rattle.tables.specs.code.Layout.{Whole, roleCountAt, roleRowsAt, userCountAt, sessionCountAt};
+ghost use Rattle.tables.specs.code.Reads.{Reads, rowOf, RowFits, rowsFrom, putUsers, putSessions, RowsAt, SectionAt};
 ghost use Rattle.tables.specs.code.Reads.{withNames, PermissionsAt, RightsAt, CollectionsAt, Filled};
 use crate::Row;
 use crate::Step;
@@ -24,6 +24,7 @@ use crate::layout::OPERATION_COUNT;
 use crate::layout::OPERATION_ROWS;
 use crate::layout::PERMISSION_COUNT;
 use crate::layout::PERMISSION_ROWS;
+use crate::layout::PRESENT;
 use crate::layout::ROLE_COUNT;
 use crate::layout::ROLE_ROWS;
 use crate::layout::SESSION_COUNT;
@@ -31,12 +32,16 @@ use crate::layout::SESSION_ROLES;
 use crate::layout::SESSION_USERS;
 use crate::layout::USER_COUNT;
 use crate::layout::USER_ROWS;
+use crate::rows::ENTERED;
+use crate::rows::LEFT;
 use crate::rows::byte;
 use crate::rows::count;
+use crate::rows::marked_row;
 use crate::rows::row;
 use crate::rows::session_row;
 use answers::Refusal;
 use words::item;
+use words::join;
 
 // The rows of a section of words.
 pub fn rows(bytes: &[u8], at: usize, n: usize, kind: Row, words: &mut [u64], to: usize) -> Step
@@ -56,6 +61,35 @@ pub fn rows(bytes: &[u8], at: usize, n: usize, kind: Row, words: &mut [u64], to:
         from = next;
         i += 1;
     }
+    Step::Took {
+        value: n as u64,
+        next: from,
+    }
+}
+
+// The rows of the users: their assigned roles, and the word of those present.
+pub fn user_rows(bytes: &[u8], at: usize, n: usize, roles: u64, words: &mut [u64]) -> Step
+    requires { ⌜ at ≤ length (now bytes) ⌝ }
+    requires { ⌜ (n ≤ room) × (roles ≤ 64) ⌝ }
+    requires { ⌜ Whole (now words) ⌝ }
+    ensures { λ r. ⌜ Reads (now (bytes .entry)) (RowsAt putUsers (now (words .entry)) (now (words .exit)) n) r (rowsOf (userRow roles) n (drop at (now (bytes .entry)))) ⌝ }
+{
+    let mut present = 0;
+    let mut from = at;
+    let mut i: usize = 0;
+    while i < n {
+        let row = marked_row(bytes, from, LEFT, roles);
+        let Step::Took { value, next } = row else {
+            return row;
+        };
+        if bytes[from] == ENTERED {
+            present = join(present, item(i));
+        }
+        words[USER_ROWS + i] = value;
+        from = next;
+        i += 1;
+    }
+    words[PRESENT] = present;
     Step::Took {
         value: n as u64,
         next: from,
@@ -148,6 +182,20 @@ pub fn roles(bytes: &[u8], words: &mut [u64]) -> Step
         words,
         ROLE_ROWS,
     )
+}
+
+// Section 2.
+pub fn users(bytes: &[u8], at: usize, roles: u64, words: &mut [u64]) -> Step
+    requires { ⌜ at ≤ length (now bytes) ⌝ }
+    requires { ⌜ (roles ≤ 64) × (Whole (now words)) ⌝ }
+    ensures { λ r. ⌜ Reads (now (bytes .entry)) (SectionAt putUsers userCountAt (now (words .entry)) (now (words .exit))) r (sectionOf (λ n. userRow roles) (drop at (now (bytes .entry)))) ⌝ }
+{
+    let read = count(bytes, at, 64);
+    let Step::Took { value, next } = read else {
+        return read;
+    };
+    words[USER_COUNT] = value;
+    user_rows(bytes, next, value as usize, roles, words)
 }
 
 // Section 3.
@@ -246,7 +294,7 @@ pub fn sections(bytes: &[u8], words: &mut [u64]) -> Step
     let Step::Took { value: r, next: i } = first else {
         return first;
     };
-    let second = section(bytes, i, Row::Marked(r), words, USER_COUNT, USER_ROWS);
+    let second = users(bytes, i, r, words);
     let Step::Took { value: u, next: j } = second else {
         return second;
     };

@@ -15,8 +15,10 @@ use lib.Seq.{getD-append-seam}
 use borrow.Author.Tests.{eqb-true}
 use Rattle.words.specs.Words.{has, allOf, itemOf, meetOf, joinOf, lessOf}
 use Rattle.words.proofs.WordsLaws.{has-in, and-true, all-lt}
-use Rattle.tables.specs.Tables.{Tables}
-use Rattle.tables.specs.Accepted.{Below, Sound}
+use Rattle.tables.specs.Tables.{Tables, isPresent}
+use Rattle.tables.specs.Accepted.{Below, Passes}
+use Rattle.tables.proofs.PresentLaws.{present-is, present-lt, present-word}
+use Rattle.tables.proofs.LeaverLaws.{named-present, passes-gone}
 use Rattle.syntax.specs.Term.{bU, Fn, user, roles, roles*, sessions, permissions, permissions*, object}
 use Rattle.syntax.specs.Term.{meet, join, Term, base, call, oe, ao, two, Choices, Op, calls, joins}
 use Rattle.syntax.specs.Bytes.{Bytes}
@@ -122,7 +124,7 @@ module _ (T : Tables) where
 words-among : (rows ws : List ℕ) → length rows ≤ 64 → Below (length rows) ws → (x : ℕ) → Among (allOf (length rows)) (getD ws x 0)
 words-among rows ws few b x = among-all (length rows) (getD ws x 0) few (row-inside (length rows) ws b x)
 
-module _ (T : Tables) (sound : Sound T) (σ : Choices) (c : List ℕ) where
+module _ (T : Tables) (pass : Passes T) (σ : Choices) (c : List ℕ) where
   -- The items of the variables that a term names are of their kinds.
   abbrev pub Ranged : Term → Type 0
   Ranged (base b) = Unit {0}
@@ -135,11 +137,11 @@ module _ (T : Tables) (sound : Sound T) (σ : Choices) (c : List ℕ) where
   unfolding oneKind inside oneValue kindItems sortItems
   one-among (element s) l e x h = let z : _≡_ {A = ℕ} 0 1 = cc in absurd (omega arith)
   one-among (set s) l e x h = let p : element s ≡ l = cc in rw (← p) (item-among (sortItems T s) x h)
-  one-among (collection CU) l e x h = let p : set sU ≡ l = cc in rw (← p) (words-among (T .userRows) (T .cu) (sound .fits .users) (sound .bounded .cus) x)
-  one-among (collection CR) l e x h = let p : set sR ≡ l = cc in rw (← p) (words-among (T .roleRows) (T .cr) (sound .fits .roles) (sound .bounded .crs) x)
+  one-among (collection CU) l e x h = let p : set sU ≡ l = cc in rw (← p) (λ u has-it. present-word (T .users) u (pass .sound .fits .users) (named-present T (pass .sound .bounded) (passes-gone T pass) u x has-it))
+  one-among (collection CR) l e x h = let p : set sR ≡ l = cc in rw (← p) (words-among (T .roleRows) (T .cr) (pass .sound .fits .roles) (pass .sound .bounded .crs) x)
   one-among (collection CP) l e x h =
       let p : set sP ≡ l = cc in
-      rw (← p) (words-among (T .permissionRows) (T .cp) (permissions-few T (sound .fits) (sound .bounded) 0) (sound .bounded .cps) x)
+      rw (← p) (words-among (T .permissionRows) (T .cp) (permissions-few T (pass .sound .fits) (pass .sound .bounded) (passes-gone T pass) 0) (pass .sound .bounded .cps) x)
 
   others-same : (k l : Kind) → othersKind k ≡ some l → k ≡ l
   unfolding othersKind
@@ -155,7 +157,7 @@ module _ (T : Tables) (sound : Sound T) (σ : Choices) (c : List ℕ) where
       rw (← p) (λ x h. h)
   value-among (call f a) l e r =
       let q = some-with (kind a) (callKind f) l e in
-      rw (call-items T f (q .0) l (q .2)) (call-among T (sound .fits) (sound .bounded) (value T σ c a) f (kind a))
+      rw (call-items T f (q .0) l (q .2)) (call-among T (pass .sound .fits) (pass .sound .bounded) (passes-gone T pass) (value T σ c a) f (kind a))
   value-among (oe a) l e r =
       let q = some-with (kind a) oneKind l e in
       rw (q .1) (one-among (q .0) l (q .2) (itemIn σ c a) (r (q .0) (q .1)))
@@ -165,7 +167,7 @@ module _ (T : Tables) (sound : Sound T) (σ : Choices) (c : List ℕ) where
   value-among (two (calls f) a b) l e r =
       let q = some-with (kind a) (λ k. with (kind b) (λ m. twoKind (calls f) k m)) l e in
       let p = some-with (kind b) (λ m. twoKind (calls f) (q .0) m) l (q .2) in
-      rw (call2-items T (row f) (q .0) (p .0) l (p .2)) (call2-among T (sound .fits) (sound .bounded) (value T σ c a) f (value T σ c b))
+      rw (call2-items T (row f) (q .0) (p .0) l (p .2)) (call2-among T (pass .sound .fits) (pass .sound .bounded) (passes-gone T pass) (value T σ c a) f (value T σ c b))
   value-among (two (joins o) a b) l e r =
       let q = some-with (kind a) (λ k. with (kind b) (λ m. twoKind (joins o) k m)) l e in
       let p = some-with (kind b) (λ m. twoKind (joins o) (q .0) m) l (q .2) in
@@ -223,17 +225,24 @@ full-at s c (suc n) h v l = go (ℕ-discrete v n) (full-at s c n (and-true (s n 
     go (no e) ih = ih (omega arith)
 
 -- Under a full choice of a rule's variables each item is one of its variable's kind.
-full-items : (T : Tables) → Sound T → (ρ : Rule) (c : List ℕ)
+full-items : (T : Tables) → Passes T → (ρ : Rule) (c : List ℕ)
     → fullOn (inSet T (ruleVars [] ρ)) (variables (length (ruleVars [] ρ))) c ≡ true
     → (v : ℕ) → v < length (ruleVars [] ρ) → (k : Kind) → kind (setOf (ruleVars [] ρ) v) ≡ some k → has (kindItems T k) (getD c v 0) ≡ true
-full-items T sound ρ c h v l =
-    all-good T sound (ruleVars [] ρ) c (full-at (inSet T (ruleVars [] ρ)) c (length (ruleVars [] ρ)) h) [] (ruleVars [] ρ) refl (rule-ordered [] ρ tt)
+full-items T pass ρ c h v l =
+    all-good T pass (ruleVars [] ρ) c (full-at (inSet T (ruleVars [] ρ)) c (length (ruleVars [] ρ)) h) [] (ruleVars [] ρ) refl (rule-ordered [] ρ tt)
     (λ u m. absurd (omega arith)) v l
+
+-- Document 02, N6: a variable whose set is of users never takes one who left.
+pub variable-present : (T : Tables) → Passes T → (ρ : Rule) (c : List ℕ)
+    → fullOn (inSet T (ruleVars [] ρ)) (variables (length (ruleVars [] ρ))) c ≡ true
+    → (v : ℕ) → v < length (ruleVars [] ρ) → kind (setOf (ruleVars [] ρ) v) ≡ some (set sU) → isPresent (T .users) (getD c v 0) ≡ true
+unfolding kindItems sortItems
+variable-present T pass ρ c h v l k = present-is (T .users) (getD c v 0) (full-items T pass ρ c h v l (set sU) k)
 
 -- The items of a kind are those of a word.
 sort-lt : (T : Tables) (s : Sort) → sortItems T s < 2 ^ 64
 unfolding sortItems
-sort-lt T sU = all-lt (length (T .userRows))
+sort-lt T sU = present-lt (T .users)
 sort-lt T sR = all-lt (length (T .roleRows))
 sort-lt T sOP = all-lt (T .operationCount)
 sort-lt T sOBJ = all-lt (T .objectCount)
@@ -253,11 +262,11 @@ items-lt T none = lit< tt
 items-lt T (some k) = kind-lt T k
 
 -- THE THEOREM: under a full choice every variable of an accepted rule has one of its items.
-pub accepted-within : (T : Tables) → Sound T → (s : Bytes) (ρ : Rule) → refusal s ≡ none → ruleOf s ≡ some ρ
+pub accepted-within : (T : Tables) → Passes T → (s : Bytes) (ρ : Rule) → refusal s ≡ none → ruleOf s ≡ some ρ
     → Within (itemsOf T (ruleVars [] ρ)) (inSet T (ruleVars [] ρ)) (length (ruleVars [] ρ))
-accepted-within T sound s ρ e h = record {
+accepted-within T pass s ρ e h = record {
   full = λ c full v l.
       let q = accepted-choosable s ρ e h v l in
-      ap (λ (o : Option Kind). has (itemsOfKind T o) (getD c v 0)) (q .has) ∙ full-items T sound ρ c full v l (q .is) (q .has);
+      ap (λ (o : Option Kind). has (itemsOfKind T o) (getD c v 0)) (q .has) ∙ full-items T pass ρ c full v l (q .is) (q .has);
   few = λ v x q. has-in (itemsOf T (ruleVars [] ρ) v) 64 x (items-lt T (kind (setOf (ruleVars [] ρ) v))) q;
 }

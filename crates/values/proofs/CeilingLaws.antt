@@ -14,6 +14,7 @@ use Rattle.tables.specs.Tables.{Tables}
 use Rattle.tables.specs.Accepted.{Fits}
 use Rattle.tables.specs.Flat.{flat}
 use Rattle.tables.proofs.SectionsLaws.{product-few}
+use Rattle.tables.proofs.PresentLaws.{present-size}
 use Rattle.syntax.specs.Term.{bU, base, Choices}
 use Rattle.syntax.proofs.NameLaws.{all-length}
 use Rattle.rules.specs.Kind.{Sort, sU, sR, sOP, sOBJ, sP, sS, CR, CP, CU, Kind, element, set, collection, baseKind, kind}
@@ -33,7 +34,7 @@ module _ (T : Tables) (f : Fits T) where
   -- The word of a sort's items has as many as are counted;
   pub sort-size : (s : Sort) → sizeOf (sortItems T s) ≡ sortCount T s
   unfolding sortItems sortCount
-  sort-size sU = size-all (length (T .userRows)) (f .users)
+  sort-size sU = present-size (T .users) (f .users)
   sort-size sR = size-all (length (T .roleRows)) (f .roles)
   sort-size sOP = size-all (T .operationCount) (omega (arith, f .operations))
   sort-size sOBJ = size-all (T .objectCount) (omega (arith, f .objects))

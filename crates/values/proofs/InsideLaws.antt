@@ -13,9 +13,12 @@ use lib.ListN.{length, getD, List·getD-eq-default}
 use borrow.Author.Tests.{eqb-true, ltb-true, lt-ltb}
 use Rattle.words.specs.Words.{has, anyTo, allOf}
 use Rattle.words.proofs.WordsLaws.{has-out, has-zero, has-all, word-has, and-true, any-witness}
-use Rattle.tables.specs.Tables.{Tables, sessionUsers, sessionRoles}
+use Rattle.tables.specs.Tables.{Tables, presentUsers, userRows, sessionUsers, sessionRoles}
 use Rattle.tables.specs.Accepted.{Fits, Below, Bounded}
-use Rattle.tables.proofs.FitsLaws.{active-below, users-below}
+use Rattle.tables.specs.Checks.{leaversGone}
+use Rattle.tables.proofs.FitsLaws.{active-below}
+use Rattle.tables.proofs.PresentLaws.{present-word}
+use Rattle.tables.proofs.LeaverLaws.{role-present, session-present}
 use Rattle.tables.specs.Functions.{dominates, assigned, active, heldBy, sessionOf, those, someIn, isPermission, userOfSessions, userOfRoles}
 use Rattle.tables.specs.Functions.{rolesOfUsers, rolesOfSessions, rolesOfPermissions, juniorsOfUsers, juniorsOfSessions, seniorsOfPermissions}
 use Rattle.tables.specs.Functions.{sessionsOfUsers, permissionsOfRoles, permissionsOfJuniors, objectsOfPermissions, operationsOn}
@@ -67,25 +70,25 @@ one-in w f h = let q = any-witness 64 (λ i. has w i && f i) h in record { item 
 one-of : (f : ℕ → Bool) → anyTo 64 f ≡ true → Witness f
 one-of f h = let q = any-witness 64 f h in record { item = q .0; has-it = q .2 }
 
-module _ (T : Tables) (fits : Fits T) (b : Bounded T) (w : ℕ) where
-  users-of-sessions : Inside (length (T .userRows)) (userOfSessions T w)
+module _ (T : Tables) (fits : Fits T) (b : Bounded T) (gone : leaversGone T ≡ true) (w : ℕ) where
+  -- A function that gives users gives none who left.
+  pub users-of-sessions : Among (presentUsers T) (userOfSessions T w)
   unfolding userOfSessions
   users-of-sessions u h =
       let q = one-in w (λ s. sessionOf T s u) (of-those (λ u. someIn w (λ s. sessionOf T s u)) u h) in
-      let e = and-true (ltb (q .item) (length (T .sessions))) (eqb (getD (sessionUsers T) (q .item) 0) u) (q .has-it) in
-      omega (arith, users-below _ _ (T .sessions) (b .sessions) (q .item) (ltb-true (q .item) (length (T .sessions)) (e .0)), eqb-true (getD (sessionUsers T) (q .item) 0) u (e .1))
+      present-word (T .users) u (fits .users) (session-present T b gone u (q .item) (q .has-it))
 
-  users-of-roles : Inside (length (T .userRows)) (userOfRoles T w)
+  pub users-of-roles : Among (presentUsers T) (userOfRoles T w)
   unfolding userOfRoles
   users-of-roles u h =
       let q = one-in w (λ r. assigned T u r) (of-those (λ u. someIn w (λ r. assigned T u r)) u h) in
-      row-there (T .userRows) u (q .item) (q .has-it)
+      present-word (T .users) u (fits .users) (role-present T b gone u (q .item) (q .has-it))
 
   roles-of-users : Inside (length (T .roleRows)) (rolesOfUsers T w)
   unfolding rolesOfUsers
   roles-of-users r h =
       let q = one-in w (λ u. assigned T u r) (of-those (λ r. someIn w (λ u. assigned T u r)) r h) in
-      row-inside (length (T .roleRows)) (T .userRows) (b .users) (q .item) r (q .has-it)
+      row-inside (length (T .roleRows)) (userRows T) (b .users) (q .item) r (q .has-it)
 
   roles-of-sessions : Inside (length (T .roleRows)) (rolesOfSessions T w)
   unfolding rolesOfSessions
@@ -185,10 +188,11 @@ module _ (T : Tables) (fits : Fits T) (b : Bounded T) (w : ℕ) where
 
   pub call-among : (f : Fn) (k : Option Kind) → Among (sortItems T (makes f)) (callValue T f k w)
   unfolding sortItems makes callValue
-  call-among user k =
-      let n : ℕ = length (T .userRows) in
-      among-all n (if (ofSort sR k) (userOfRoles T w) (userOfSessions T w)) (fits .users)
-      (if-inside (ofSort sR k) n (userOfRoles T w) (userOfSessions T w) users-of-roles users-of-sessions)
+  call-among user k = go (ofSort sR k)
+    where
+      go : (t : Bool) → Among (presentUsers T) (if t (userOfRoles T w) (userOfSessions T w))
+      go true = users-of-roles
+      go false = users-of-sessions
   call-among roles k =
       let n : ℕ = length (T .roleRows) in
       let other : ℕ = if (ofSort sP k) (rolesOfPermissions T w) (rolesOfSessions T w) in

@@ -13,7 +13,7 @@ use borrow.Author.Tests.{lt-ltb, le-ltb}
 use Rattle.words.specs.Words.{allOf, itemOf}
 use Rattle.tables.specs.Tables.{Tables}
 use Rattle.tables.specs.Accepted.{Fits}
-use Rattle.tables.specs.code.Layout.{roleCountAt, userCountAt, sessionCountAt, operationCountAt, objectCountAt, permissionCountAt, crCountAt}
+use Rattle.tables.specs.code.Layout.{roleCountAt, presentAt, sessionCountAt, operationCountAt, objectCountAt, permissionCountAt, crCountAt}
 use Rattle.tables.specs.code.Layout.{cuCountAt, cpCountAt, crAt, cuAt, cpAt}
 use Rattle.tables.specs.Flat.{room, counts, sections, flat}
 use Rattle.tables.proofs.FlatLaws.{flat-at, count-at}
@@ -37,23 +37,30 @@ each P (suc n) h k l = ⊎-elim (λ (e : k ≡ n). subst P (sym e) (h .1)) (λ (
     at-most : k < suc n → k ≤ n
     at-most l = omega arith
 
--- Where the tables count users, roles, operations, objects, permissions, sessions, and the words of CR, CP, CU.
-abbrev pub countPlaces : List ℕ
-countPlaces =
-    userCountAt ∷ roleCountAt ∷ operationCountAt ∷ objectCountAt ∷ permissionCountAt ∷ sessionCountAt ∷ crCountAt ∷ cpCountAt ∷ cuCountAt
+-- Where the tables have the word of the users present, and where they count roles, operations, objects, permissions, sessions, and the words of
+-- CR, CP, CU.
+abbrev pub itemPlaces : List ℕ
+itemPlaces =
+    presentAt ∷ roleCountAt ∷ operationCountAt ∷ objectCountAt ∷ permissionCountAt ∷ sessionCountAt ∷ crCountAt ∷ cpCountAt ∷ cuCountAt
     ∷ []
 
-pub count-place : (o : ℕ) → o < firstCall → getD countPlaces o 0 < 9
-count-place o h =
-    each (λ o. getD countPlaces o 0 < 9) 9
+pub item-place : (o : ℕ) → o < firstCall → getD itemPlaces o 0 < 10
+item-place o h =
+    each (λ o. getD itemPlaces o 0 < 10) 9
     (((((((((tt, lit< tt), lit< tt), lit< tt), lit< tt), lit< tt), lit< tt), lit< tt), lit< tt), lit< tt) o h
 
-pub base-items : (T : Tables) (o : ℕ) → o < firstCall → allOf (getD (flat T) (getD countPlaces o 0) 0) ≡ kindItems T (baseKind (baseAt o))
+-- The items of U are a word, those of the others the first ones.
+pub user-items : (T : Tables) {ws : List ℕ} (o : ℕ) → ws ≡ flat T → o ≡ 0 → getD ws (getD itemPlaces o 0) 0 ≡ kindItems T (baseKind (baseAt o))
+unfolding counts kindItems sortItems baseKind baseAt
+user-items T o q e = rw (e, q) (count-at T presentAt (lit< tt))
+
+pub base-items : (T : Tables) (o : ℕ) → (o ≡ 0 → ⊥) → o < firstCall → allOf (getD (flat T) (getD itemPlaces o 0) 0) ≡ kindItems T (baseKind (baseAt o))
 unfolding sections counts kindItems sortItems baseKind baseAt
-base-items T o h =
-    each (λ o. allOf (getD (flat T) (getD countPlaces o 0) 0) ≡ kindItems T (baseKind (baseAt o))) 9
-    (((((((((tt, at userCountAt (lit< tt)), at roleCountAt (lit< tt)), at operationCountAt (lit< tt)), at objectCountAt (lit< tt)), at permissionCountAt (lit< tt)), at sessionCountAt (lit< tt)), at crCountAt (lit< tt)), at cpCountAt (lit< tt)), at cuCountAt (lit< tt))
-    o h
+base-items T zero n h = absurd (n refl)
+base-items T (suc o) n h =
+    each (λ o. allOf (getD (flat T) (getD itemPlaces (suc o) 0) 0) ≡ kindItems T (baseKind (baseAt (suc o)))) 8
+    ((((((((tt, at roleCountAt (lit< tt)), at operationCountAt (lit< tt)), at objectCountAt (lit< tt)), at permissionCountAt (lit< tt)), at sessionCountAt (lit< tt)), at crCountAt (lit< tt)), at cpCountAt (lit< tt)), at cuCountAt (lit< tt))
+    o (omega arith)
   where
     at : (i : ℕ) → i < room → allOf (getD (flat T) i 0) ≡ allOf (getD (counts T) i 0)
     at i l = ap allOf (count-at T i l)

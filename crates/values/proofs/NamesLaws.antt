@@ -8,8 +8,7 @@ use native.Mathlib.Omega.{arith}
 use lib.Dec.{eqb}
 use lib.ListN.{length, getD, set}
 use Rattle.words.specs.Words.{has, itemOf, joinOf}
-use Rattle.words.proofs.WordsLaws.{has-zero, has-item, has-join}
-use Rattle.functions.proofs.FunctionsLaws.{eqb-comm}
+use Rattle.words.proofs.WordsLaws.{eqb-comm, has-zero, has-item, has-join}
 use Rattle.syntax.specs.Term.{Term, Choices}
 use Rattle.syntax.specs.code.Arena.{Holds, HoldsAll, Tidy}
 use Rattle.syntax.specs.code.Nodes.{firstCall, oeOp, aoOp, firstPair, opAt, leftAt, rightAt}

@@ -3,15 +3,15 @@
 use mathlib.Core.Option.{Option, none, some}
 use Prim.Native.Nat.{ℕ}
 use lib.ListN.{length}
-use Rattle.tables.specs.Tables.{Tables}
+use Rattle.tables.specs.Tables.{Tables, presentCount}
 use Rattle.syntax.specs.Term.{Choices}
 use Rattle.rules.specs.Kind.{Sort, sU, sR, sOP, sOBJ, sP, sS, Collection, CR, CP, CU, Kind, element, set, collection, kind}
 use Rattle.walks.specs.Choices.{productTo}
 use Rattle.values.specs.Sets.{setOf}
 
--- "the number of items of the element's sort in the tables"
+-- "the number of items of the element's sort in the tables"; of users, as document 02, N6, has it, those marked 1
 unfoldable pub sortCount : Tables → Sort → ℕ
-sortCount T sU = length (T .userRows)
+sortCount T sU = presentCount (T .users)
 sortCount T sR = length (T .roleRows)
 sortCount T sOP = T .operationCount
 sortCount T sOBJ = T .objectCount

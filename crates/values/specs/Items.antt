@@ -3,12 +3,12 @@
 use Prim.Native.Nat.{ℕ}
 use lib.ListN.{length}
 use Rattle.words.specs.Words.{allOf}
-use Rattle.tables.specs.Tables.{Tables}
+use Rattle.tables.specs.Tables.{Tables, presentUsers}
 use Rattle.rules.specs.Kind.{Sort, sU, sR, sOP, sOBJ, sP, sS, CR, CP, CU, Kind, element, set, collection}
 
--- All items of a sort: all users, roles, operations, objects, permissions, sessions of the tables.
+-- All items of a sort: all roles, operations, objects, permissions, sessions of the tables, and of users those present (document 02, N6).
 unfoldable pub sortItems : Tables → Sort → ℕ
-sortItems T sU = allOf (length (T .userRows))
+sortItems T sU = presentUsers T
 sortItems T sR = allOf (length (T .roleRows))
 sortItems T sOP = allOf (T .operationCount)
 sortItems T sOBJ = allOf (T .objectCount)

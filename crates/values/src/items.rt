@@ -17,9 +17,10 @@ use rules::kinds::FIRST_SET;
 use rules::kinds::NO_KIND;
 use tables::layout;
 
-// Where the tables count users, roles, operations, objects, permissions, sessions, and the words of CR, CP, CU.
-const COUNTS: [usize; 9] = [
-    layout::USER_COUNT,
+// Where the tables have the word of the users present, and where they count roles, operations, objects, permissions, sessions, and the
+// words of CR, CP, CU.
+const PLACES: [usize; 9] = [
+    layout::PRESENT,
     layout::ROLE_COUNT,
     layout::OPERATION_COUNT,
     layout::OBJECT_COUNT,
@@ -30,6 +31,9 @@ const COUNTS: [usize; 9] = [
     layout::CU_COUNT,
 ];
 
+// U among them: its items are no first ones, so they are a word and no count.
+const USERS: usize = 0;
+
 // Where the words of CR, CP, CU start.
 const COLLECTIONS: [usize; 3] = [layout::CR, layout::CP, layout::CU];
 
@@ -38,8 +42,12 @@ pub fn base(t: &[u64], op: usize) -> u64
     requires { ⌜ (Whole (now t)) × (op < firstCall) ⌝ }
     ensures { λ r. ⌜ ((T : Tables) → now (t .entry) ≡ flat T → r ≡ kindItems T (baseKind (baseAt op))) ⌝ }
 {
-    let at = COUNTS[op];
-    words::all(t[at] as usize)
+    let at = PLACES[op];
+    let found = t[at];
+    if op == USERS {
+        return found;
+    }
+    words::all(found as usize)
 }
 
 // The item x of a set or a collection of that kind.

@@ -31,7 +31,7 @@ use Rattle.verdicts.specs.code.Judging.{ruledBy, Loaded, ParsedFrom, Kno
 use Rattle.verdicts.proofs.VerdictLaws.{walk-full, walk-breaking}
 use Rattle.verdicts.proofs.RulingLaws.{tally-fits, tally-verdict}
 use Rattle.verdicts.proofs.HeldLaws.{held-rule}
-use Rattle.verdicts.proofs.LoadedLaws.{all-sound}
+use Rattle.verdicts.proofs.LoadedLaws.{all-pass}
 use Rattle.verdicts.proofs.ParsedLaws.{parsed-few, parsed-refused, parsed-accepts, parsed-rule, rule-case}
 use Rattle.verdicts.proofs.TurnLaws.{take-up, judged-in-turn}
 
@@ -90,7 +90,7 @@ module _ {p : Parsed} {s : Bytes} (P : ParsedFrom s p) where
       -- The known counts are the walk's, whatever the slices hold: there is but one rule, and one case of tables.
       pub turn-counts : {full breaking : ℕ} → KnownCounts ts s full breaking → CountsBy ts p listed full breaking
       turn-counts {full} {breaking} K T κ C =
-          let H = all-sound T L (C .world .fits) (C .world .words) in
+          let H = all-pass T L (C .world .fits) (C .world .words) in
           let sorts : InSorts T ρ = rule-case P h H .sorts in
           let known = K T H ρ (parsed-rule P h .reads) in
           subst

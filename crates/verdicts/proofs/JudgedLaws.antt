@@ -17,7 +17,7 @@ use Rattle.syntax.specs.Bytes.{Bytes}
 use Rattle.syntax.specs.Rule.{Rule, ruleVars, ruleOf}
 use Rattle.rules.specs.Accept.{refusal}
 use Rattle.rules.proofs.AcceptLaws.{tree-few, accepted-rule, accepted-tree}
-use Rattle.tables.proofs.FitsLaws.{accepted-sound}
+use Rattle.tables.proofs.FitsLaws.{accepted-passes}
 use Rattle.walks.specs.Order.{variablesOf, isOrder}
 use Rattle.walks.specs.Walk.{choiceBytes}
 use Rattle.walks.proofs.OrderLaws.{order-admissible}
@@ -86,7 +86,7 @@ module _ {tables rule order : Bytes} {T : Tables} {ρ : Rule} (a : Admitted tabl
   few-variables = tree-few ρ (accepted-tree rule ρ (a .accepts) (a .tree))
 
   pub in-sorts : InSorts T ρ
-  in-sorts = accepted-within T (accepted-sound tables (a .reads)) rule ρ (a .accepts) (a .tree)
+  in-sorts = accepted-within T (accepted-passes tables (a .reads)) rule ρ (a .accepts) (a .tree)
 
   -- The first breaking choice has 8 bytes.
   pub first-length : length (choiceBytes (firstBreaking T ρ (variablesOf order))) ≡ 8

@@ -17,7 +17,7 @@ use Rattle.tables.specs.declared.Outcome.the-variants.{Refused, Accepted}
 use Rattle.tables.proofs.FlatLaws.{length-flat}
 use Rattle.tables.proofs.LoadLaws.{refused-as, outcome-case}
 use Rattle.tables.proofs.OneLaws.{tables-one}
-use Rattle.tables.proofs.FitsLaws.{accepted-sound}
+use Rattle.tables.proofs.FitsLaws.{accepted-passes}
 use Rattle.syntax.specs.Bytes.{Bytes}
 use Rattle.rules.specs.Accept.{refusal}
 use Rattle.verdicts.specs.declared.Verdict.{Verdict}
@@ -35,9 +35,9 @@ took-loaded q = record { tables = q .tables; holds = q .holds }
 pub loaded-whole : {ts : List ℕ} → Loaded ts → Whole ts
 loaded-whole l = ap length (l .holds .words) ∙ length-flat (l .tables)
 
--- Whatever tables loaded words hold are sound: the words are those of no others.
-pub all-sound : {ts : List ℕ} (T : Tables) → Loaded ts → Fits T → ts ≡ flat T → TablesAt ts T
-all-sound T L F w = rw (tables-one T (L .tables) (sym w ∙ L .holds .words) F (L .holds .sound)) (L .holds)
+-- Whatever tables loaded words hold pass the checks: the words are those of no others.
+pub all-pass : {ts : List ℕ} (T : Tables) → Loaded ts → Fits T → ts ≡ flat T → TablesAt ts T
+all-pass T L F w = rw (tables-one T (L .tables) (sym w ∙ L .holds .words) F (L .holds .passes .sound)) (L .holds)
 
 -- What `tables::load` says, by its case.
 module _ (b : Bytes) {o : Outcome} (said : o ≡ readingOutcome (tablesOf b)) where
@@ -49,7 +49,7 @@ module _ (b : Bytes) {o : Outcome} (said : o ≡ readingOutcome (tablesOf b)) wh
     where
       go : (q : Reading) → tablesOf b ≡ q → readingOutcome q ≡ Accepted → Took b ts
       go (rejected p) e k = let z : _≡_ {A = ℕ} 0 1 = cc in absurd (omega arith)
-      go (taken T) e k = record { tables = T; is = e; holds = record { sound = accepted-sound b e; words = w h ∙ ap wordsOf e } }
+      go (taken T) e k = record { tables = T; is = e; holds = record { passes = accepted-passes b e; words = w h ∙ ap wordsOf e } }
 
 -- What `tables::read` says, by its number.
 module _ (b : Bytes) {o : Outcome} (n : outcomeNumber o ≡ readingNumber (tablesOf b)) where

@@ -54,9 +54,9 @@ module _ {s : Bytes} {ns ks vs : List ℕ} {o : Checked} {n root count : ℕ} (p
 
     pub rule-case : {ts : List ℕ} {T : Tables} → TablesAt ts T → Case ts ns n ks (take count vs) root T (parsed-rule .tree)
     rule-case {T = T} H = record {
-      world = record { fits = H .sound .fits; words = H .words; kinds = parsed-rule .kinds; variables = parsed-rule .knows };
+      world = record { fits = H .passes .sound .fits; words = H .words; kinds = parsed-rule .kinds; variables = parsed-rule .knows };
       holds = parsed-rule .holds;
-      sorts = accepted-within T (H .sound) s (parsed-rule .tree) parsed-accepts (parsed-rule .reads);
+      sorts = accepted-within T (H .passes) s (parsed-rule .tree) parsed-accepts (parsed-rule .reads);
     }
 
     pub parsed-lent : {ts : List ℕ} → Loaded ts → length ns ≡ 256 → length ks ≡ 256 → length vs ≡ 8 → Lent ts ns n ks (take count vs) root

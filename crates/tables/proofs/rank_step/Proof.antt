@@ -20,7 +20,7 @@ returns c = sym (rank-other (c .before .before .before .before .before .before .
 
 -- The other refusals' places in their enum, in which rank has 6.
 abbrev others : List ℕ
-others = tabulate 6 (λ i. i) ++ tabulate 12 (λ i. i + 7)
+others = tabulate 6 (λ i. i) ++ tabulate 13 (λ i. i + 7)
 
 returns-2 : tie.Need-returns-2
 unfolding tabulate

@@ -18,33 +18,36 @@ Begins at = (at % room ≡ 0) × (at < wholeLength)
 abbrev pub sectionAt : Tables → ℕ → List ℕ
 sectionAt T at = getD (sections T) (at / room) []
 
--- The first section has the counts, in the sections' order of document 01.
+-- The first section has the counts, in the sections' order of document 01, and behind the users' which of them are present.
 abbrev pub roleCountAt : ℕ
 roleCountAt = 0
 
 abbrev pub userCountAt : ℕ
 userCountAt = 1
 
+abbrev pub presentAt : ℕ
+presentAt = 2
+
 abbrev pub sessionCountAt : ℕ
-sessionCountAt = 2
+sessionCountAt = 3
 
 abbrev pub operationCountAt : ℕ
-operationCountAt = 3
+operationCountAt = 4
 
 abbrev pub objectCountAt : ℕ
-objectCountAt = 4
+objectCountAt = 5
 
 abbrev pub permissionCountAt : ℕ
-permissionCountAt = 5
+permissionCountAt = 6
 
 abbrev pub crCountAt : ℕ
-crCountAt = 6
+crCountAt = 7
 
 abbrev pub cuCountAt : ℕ
-cuCountAt = 7
+cuCountAt = 8
 
 abbrev pub cpCountAt : ℕ
-cpCountAt = 8
+cpCountAt = 9
 
 -- Where the others begin.
 abbrev pub roleRowsAt : ℕ

@@ -7,17 +7,17 @@ use Prim.Native.Nat.{ℕ, suc, _%_, _/_, _≤_, _<_}
 use lib.Dec.{eqb}
 use lib.ListN.{length, getD, drop, set}
 use Rattle.answers.specs.declared.Refusal.{Refusal}
-use Rattle.words.specs.Words.{itemOf, lessOf, imageOf}
+use Rattle.words.specs.Words.{allOf, itemOf, joinOf, lessOf, imageOf, preimageOf}
 use Rattle.tables.specs.declared.Row.{Row}
 use Rattle.tables.specs.declared.Row.the-variants.{Plain, Marked}
 use Rattle.tables.specs.declared.Step.{Step}
 use Rattle.tables.specs.declared.Step.the-variants.{Stopped, Took}
 use Rattle.tables.specs.declared.Outcome.{Outcome}
 use Rattle.tables.specs.declared.Outcome.the-variants.{Refused, Accepted}
-use Rattle.tables.specs.Tables.{Session, Tables}
-use Rattle.tables.specs.Reading.{Bytes, Taken, Reader, stop, took, wordRow, markedRow, Rights, Collections, Reading, rejected, taken}
+use Rattle.tables.specs.Tables.{User, Session, Tables, presentIn}
+use Rattle.tables.specs.Reading.{Bytes, Taken, Reader, stop, took, wordRow, MarkedRow, permissionRow, Rights, Collections, Reading, rejected, taken}
 use Rattle.tables.specs.Checks.{allTo}
-use Rattle.tables.specs.code.Layout.{Whole, roleCountAt, userCountAt, sessionCountAt, operationCountAt, objectCountAt, permissionCountAt}
+use Rattle.tables.specs.code.Layout.{Whole, roleCountAt, userCountAt, presentAt, sessionCountAt, operationCountAt, objectCountAt, permissionCountAt}
 use Rattle.tables.specs.code.Layout.{crCountAt, cuCountAt, cpCountAt, roleRowsAt, userRowsAt, sessionUsersAt, sessionRolesAt}
 use Rattle.tables.specs.code.Layout.{permissionRowsAt, crAt, cuAt, cpAt, objectRowsAt, operationRowsAt}
 use Rattle.tables.specs.Flat.{room, tabulate}
@@ -37,9 +37,14 @@ pub record IsCount (limit a v : ℕ) : Type 0 where
   pub is : a ≡ v
   pub few : v ≤ limit
 
--- The value itself; a session whose user is the byte at `at`.
+-- The value itself; a row whose mark, a session whose user is the byte at `at`.
 abbrev pub Is : ℕ → ℕ → Type 0
 Is a v = a ≡ v
+
+pub record IsMarked (s : Bytes) (at : ℕ) (a : MarkedRow) (v : ℕ) : Type 0 where
+  pub mark : a .mark ≡ getD s at 0
+  pub word : a .word ≡ v
+  pub complete : at < length s
 
 pub record IsSession (s : Bytes) (at users : ℕ) (a : Session) (v : ℕ) : Type 0 where
   pub user : a .user ≡ getD s at 0
@@ -50,7 +55,7 @@ pub record IsSession (s : Bytes) (at users : ℕ) (a : Session) (v : ℕ) : Type
 -- A row of one word: its reader, and that the items fit a word.
 abbrev pub rowOf : Row → Reader ℕ
 rowOf (Plain n) = wordRow n
-rowOf (Marked n) = markedRow n
+rowOf (Marked n) = permissionRow n
 
 abbrev pub RowFits : Row → Type 0
 RowFits (Plain n) = n ≤ 64
@@ -61,9 +66,15 @@ unfoldable pub put : List ℕ → ℕ → List ℕ → List ℕ
 put ws k [] = ws
 put ws k (x ∷ xs) = put (set ws k x) (suc k) xs
 
--- A section's rows from word `to` on; the sessions' users, as words of one item, and active roles.
+-- A section's rows from word `to` on; the users' assigned roles and which are present; the sessions' users, as words of one item, and active roles.
 abbrev pub rowsFrom : ℕ → List ℕ → List ℕ → List ℕ
 rowsFrom to ws xs = put ws to xs
+
+abbrev pub putAssigned : List ℕ → List User → List ℕ
+putAssigned ws us = put ws userRowsAt (map (λ u. u .assigned) us)
+
+unfoldable pub putUsers : List ℕ → List User → List ℕ
+putUsers ws us = set (putAssigned ws us) presentAt (presentIn us)
 
 unfoldable pub putSessions : List ℕ → List Session → List ℕ
 putSessions ws ss = put (put ws sessionUsersAt (map itemOf (map (λ s. s .user) ss))) sessionRolesAt (map (λ s. s .active) ss)
@@ -74,6 +85,9 @@ withCount write place ws xs = write (set ws place (length xs)) xs
 
 abbrev pub withSection : List ℕ → ℕ → ℕ → List ℕ → List ℕ
 withSection ws place to = withCount (rowsFrom to) place ws
+
+abbrev pub withUsers : List ℕ → List User → List ℕ
+withUsers = withCount putUsers userCountAt
 
 abbrev pub withSessions : List ℕ → List Session → List ℕ
 withSessions = withCount putSessions sessionCountAt
@@ -116,11 +130,15 @@ pub record CollectionsAt (old new : List ℕ) (c : Collections) (v : ℕ) : Type
 -- All nine sections, in the order in which they are read.
 pub record Filled (old new : List ℕ) (T : Tables) (v : ℕ) : Type 0 where
   pub words :
-      new ≡ withCollections (withRights (withSessions (withSection (withSection old roleCountAt roleRowsAt (T .roleRows)) userCountAt userRowsAt (T .userRows)) (T .sessions))
+      new ≡ withCollections (withRights (withSessions (withUsers (withSection old roleCountAt roleRowsAt (T .roleRows)) (T .users)) (T .sessions))
       (record { operationCount = T .operationCount; objectCount = T .objectCount; permissionRows = T .permissionRows }))
       (record { cr = T .cr; cu = T .cu; cp = T .cp })
 
 -- The checks as the code makes them, on the rows' words.
+-- The users who have a role or a session, or stand in a word of CU.
+unfoldable pub usersMet : List ℕ → List ℕ → List ℕ → ℕ
+usersMet rows theirs cu = joinOf (preimageOf rows (allOf room)) (joinOf (imageOf theirs (allOf (length theirs))) (imageOf cu (allOf (length cu))))
+
 -- What the roles besides r that r dominates dominate.
 abbrev pub belowAt : List ℕ → ℕ → ℕ
 belowAt rows r = imageOf rows (lessOf (getD rows r 0) (itemOf r))

@@ -6,7 +6,7 @@ use mathlib.Core.Option.{some}
 use Prim.Native.Nat.{ℕ}
 use Rattle.tables.specs.Tables.{Tables}
 use Rattle.tables.specs.Flat.{flat}
-use Rattle.tables.specs.Accepted.{Sound}
+use Rattle.tables.specs.Accepted.{Passes}
 use Rattle.syntax.specs.Bytes.{Bytes}
 use Rattle.syntax.specs.Rule.{Rule, ruleOf}
 use Rattle.rules.specs.Accept.{refusal}
@@ -28,9 +28,9 @@ ruledBy a = record {
   share = shareOf (a .full) (a .breaking);
 }
 
--- The words hold the tables T, which are sound;
+-- The words hold the tables T, which pass the checks;
 pub record TablesAt (ts : List ℕ) (T : Tables) : Type 0 where
-  pub sound : Sound T
+  pub passes : Passes T
   pub words : ts ≡ flat T
 
 -- some such tables.

@@ -1,6 +1,8 @@
 -- `tables::rows::row`: each kind by its own reader.
 -- Assumes nothing.
 use borrow.Author.Needs.{needs}
+use Rattle.tables.specs.Reading.{permissionRow}
+use Rattle.tables.proofs.ReadLaws.{read-last}
 use Rattle.tables.proofs.rows.row.Statement.{statement}
 use Rattle.tables.proofs.rows.row.Tie as tie
 
@@ -18,7 +20,8 @@ returns : tie.Need-returns
 returns c = rw (c .before .before .kind .given .1) (c .word-row .ensures)
 
 returns-2 : tie.Need-returns-2
-returns-2 c = rw (c .before .before .kind2 .given .1) (c .marked-row .ensures)
+unfolding permissionRow
+returns-2 c = rw (c .before .before .kind2 .given .1) (read-last (λ m. m .word) (c .marked-row .ensures) (λ m v h. h .word))
 
 pub row-spec : {M : Type 1} → statement M
 row-spec =
