@@ -97,7 +97,7 @@ enum rcl2000_refusal {
     RCL2000_CUT_SHORT = 1,         /* the tables end where a count or a row is due, or inside a row */
     RCL2000_OVERFULL = 2,          /* a count of the tables is above its limit */
     RCL2000_NOT_ENTERED = 3,       /* the row of a user or a permission never arrived */
-    RCL2000_BAD_MARK = 4,          /* a mark is neither 0 nor 1 */
+    RCL2000_BAD_MARK = 4,          /* a user has a mark above 2, or a permission one above 1 */
     RCL2000_NO_SUCH_ITEM = 5,      /* a row names an item that the tables do not have */
     RCL2000_MISCOUNTED = 6,        /* the permissions are not operations times objects */
     RCL2000_RANK = 7,              /* role rows are not reflexive, transitive, antisymmetric: see rank_step */
@@ -112,7 +112,8 @@ enum rcl2000_refusal {
     RCL2000_NO_RULES_FORMULA = 16, /* no accepted rule has this formula */
     RCL2000_SHORT_SHEET = 17,      /* the lent output is shorter than L */
     RCL2000_ORDER = 18,            /* the order does not list each variable once, after those that its set names */
-    RCL2000_PAGE = 19              /* the page has no line or more than 32 */
+    RCL2000_PAGE = 19,             /* the page has no line or more than 32 */
+    RCL2000_LEFT = 20              /* a user who left has a role or a session, or is in a word of CU */
 };
 
 /* The steps of the rank test, in the order in which they are taken, each over all roles. */
@@ -133,13 +134,13 @@ uint32_t reduce(const uint8_t *rule, size_t rule_length, uint8_t *out, size_t ou
 uint32_t rebuild(const uint8_t *formula, size_t formula_length, uint8_t *out, size_t out_length);
 
 /* The verdict on a rule, RCL2000_VERDICT bytes. The order lists the rule's variables, from 1, one byte each; 1, 2, ..
-   always serves. Refusals: 1 to 10, 11 to 15, 18, 17. */
+   always serves. Refusals: 1 to 10, 20, 11 to 15, 18, 17. */
 uint32_t judge(const uint8_t *tables, size_t tables_length, const uint8_t *rule, size_t rule_length,
                const uint8_t *order, size_t order_length, uint8_t *out, size_t out_length);
 
 /* The verdict on a page of 1 to 32 lines, RCL2000_PAGE_LENGTH(lines) bytes, each line judged in the order 1, 2, .. A line
-   ends at byte 10, the last one also where the page ends. Refusals: 1 to 10, 19, 11 to 15 of the first refused line, with
-   its position, 17. */
+   ends at byte 10, the last one also where the page ends. Refusals: 1 to 10, 20, 19, 11 to 15 of the first refused line,
+   with its position, 17. */
 uint32_t judge_page(const uint8_t *tables, size_t tables_length, const uint8_t *page, size_t page_length, uint8_t *out,
                     size_t out_length);
 
@@ -149,8 +150,8 @@ uint32_t rank_step(const uint8_t *tables, size_t tables_length);
 
 /* The forecast for a rule, RCL2000_FORECAST bytes, before it is judged. The length is that of what reduce writes. The
    ceiling is the product over the rule's variables of the words in the whole collection, where the set is a term of
-   collection kind, and else of the items of the element's sort in the tables; 1 without variables. Refusals: 1 to 10, 11 to
-   15, 17. */
+   collection kind, and else of the items of the element's sort in the tables, of users those who have not left; 1 without
+   variables. Refusals: 1 to 10, 20, 11 to 15, 17. */
 uint32_t forecast(const uint8_t *tables, size_t tables_length, const uint8_t *rule, size_t rule_length, uint8_t *out,
                   size_t out_length);
 

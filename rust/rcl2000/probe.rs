@@ -22,8 +22,12 @@ const SENIOR: &[u8] = b"\x02\x03\0\0\0\0\0\0\0\x02\0\0\0\0\0\0\0\
 const MISSING: &[u8] = b"\x03\x03\0\0\0\0\0\0\0\x06\0\0\0\0\0\0\0\0\0\0\0\0\0\0\0\
     \0\0\0\0\0\0\0\0";
 
-/// A user with mark 2.
-const MARK: &[u8] = b"\0\x01\x02\0\0\0\0\0\0\0\0\0\0\0\0\0\0\0";
+/// One role and three users: without a role, left, with the role.
+const LEAVER: &[u8] = b"\x01\x01\0\0\0\0\0\0\0\x03\x01\0\0\0\0\0\0\0\0\
+    \x02\0\0\0\0\0\0\0\0\x01\x01\0\0\0\0\0\0\0\0\0\0\0\0\0\0";
+
+/// A user who left, and a session.
+const BACK: &[u8] = b"\0\x01\x02\0\0\0\0\0\0\0\0\x01\0\0\0\0\0\0\0\0\0\0\0\0\0\0\0";
 
 /// One role and eight users, the first with the role.
 const EIGHT: &[u8] = b"\x01\x01\0\0\0\0\0\0\0\x08\x01\x01\0\0\0\0\0\0\0\
@@ -62,9 +66,10 @@ fn main() {
     // By what the requests after document 01 change, their archives are told apart: a junior role is
     // accepted (N2), a senior one is 8; a page (N3) has its counts and the position of a refused line;
     // the rank test goes step by step over all roles (N4), behind what is left over; a forecast (N5) counts
-    // the roles of the tables for a variable whose set has one of them, and looks at the tables first; still
-    // to come: 4 for a mark of 2 (N6), a half in a hundred upward (N7).
-    let (rule, eighth) = (b"roles(OE(U))={}", half_of_a_hundred_upward());
+    // the roles of the tables for a variable whose set has one of them, and looks at the tables first;
+    // whoever left is not among the users (N6), keeps the number and has no session, or that is 20; still to
+    // come: a half in a hundred upward (N7).
+    let rule = b"roles(OE(U))={}";
     holds("N2", (26, &HELD), |out| {
         library::judge(JUNIOR, b"U=U", &[], out)
     });
@@ -89,19 +94,23 @@ fn main() {
     holds("8 before 11", refused(8), |out| {
         library::forecast(SENIOR, b"", out)
     });
-    holds("N6", refused(4), |out| {
-        library::judge(MARK, A, &[1, 2], out)
+    holds("N6", (26, &broken_by(2, 2, 50)), |out| {
+        library::judge(LEAVER, rule, &[1], out)
     });
-    holds("N7", (26, &eighth), |out| {
+    holds("20", refused(20), |out| {
+        library::judge(BACK, rule, &[1], out)
+    });
+    // One choice of eight: 12.5 in a hundred are 13.
+    holds("N7", (26, &broken_by(8, 0, 13)), |out| {
         library::judge(EIGHT, rule, &[1], out)
     });
 }
 
-/// The verdict with one choice of eight broken: 12.5 in a hundred are 13.
-fn half_of_a_hundred_upward() -> [u8; 26] {
+/// The verdict with one of so many choices broken, that of the item.
+fn broken_by(full: u8, item: u8, share: u8) -> [u8; 26] {
     let mut verdict = [0xff; 26];
-    verdict[..18].copy_from_slice(b"\x02\x08\0\0\0\0\0\0\0\x01\0\0\0\0\0\0\0\0");
-    verdict[25] = 13;
+    verdict[..17].copy_from_slice(b"\x02\0\0\0\0\0\0\0\0\x01\0\0\0\0\0\0\0");
+    (verdict[1], verdict[17], verdict[25]) = (full, item, share);
     verdict
 }
 

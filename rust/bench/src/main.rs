@@ -70,6 +70,8 @@ fn rules_and_calls(random: &Plain, office: &Plain, rounds: usize) {
         judged(&format!("{name} | random"), rule, random, rounds);
         judged(&format!("{name} | office"), rule, office, rounds);
     }
+    let fewer = third_left(random);
+    judged("I.1 | random, a third left", PAPER[0], &fewer, rounds);
     println!("\n| call | ours | fast | ours / fast |");
     println!("|---|---|---|---|");
     for (name, question) in others(random) {
@@ -99,6 +101,10 @@ fn others(tables: &Plain) -> Vec<(String, Question)> {
             read(juniors),
         ),
         (
+            "the same, every third user left".to_string(),
+            read(third_left(tables)),
+        ),
+        (
             "rank_step on the first tables".to_string(),
             Question::RankStep(tables.bytes().into()),
         ),
@@ -116,6 +122,14 @@ fn others(tables: &Plain) -> Vec<(String, Question)> {
         ),
         (rebuild, Question::Rebuild(formula.into())),
     ]
+}
+
+/// The tables with every third user left, from the first.
+fn third_left(tables: &Plain) -> Plain {
+    let mut fewer = tables.clone();
+    let third = (0..64).step_by(3).fold(0, |word, user| word | 1 << user);
+    fewer.leave(&mut Random::new(1), third);
+    fewer
 }
 
 /// The longest rule of Table I, filled up to 256 bytes.

@@ -175,7 +175,7 @@ impl Question {
 
 /// How often each answer was met, by its number.
 #[derive(Default)]
-pub struct Met([u64; 20]);
+pub struct Met([u64; 21]);
 
 impl Met {
     pub fn note(&mut self, number: usize) {

@@ -2,6 +2,7 @@
 
 use crate::formulas::doubling;
 use crate::hold::Question;
+use crate::leavers::STILL;
 use crate::random::Random;
 use crate::tables::Plain;
 use crate::{formulas, orders, pages, rules, scaled, tables};
@@ -22,6 +23,8 @@ pub fn questions() -> Vec<Question> {
         last_roles(),
         long_forecasts(),
         nothing_to_choose(),
+        nobody_present(),
+        named_last(),
     ]
     .concat()
 }
@@ -223,6 +226,44 @@ fn nothing_to_choose() -> Vec<Question> {
         }
     }
     questions
+}
+
+/// The last of 64 users.
+const LAST: u64 = 1 << 63;
+
+/// All users left, or all but the last: eight users, inside each other or apart, of nobody or of one.
+fn nobody_present() -> Vec<Question> {
+    let random = &mut Random::new(24);
+    let mut questions = Vec::new();
+    for left in [u64::MAX, !LAST] {
+        let mut plain = tables::full(random);
+        plain.leave(random, left);
+        for users in [rules::inside(7), rules::apart(7)] {
+            questions.extend(empty(random, &plain, &users, "U"));
+        }
+    }
+    questions
+}
+
+/// The largest tables, in which the last user left and one thing is still there, by each call that reads tables.
+fn named_last() -> Vec<Question> {
+    let random = &mut Random::new(25);
+    let mut plain = tables::full(random);
+    plain.leave(random, LAST);
+    let kept = STILL.map(|still| {
+        let mut plain = plain.clone();
+        plain.keep(random, still);
+        plain.bytes()
+    });
+    let asked = |tables: Vec<u8>| {
+        [
+            Question::judge(tables.clone(), b"U=U".to_vec(), vec![]),
+            Question::judge_page(tables.clone(), b"U=U".to_vec()),
+            Question::RankStep(tables.clone().into()),
+            Question::forecast(tables, b"U=U".to_vec()),
+        ]
+    };
+    kept.into_iter().flat_map(asked).collect()
 }
 
 /// A choice from the empty set, in several orders, and on a page beside lines that choose alike and one that

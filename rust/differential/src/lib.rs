@@ -6,6 +6,7 @@ pub mod damage;
 pub mod formulas;
 pub mod hold;
 pub mod hurtful;
+pub mod leavers;
 pub mod orders;
 pub mod pages;
 pub mod random;

@@ -5,7 +5,7 @@ use reference::verdict::steps;
 
 use crate::hold::{Expected, Met, Question};
 use crate::random::Random;
-use crate::{formulas, orders, pages, rules, tables};
+use crate::{formulas, leavers, orders, pages, rules, tables};
 
 /// The most steps of a walk where every choice is tried.
 pub const FEW: u64 = 2_000;
@@ -34,19 +34,19 @@ pub struct Subject {
     ask: fn(&mut Random) -> Question,
 }
 
-/// Tables, rules, formulas, verdicts, pages, steps of the rank test and forecasts, in turn.
-pub const SUBJECTS: [Subject; 11] = [
+/// Tables, rules, formulas, verdicts, pages, steps of the rank test, forecasts and leavers, in turn.
+pub const SUBJECTS: [Subject; 12] = [
     Subject {
         name: "tables",
-        count: 70_000,
+        count: 60_000,
         seed: 1,
-        answers: &[0, 1, 2, 3, 4, 5, 6, 7, 8, 9, 10],
+        answers: &[0, 1, 2, 3, 4, 5, 6, 7, 8, 9, 10, 20],
         plain: true,
         ask: |random| Question::judge(tables::any(random), b"U=U".to_vec(), vec![]),
     },
     Subject {
         name: "rules",
-        count: 90_000,
+        count: 80_000,
         seed: 2,
         answers: &[0, 11, 12, 13, 14, 15],
         plain: true,
@@ -126,9 +126,18 @@ pub const SUBJECTS: [Subject; 11] = [
         name: "forecasts",
         count: 20_000,
         seed: 11,
-        answers: &[0, 1, 2, 3, 4, 5, 6, 7, 8, 9, 10, 11, 12, 13, 14, 15],
+        answers: &[0, 1, 2, 3, 4, 5, 6, 7, 8, 9, 10, 11, 12, 13, 14, 15, 20],
         plain: true,
         ask: forecast,
+    },
+    // Tables with leavers, and rules that ask for users.
+    Subject {
+        name: "leavers",
+        count: 20_000,
+        seed: 12,
+        answers: &[0, 3, 4, 5, 7, 8, 9, 10, 19, 20],
+        plain: true,
+        ask: leavers::asked,
     },
 ];
 

@@ -3,6 +3,7 @@
 use rcl2000::{Object, Operation, Permission, Role, TablesBuilder, User};
 
 use crate::damage;
+use crate::leavers::STILL;
 use crate::random::Random;
 
 /// Tables as plain values; every row's word of items.
@@ -10,6 +11,8 @@ use crate::random::Random;
 pub struct Plain {
     pub roles: Vec<u64>,
     pub users: Vec<u64>,
+    /// The users who left.
+    pub left: u64,
     pub sessions: Vec<(u8, u64)>,
     pub operations: usize,
     pub objects: usize,
@@ -38,6 +41,9 @@ fn sized(random: &mut Random, least: usize, most: usize) -> Plain {
         random,
         [roles, users, sessions, operations, objects, cr, cu, cp],
     );
+    if random.once_in(3) {
+        plain.leave_some(random, least);
+    }
     if !random.once_in(4) {
         plain.open_juniors(random);
     }
@@ -87,6 +93,7 @@ pub fn office(random: &mut Random, most: usize) -> Plain {
         cr: pairs(random, most, most),
         cu: pairs(random, most, most),
         cp: pairs(random, most, side * side),
+        ..Plain::default()
     }
 }
 
@@ -94,10 +101,13 @@ pub fn office(random: &mut Random, most: usize) -> Plain {
 pub fn cut(random: &mut Random, few: impl Fn(&reference::tables::Tables) -> bool) -> Vec<u8> {
     let mut most = 64;
     loop {
-        let tables = match random.below(2) {
+        let mut tables = match random.below(2) {
             0 => filled(random, most),
             _ => office(random, most),
         };
+        if random.once_in(4) {
+            tables.leave_some(random, 1);
+        }
         let tables = tables.bytes();
         let read = reference::tables::read(&tables).expect("made to be accepted");
         if most == 1 || few(&read) {
@@ -191,7 +201,11 @@ impl Plain {
             }
         };
         words(&mut out, &self.roles, &[]);
-        words(&mut out, &self.users, &[1]);
+        out.push(self.users.len() as u8);
+        for (user, roles) in self.users.iter().enumerate() {
+            out.push(1 + u8::from(self.has_left(user)));
+            out.extend(roles.to_le_bytes());
+        }
         out.push(self.sessions.len() as u8);
         for (user, roles) in &self.sessions {
             out.push(*user);
@@ -231,8 +245,11 @@ impl Plain {
     /// Adds the other sections.
     fn others(&self, builder: &mut TablesBuilder) {
         let roles = |word: u64| items(word).map(Role::numbered);
-        for &word in &self.users {
-            builder.user(roles(word));
+        for (user, &word) in self.users.iter().enumerate() {
+            match self.has_left(user) {
+                true => builder.user_left(),
+                false => builder.user(roles(word)),
+            };
         }
         for &(user, word) in &self.sessions {
             builder.session(User::numbered(user.into()), roles(word));
@@ -291,7 +308,7 @@ impl Plain {
 
     /// Changes the hierarchy, where there are roles to do it with: a role misses itself, or a junior's
     /// junior, or two are above each other, with all that either dominates, or one is above another more.
-    fn unrank(&mut self, random: &mut Random) {
+    pub fn unrank(&mut self, random: &mut Random) {
         let rows = &mut self.roles;
         if rows.is_empty() {
             return;
@@ -320,7 +337,7 @@ impl Plain {
     pub fn spoil(&mut self, random: &mut Random) {
         let stray = 1u64 << random.below(64);
         let (roles, users) = (self.roles.len(), self.users.len());
-        match random.below(11) {
+        match random.below(13) {
             0 => change(random, &mut self.roles, |row| row ^ stray),
             1 => change(random, &mut self.users, |row| row | stray),
             2 => change(random, &mut self.permissions, |row| row ^ stray),
@@ -345,6 +362,12 @@ impl Plain {
                 let session = random.below(self.sessions.len());
                 self.sessions[session].1 |= self.seniors(self.sessions[session].0);
             }
+            // With all that the user had.
+            11 if users > 0 => self.left |= 1 << random.below(users.min(64)),
+            12 if self.left != 0 && roles > 0 => {
+                let still = *random.pick(&STILL);
+                self.keep(random, still);
+            }
             _ => {}
         }
     }
@@ -365,7 +388,7 @@ fn twin(random: &mut Random, words: &mut Vec<u64>) {
     }
 }
 
-fn items(word: u64) -> impl Iterator<Item = usize> {
+pub(crate) fn items(word: u64) -> impl Iterator<Item = usize> {
     (0..64).filter(move |item| word >> item & 1 == 1)
 }
 
@@ -376,13 +399,19 @@ pub fn any(random: &mut Random) -> Vec<u8> {
         true => full_of_juniors(random),
         false => accepted(random, most),
     };
+    if plain.left == 0 && random.once_in(10) {
+        plain.leave_some(random, 0);
+    }
     let wrong = random.below(4);
     if wrong & 1 == 1 {
         for _ in 0..random.between(1, 2) {
             plain.spoil(random);
         }
     }
-    let mut bytes = plain.bytes();
+    let mut bytes = match random.once_in(10) {
+        true => plain.remarked(random),
+        false => plain.bytes(),
+    };
     if wrong & 2 == 2 {
         for _ in 0..random.between(1, 2) {
             damage::bytes(random, &mut bytes);

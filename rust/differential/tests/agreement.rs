@@ -92,6 +92,11 @@ fn forecasts_agree() {
     agree("forecasts");
 }
 
+#[test]
+fn leavers_agree() {
+    agree("leavers");
+}
+
 /// Every relation of at most three roles, alone and with a byte left over. Of the relations of 0, 1, 2 and
 /// 3 roles, 1, 1, 4 and 64 are reflexive, 1, 1, 4 and 29 of these transitive, 1, 1, 3 and 19 of these orders.
 #[test]
@@ -346,11 +351,11 @@ fn juniors_are_opened_often() {
     assert!(tables::full_of_juniors(random).beyond_assigned() > 32);
 }
 
-/// Spoiled tables: the builder gives the reference's refusal, with rows for 7, 8 and 9.
+/// Spoiled tables: the builder gives the reference's refusal, with rows for 20, 7, 8 and 9.
 #[test]
 fn the_builder_names_the_rows_at_fault() {
     let random = &mut Random::new(11);
-    let mut met = [0; 19];
+    let mut met = [0; 21];
     for _ in 0..scaled(20_000) {
         let mut plain = tables::accepted(random, 12);
         plain.spoil(random);
@@ -365,13 +370,16 @@ fn the_builder_names_the_rows_at_fault() {
             Err(BuildError::Unencodable(Unencodable::NoSuchItem { .. })) => 5,
             Err(error) => panic!("{error}"),
         };
-        // The builder makes the permissions' rows itself, so that it cannot miscount them.
-        if expected != 6 && number != 3 {
+        // The builder makes the permissions' rows itself, so that it cannot miscount them, and gives no roles
+        // to a leaver.
+        let leavers = (0..plain.users.len()).filter(|&user| plain.has_left(user));
+        let roles_left = leavers.fold(0, |word, user| word | plain.users[user]) != 0;
+        if expected != 6 && number != 3 && !roles_left {
             assert_eq!(number, expected);
         }
         met[number as usize] += 1;
     }
-    for number in [0, 5, 7, 8, 9] {
+    for number in [0, 5, 7, 8, 9, 20] {
         assert!(met[number] >= scaled(20_000) / 1_000, "{number}: {met:?}");
     }
 }

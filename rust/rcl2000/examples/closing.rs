@@ -65,6 +65,8 @@ fn evening() -> Result<Vec<u8>, BuildError> {
     let dino = tables.user([tester]);
     let elsa = tables.user([weigher, blender]);
     let fabio = tables.user([south_hand]);
+    // Gino left in spring. His number is handed on to nobody.
+    tables.user_left();
     // Ana is assigned the leader's role alone, and works under a press hand's, which is junior to it.
     tables.session(ana, [north_hand]);
     tables.session(clara, [grader]);

@@ -3,7 +3,7 @@
 use std::array;
 use std::collections::BTreeMap;
 
-use crate::words::{items, Words};
+use crate::words::{items, UserRow, Words};
 use crate::{check_tables, BuildError, Unencodable};
 use crate::{Object, Operation, Permission, Role, Row, Section, Session, User};
 
@@ -16,7 +16,8 @@ use crate::{Object, Operation, Permission, Role, Row, Section, Session, User};
 /// [`user([])`](TablesBuilder::user); one of whom nothing is known is
 /// [`user_not_entered()`](TablesBuilder::user_not_entered). A permission is entered by
 /// [`held_by`](TablesBuilder::held_by) alone. Tables with such a row are refused, and
-/// [`build`](TablesBuilder::build) names the row.
+/// [`build`](TablesBuilder::build) names the row. Who left keeps the row and the number, and counts no
+/// more: [`user_left()`](TablesBuilder::user_left).
 ///
 /// ```
 /// use rcl2000::{judge_in_turn, TablesBuilder};
@@ -62,7 +63,7 @@ use crate::{Object, Operation, Permission, Role, Row, Section, Session, User};
 #[derive(Clone, Default, Debug)]
 pub struct TablesBuilder {
     roles: Vec<RoleRow>,
-    users: Vec<Option<Vec<Role>>>,
+    users: Vec<UserRow<Vec<Role>>>,
     sessions: Vec<(User, Vec<Role>)>,
     operations: usize,
     objects: usize,
@@ -136,12 +137,41 @@ impl TablesBuilder {
 
     /// Adds a user whose row was entered, with the roles assigned: none, where there are none.
     pub fn user(&mut self, roles: impl IntoIterator<Item = Role>) -> User {
-        User::numbered(add(&mut self.users, Some(roles.into_iter().collect())))
+        let row = UserRow::Entered(roles.into_iter().collect());
+        User::numbered(add(&mut self.users, row))
     }
 
     /// Adds a user whose row never arrived. Tables with one are refused 3.
     pub fn user_not_entered(&mut self) -> User {
-        User::numbered(add(&mut self.users, None))
+        User::numbered(add(&mut self.users, UserRow::NotEntered))
+    }
+
+    /// Adds a user who left. The row remains, without roles, so that nobody else gets the number; U is
+    /// the others, and no verdict or forecast counts or names a leaver. Tables in which a session or a
+    /// set of conflicting users names one are refused 20, and [`build`](TablesBuilder::build) says which.
+    ///
+    /// ```
+    /// use rcl2000::{judge_in_turn, TablesBuilder};
+    ///
+    /// let mut tables = TablesBuilder::new();
+    /// let (tester, grader) = (tables.role([]), tables.role([]));
+    /// let anna = tables.user([tester]);
+    /// let bruno = tables.user_left();
+    /// let carla = tables.user([tester, grader]);
+    /// // Two users, and the one who breaks the rule is still number 2.
+    /// let verdict = judge_in_turn(&tables.build()?, b"|roles(OE(U))|<=1")?;
+    /// assert_eq!(verdict.to_string(), "broken 2 1 50 v1=2");
+    /// tables.session(bruno, []);
+    /// tables.conflicting_users([anna, bruno, carla]);
+    /// assert_eq!(
+    ///     tables.build().unwrap_err().to_string(),
+    ///     "the tables are refused 20, left: session 0 names user 1, who left; \
+    ///      CU word 0 names user 1, who left"
+    /// );
+    /// # Ok::<(), Box<dyn std::error::Error>>(())
+    /// ```
+    pub fn user_left(&mut self) -> User {
+        User::numbered(add(&mut self.users, UserRow::Left))
     }
 
     /// Adds a session of a user with its active roles: any that are in `roles*` of the user, which
@@ -345,11 +375,14 @@ impl TablesBuilder {
         Ok(rows)
     }
 
-    fn user_words(&self) -> Result<Vec<Option<u64>>, Unencodable> {
+    fn user_words(&self) -> Result<Vec<UserRow<u64>>, Unencodable> {
         gathered(&self.users, |number, row| {
-            let row = row.as_ref();
             let user = Row::User(User::numbered(number));
-            row.map(|roles| self.of_roles(user, roles)).transpose()
+            Ok(match row {
+                UserRow::NotEntered => UserRow::NotEntered,
+                UserRow::Entered(roles) => UserRow::Entered(self.of_roles(user, roles)?),
+                UserRow::Left => UserRow::Left,
+            })
         })
     }
 

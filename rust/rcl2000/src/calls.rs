@@ -157,7 +157,7 @@ pub fn rebuild_into(formula: &[u8], out: &mut [u8]) -> Result<usize, Refusal> {
 ///
 /// # Errors
 ///
-/// What is wrong with the tables, a refusal from 1 to 10; else with the rule, 11 to 15; else with
+/// What is wrong with the tables, a refusal from 1 to 10 or 20; else with the rule, 11 to 15; else with
 /// the order, [`Refusal::Order`].
 ///
 /// # Cost
@@ -221,7 +221,7 @@ pub fn judge_into(
 ///
 /// # Errors
 ///
-/// What is wrong with the tables, a refusal from 1 to 10; else with the rule, 11 to 15.
+/// What is wrong with the tables, a refusal from 1 to 10 or 20; else with the rule, 11 to 15.
 ///
 /// # Cost
 ///
@@ -265,7 +265,7 @@ pub fn judge_in_turn(tables: &[u8], rule: &[u8]) -> Result<Verdict, Refusal> {
 ///
 /// # Errors
 ///
-/// What is wrong with the tables, a refusal from 1 to 10; else [`Refusal::Page`] where there is no
+/// What is wrong with the tables, a refusal from 1 to 10 or 20; else [`Refusal::Page`] where there is no
 /// line or more than [`MAX_LINES`](crate::MAX_LINES); else what is wrong with the first line that is
 /// refused, 11 to 15, with its position.
 ///
@@ -371,7 +371,7 @@ pub fn check_rule(rule: &[u8]) -> Result<(), Refusal> {
 ///
 /// # Errors
 ///
-/// What is wrong with the tables: a refusal from 1 to 10. For 7, [`rank_step`] says more.
+/// What is wrong with the tables: a refusal from 1 to 10, or 20. For 7, [`rank_step`] says more.
 ///
 /// # Cost
 ///
@@ -421,8 +421,8 @@ pub fn rank_step(tables: &[u8]) -> Option<RankStep> {
 ///
 /// The ceiling is the product over the rule's variables of the items that each may have: the words in the
 /// whole of CR, CP or CU where its set is a term of that kind, such as `AO(CR)`; for any other set the items
-/// of its sort in the tables, however few the set has. Without variables it is 1. It is at most 64 to the
-/// power of 8. Where it is 0 the rule is idle.
+/// of its sort in the tables, however few the set has; of users those who have not left. Without variables it
+/// is 1. It is at most 64 to the power of 8. Where it is 0 the rule is idle.
 ///
 /// ```
 /// use rcl2000::{forecast, judge_in_turn, reduce, Refusal, TablesBuilder, Word};
@@ -456,7 +456,7 @@ pub fn rank_step(tables: &[u8]) -> Option<RankStep> {
 ///
 /// # Errors
 ///
-/// What is wrong with the tables, a refusal from 1 to 10; else with the rule, 11 to 15.
+/// What is wrong with the tables, a refusal from 1 to 10 or 20; else with the rule, 11 to 15.
 ///
 /// # Cost
 ///
@@ -530,7 +530,7 @@ mod tests {
         assert_eq!(length(0), Ok(0));
         assert_eq!(length(65_535), Ok(65_535));
         assert_eq!(length(13 << 16), Err(Refusal::NotARule));
-        for number in 20..=25 {
+        for number in 21..=25 {
             let refusal = length(number << 16).unwrap_err();
             assert_eq!(refusal, Refusal::Unknown { number });
         }

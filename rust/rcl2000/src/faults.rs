@@ -53,6 +53,13 @@ pub enum Fault {
         /// The row.
         row: Row,
     },
+    /// 20: the row of a session, or a word of CU, names a user who left.
+    Left {
+        /// The row.
+        row: Row,
+        /// The user.
+        user: User,
+    },
     /// 7: a role's row leaves out the role itself.
     MissesItself {
         /// The role.
@@ -97,6 +104,7 @@ impl fmt::Display for Fault {
     fn fmt(&self, f: &mut fmt::Formatter) -> fmt::Result {
         match self {
             Fault::NotEntered { row } => write!(f, "{row} was never entered"),
+            Fault::Left { row, user } => write!(f, "{row} names user {user}, who left"),
             Fault::MissesItself { role } => write!(f, "role {role} does not dominate itself"),
             Fault::MissesJunior {
                 role,
@@ -133,7 +141,7 @@ pub enum BuildError {
     Refused {
         /// The library's refusal.
         refusal: Refusal,
-        /// The rows for which it refuses, all that there are: for refusals 3, 7, 8 and 9.
+        /// The rows for which it refuses, all that there are: for refusals 3, 20, 7, 8 and 9.
         faults: Vec<Fault>,
     },
 }

@@ -84,7 +84,7 @@ refusals! {
     1 CutShort "cut short" "the tables end where a count or a row is due, or inside a row"
     2 Overfull "overfull" "the tables announce more rows in a section than it may have"
     3 NotEntered "not entered" "a user or a permission has a row that nobody has entered yet"
-    4 BadMark "bad mark" "the mark of a user or a permission is neither 0 nor 1"
+    4 BadMark "bad mark" "a user has a mark above 2, or a permission one above 1"
     5 NoSuchItem "no such item" "a row names a role, user or permission that the tables do not have"
     6 Miscounted "miscounted" "there is not one permission for each operation on each object"
     /// [`rank_step`](crate::rank_step) says which comes first.
@@ -101,6 +101,7 @@ refusals! {
     17 ShortSheet "short sheet" "the answer is longer than the space lent for it"
     18 Order "order" "the order does not list each variable once, after those that its set names"
     19 Page "page" "the page has no line or more than 32"
+    20 Left "left" "a user who left has a role or a session, or is in a conflict set"
 }
 
 impl Refusal {
@@ -112,9 +113,9 @@ impl Refusal {
     ///
     /// assert_eq!(Refusal::from_number(9), Some(Refusal::Twin));
     /// assert_eq!(Refusal::from_number(0), None);
-    /// let later = Refusal::from_number(20).unwrap();
-    /// assert!(matches!(later, Refusal::Unknown { number: 20, .. }));
-    /// assert_eq!(later.number(), 20);
+    /// let later = Refusal::from_number(21).unwrap();
+    /// assert!(matches!(later, Refusal::Unknown { number: 21, .. }));
+    /// assert_eq!(later.number(), 21);
     /// ```
     pub fn from_number(number: u32) -> Option<Refusal> {
         let place = number.checked_sub(1)? as usize;
@@ -142,12 +143,12 @@ mod tests {
             assert_eq!(refusal.number() as usize, place + 1);
             assert_eq!(Refusal::from_number(refusal.number()), Some(refusal));
         }
-        assert_eq!(KNOWN.len(), 19);
+        assert_eq!(KNOWN.len(), 20);
     }
 
     #[test]
     fn a_number_that_is_not_known_is_a_case_of_its_own() {
-        for number in [20, 25, 65_535, u32::MAX] {
+        for number in [21, 25, 65_535, u32::MAX] {
             let refusal = Refusal::from_number(number).unwrap();
             assert_eq!(refusal, Refusal::Unknown { number });
             assert_eq!(refusal.number(), number);

@@ -2,10 +2,32 @@
 
 use crate::{Fault, Object, Operation, Permission, Refusal, Role, Row, Session, User};
 
-/// Tables that can be encoded. A row that was never entered is `None`.
+/// A user's row, by its mark.
+#[derive(Clone, Debug)]
+pub(crate) enum UserRow<T> {
+    /// 0: it never arrived.
+    NotEntered,
+    /// 1: entered, with the roles assigned.
+    Entered(T),
+    /// 2: the user left.
+    Left,
+}
+
+impl UserRow<u64> {
+    /// The mark, and the word of assigned roles.
+    fn marked(&self) -> (u8, u64) {
+        match *self {
+            UserRow::NotEntered => (0, 0),
+            UserRow::Entered(word) => (1, word),
+            UserRow::Left => (2, 0),
+        }
+    }
+}
+
+/// Tables that can be encoded. The row of a permission that was never entered is `None`.
 pub(crate) struct Words {
     pub roles: Vec<u64>,
-    pub users: Vec<Option<u64>>,
+    pub users: Vec<UserRow<u64>>,
     pub sessions: Vec<(User, u64)>,
     pub operations: usize,
     pub objects: usize,
@@ -20,14 +42,15 @@ impl Words {
     pub fn bytes(&self) -> Vec<u8> {
         let mut out = Vec::new();
         words(&mut out, &self.roles);
-        marked(&mut out, &self.users);
+        marked(&mut out, self.users.iter().map(UserRow::marked));
         out.push(self.sessions.len() as u8);
         for (user, word) in &self.sessions {
             out.push(user.number() as u8);
             out.extend(word.to_le_bytes());
         }
         out.extend([self.operations as u8, self.objects as u8]);
-        marked(&mut out, &self.permissions);
+        let held = |row: &Option<u64>| (u8::from(row.is_some()), row.unwrap_or(0));
+        marked(&mut out, self.permissions.iter().map(held));
         words(&mut out, &self.conflicting_roles);
         words(&mut out, &self.conflicting_users);
         words(&mut out, &self.conflicting_permissions);
@@ -38,6 +61,7 @@ impl Words {
     pub fn faults(&self, refusal: Refusal) -> Vec<Fault> {
         match refusal {
             Refusal::NotEntered => self.not_entered(),
+            Refusal::Left => self.left(),
             Refusal::Rank => self.rank(),
             Refusal::Overreach => self.overreach(),
             Refusal::Twin => self.twins(),
@@ -46,8 +70,9 @@ impl Words {
     }
 
     fn not_entered(&self) -> Vec<Fault> {
-        let users = missing(&self.users).map(|number| Row::User(User::numbered(number)));
-        let permissions = missing(&self.permissions).map(|number| {
+        let users = places(&self.users, |row| matches!(row, UserRow::NotEntered));
+        let users = users.map(|number| Row::User(User::numbered(number)));
+        let permissions = places(&self.permissions, Option::is_none).map(|number| {
             Row::Permission(Permission {
                 operation: Operation::numbered(number / self.objects),
                 object: Object::numbered(number % self.objects),
@@ -55,6 +80,25 @@ impl Words {
         });
         let rows = users.chain(permissions);
         rows.map(|row| Fault::NotEntered { row }).collect()
+    }
+
+    /// A leaver has no roles here, so that only sessions and CU can name one.
+    fn left(&self) -> Vec<Fault> {
+        let leavers = places(&self.users, |row| matches!(row, UserRow::Left));
+        let leavers = leavers.fold(0u64, |word, number| word | 1 << number);
+        let sessions = self.sessions.iter().enumerate();
+        let sessions = sessions.map(|(number, (user, _))| {
+            let row = Row::Session(Session::numbered(number));
+            (row, 1 << user.number())
+        });
+        let words = self.conflicting_users.iter().enumerate();
+        let words = words.map(|(place, &word)| (Row::ConflictingUsers(place), word));
+        let rows = sessions.chain(words);
+        rows.flat_map(|(row, users)| {
+            let named = items(users & leavers).map(User::numbered);
+            named.map(move |user| Fault::Left { row, user })
+        })
+        .collect()
     }
 
     fn rank(&self) -> Vec<Fault> {
@@ -87,8 +131,8 @@ impl Words {
     fn overreach(&self) -> Vec<Fault> {
         let mut faults = Vec::new();
         for (number, &(user, active)) in self.sessions.iter().enumerate() {
-            let assigned = items(self.users[user.number()].unwrap_or(0));
-            let reached = assigned.fold(0, |word, role| word | self.roles[role]);
+            let (_, assigned) = self.users[user.number()].marked();
+            let reached = items(assigned).fold(0, |word, role| word | self.roles[role]);
             faults.extend(items(active & !reached).map(|role| Fault::Overreach {
                 session: Session::numbered(number),
                 user,
@@ -116,18 +160,18 @@ fn words(out: &mut Vec<u8>, rows: &[u64]) {
 }
 
 /// The count and the rows of a section whose rows have marks.
-fn marked(out: &mut Vec<u8>, rows: &[Option<u64>]) {
+fn marked(out: &mut Vec<u8>, rows: impl ExactSizeIterator<Item = (u8, u64)>) {
     out.push(rows.len() as u8);
-    for row in rows {
-        out.push(u8::from(row.is_some()));
-        out.extend(row.unwrap_or(0).to_le_bytes());
+    for (mark, word) in rows {
+        out.push(mark);
+        out.extend(word.to_le_bytes());
     }
 }
 
-/// The numbers of the rows that were never entered.
-fn missing(rows: &[Option<u64>]) -> impl Iterator<Item = usize> + '_ {
+/// The numbers of the rows of which this is so.
+fn places<T>(rows: &[T], so: fn(&T) -> bool) -> impl Iterator<Item = usize> + '_ {
     let rows = rows.iter().enumerate();
-    rows.filter(|(_, row)| row.is_none())
+    rows.filter(move |(_, row)| so(row))
         .map(|(number, _)| number)
 }
 

@@ -115,6 +115,68 @@ fn sessions_that_reach_too_far_and_equal_words() {
 }
 
 #[test]
+fn who_left_keeps_the_row_and_the_number() {
+    let mut tables = TablesBuilder::new();
+    let role = tables.role([]);
+    let users = [tables.user([role]), tables.user_left(), tables.user([role])];
+    assert_eq!(users.map(User::number), [0, 1, 2]);
+    tables.session(users[2], [role]);
+    tables.conflicting_users([users[0], users[2]]);
+    let bytes = tables.build().unwrap();
+    // The marks, each before its word.
+    let rows = &bytes[1 + 8 + 1..];
+    assert_eq!([rows[0], rows[9], rows[18]], [1, 2, 1]);
+    assert_eq!(rows[9 + 1..18], [0; 8]);
+    // Tables of leavers alone are accepted.
+    let mut tables = TablesBuilder::new();
+    tables.user_left();
+    assert!(tables.build().is_ok());
+}
+
+#[test]
+fn rows_that_name_a_leaver() {
+    let mut tables = TablesBuilder::new();
+    let role = tables.role([]);
+    let (anna, bruno) = (tables.user([role]), tables.user_left());
+    let (carla, dora) = (tables.user([]), tables.user_left());
+    tables.session(anna, [role]);
+    let second = tables.session(dora, []);
+    let third = tables.session(bruno, [role]);
+    tables.conflicting_users([anna, carla]);
+    tables.conflicting_users([dora, anna, bruno]);
+    tables.conflicting_users([dora]);
+    let left = |row, user| Fault::Left { row, user };
+    let faults = vec![
+        left(Row::Session(second), dora),
+        left(Row::Session(third), bruno),
+        left(Row::ConflictingUsers(1), bruno),
+        left(Row::ConflictingUsers(1), dora),
+        left(Row::ConflictingUsers(2), dora),
+    ];
+    assert_eq!(refused(&tables), (Refusal::Left, faults));
+}
+
+/// 3, then 20, then 7: each hides those behind it.
+#[test]
+fn a_leaver_is_named_before_roles_that_do_not_fit() {
+    let mut tables = TablesBuilder::new();
+    let role = tables.role_row([]);
+    let leaver = tables.user_left();
+    let ranked = vec![Fault::MissesItself { role }];
+    assert_eq!(refused(&tables), (Refusal::Rank, ranked));
+    let session = tables.session(leaver, [role]);
+    tables.conflicting_roles([]);
+    tables.conflicting_roles([]);
+    let named = Fault::Left {
+        row: Row::Session(session),
+        user: leaver,
+    };
+    assert_eq!(refused(&tables), (Refusal::Left, vec![named]));
+    tables.user_not_entered();
+    assert_eq!(refused(&tables).0, Refusal::NotEntered);
+}
+
+#[test]
 fn a_permission_may_be_named_first_and_is_looked_for_in_the_end() {
     let permission = Permission {
         operation: Operation::numbered(1),

@@ -223,6 +223,105 @@ fn a_ceiling_counts_the_sort_or_the_whole_collection() {
     }
 }
 
+/// One role, which the last user has, and so many users, those in `left` with mark 2.
+fn with_leavers(users: usize, left: &[usize]) -> TablesBuilder {
+    let mut tables = TablesBuilder::new();
+    let role = tables.role([]);
+    for user in 0..users {
+        match left.contains(&user) {
+            true => tables.user_left(),
+            false if user + 1 == users => tables.user([role]),
+            false => tables.user([]),
+        };
+    }
+    tables
+}
+
+#[test]
+fn who_left_is_no_user_and_keeps_the_number() {
+    let some = with_leavers(5, &[0, 2]).build().unwrap();
+    let lines = [
+        ("OE(U)=OE(U)", "held 3 0 0"),
+        ("|U|=3", "held 1 0 0"),
+        ("roles(OE(U))={}", "broken 3 1 33 v1=4"),
+        ("OE(AO(U))@user(R)", "broken 6 4 67 v1=1 v2=3"),
+        ("user(R)=U", "broken 1 1 100"),
+    ];
+    for (rule, line) in lines {
+        assert_eq!(in_turn(&some, rule).unwrap().to_string(), line, "{rule}");
+    }
+    assert_eq!(ceiling(&some, "OE(AO(U))@U"), 3 * 3);
+    let none = with_leavers(64, &(0..64).collect::<Vec<_>>())
+        .build()
+        .unwrap();
+    assert_eq!(in_turn(&none, "U={}").unwrap().to_string(), "held 1 0 0");
+    assert_eq!(
+        in_turn(&none, "OE(U)=OE(U)").unwrap().to_string(),
+        "idle 0 0 -"
+    );
+    assert_eq!(ceiling(&none, "OE(U)=OE(U)"), 0);
+    let page = judge_page(&some, b"AO(U)={}\n|AO(U)|=2").unwrap();
+    let words: Vec<Word> = page.lines().map(|line| line.word).collect();
+    assert_eq!(words, [Word::Broken, Word::Held]);
+}
+
+/// The mark of the first of the users that [`with_leavers`] adds.
+const FIRST_MARK: usize = 1 + 8 + 1;
+
+#[test]
+fn marks_of_users_and_of_permissions() {
+    let mut tables = with_leavers(2, &[0]);
+    let (operation, object) = (tables.operation(), tables.object());
+    tables.held_by(tables.permission(operation, object), []);
+    let bytes = tables.build().unwrap();
+    // Two users, no sessions, one operation, one object, one permission.
+    let permission = FIRST_MARK + 2 * 9 + 1 + 3;
+    let marked = |at: usize, mark: u8| {
+        let mut bytes = bytes.clone();
+        bytes[at] = mark;
+        check_tables(&bytes)
+    };
+    for (mark, user, permitted) in [
+        (0, Err(Refusal::NotEntered), Err(Refusal::NotEntered)),
+        (1, Ok(()), Ok(())),
+        (2, Ok(()), Err(Refusal::BadMark)),
+        (3, Err(Refusal::BadMark), Err(Refusal::BadMark)),
+        (255, Err(Refusal::BadMark), Err(Refusal::BadMark)),
+    ] {
+        assert_eq!(marked(FIRST_MARK, mark), user, "user, mark {mark}");
+        assert_eq!(
+            marked(permission, mark),
+            permitted,
+            "permission, mark {mark}"
+        );
+    }
+}
+
+#[test]
+fn what_is_still_there_of_a_leaver() {
+    let clean = with_leavers(2, &[0]).build().unwrap();
+    let with_word = |word: u8| {
+        let mut bytes = clean.clone();
+        bytes[FIRST_MARK + 1] = word;
+        bytes
+    };
+    assert_eq!(check_tables(&with_word(1)), Err(Refusal::Left));
+    // A bit at the role count is met while reading, and what is left over before a leaver is looked for.
+    assert_eq!(check_tables(&with_word(2)), Err(Refusal::NoSuchItem));
+    let longer = [with_word(1), vec![0]].concat();
+    assert_eq!(check_tables(&longer), Err(Refusal::LeftOver));
+    // The rule, the order and the output come behind, and so does a step of the rank test.
+    let refused = judge_into(&with_word(1), b"", &[9], &mut []);
+    assert_eq!(refused, Err(Refusal::Left));
+    let refused = judge_page(&with_word(1), b"").unwrap_err();
+    assert_eq!((refused.refusal, refused.position), (Refusal::Left, 0));
+    assert_eq!(forecast(&with_word(1), b""), Err(Refusal::Left));
+    let mut unranked = with_word(1);
+    unranked[1] = 0;
+    assert_eq!(check_tables(&unranked), Err(Refusal::Left));
+    assert_eq!(rank_step(&unranked), None);
+}
+
 #[test]
 fn eight_variables_on_the_largest_tables() {
     let mut tables = TablesBuilder::new();

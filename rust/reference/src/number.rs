@@ -19,3 +19,4 @@ pub const NO_RULES_FORMULA: u32 = 16;
 pub const SHORT_SHEET: u32 = 17;
 pub const ORDER: u32 = 18;
 pub const PAGE: u32 = 19;
+pub const LEFT: u32 = 20;

@@ -1,5 +1,5 @@
 //! Document 01, "Tables" and "Functions": reading tables front to back, and Figure 2 on them.
-//! Document 02, N2: which roles a session may have active; N4: the steps of the rank test.
+//! Document 02, N2: which roles a session may have active; N4: the steps of the rank test; N6: who left.
 
 use crate::number::*;
 use crate::set::Set;
@@ -17,8 +17,10 @@ pub struct Session {
 pub struct Tables {
     /// For each role, the roles that it dominates.
     pub dominated: Vec<Set>,
-    /// UA: for each user, the roles assigned.
+    /// UA: for each user number, the roles assigned; a leaver's row remains.
     pub assigned: Vec<Set>,
+    /// "U is then the users marked 1".
+    pub present: Set,
     pub sessions: Vec<Session>,
     pub operations: usize,
     pub objects: usize,
@@ -28,6 +30,11 @@ pub struct Tables {
     pub cu: Vec<Set>,
     pub cp: Vec<Set>,
 }
+
+/// The marks of rows: "Mark 2 in a user row means left. .. Permission rows still know marks 0 and 1 only."
+const NEVER: u8 = 0;
+const ENTERED: u8 = 1;
+const GONE: u8 = 2;
 
 /// The bytes not yet read.
 struct Rest<'a>(&'a [u8]);
@@ -56,15 +63,15 @@ impl<'a> Rest<'a> {
         (0..count).map(|_| word(self.row(8)?, items)).collect()
     }
 
-    /// A section of words, each preceded by a mark.
-    fn marked(&mut self, count: usize, items: usize) -> Answer<Vec<Set>> {
+    /// A section of words, each preceded by a mark of at most `highest`.
+    fn marked(&mut self, count: usize, items: usize, highest: u8) -> Answer<Vec<(u8, Set)>> {
         (0..count)
             .map(|_| {
                 let row = self.row(9)?;
                 match row[0] {
-                    0 => Err(NOT_ENTERED),
-                    1 => word(&row[1..], items),
-                    _ => Err(BAD_MARK),
+                    NEVER => Err(NOT_ENTERED),
+                    mark if mark > highest => Err(BAD_MARK),
+                    mark => Ok((mark, word(&row[1..], items)?)),
                 }
             })
             .collect()
@@ -114,7 +121,8 @@ fn sections(bytes: &[u8]) -> Answer<Tables> {
     let roles = rest.count(64)?;
     let dominated = rest.words(roles, roles)?;
     let users = rest.count(64)?;
-    let assigned = rest.marked(users, roles)?;
+    let (marks, assigned): (Vec<u8>, _) = rest.marked(users, roles, GONE)?.into_iter().unzip();
+    let present = Set::of(|user| marks.get(user) == Some(&ENTERED));
     let count = rest.count(64)?;
     let sessions = (0..count)
         .map(|_| rest.session(users, roles))
@@ -125,7 +133,7 @@ fn sections(bytes: &[u8]) -> Answer<Tables> {
     if permissions != operations * objects {
         return Err(MISCOUNTED);
     }
-    let holders = rest.marked(permissions, roles)?;
+    let holders = rest.marked(permissions, roles, ENTERED)?;
     let mut collection = |items| {
         let count = rest.count(64)?;
         rest.words(count, items)
@@ -136,10 +144,11 @@ fn sections(bytes: &[u8]) -> Answer<Tables> {
         cp: collection(permissions)?,
         dominated,
         assigned,
+        present,
         sessions,
         operations,
         objects,
-        holders,
+        holders: holders.into_iter().map(|(_, roles)| roles).collect(),
     };
     if !rest.0.is_empty() {
         return Err(LEFT_OVER);
@@ -148,8 +157,11 @@ fn sections(bytes: &[u8]) -> Answer<Tables> {
 }
 
 impl Tables {
-    /// The checks over whole tables: 7, 8, 9.
+    /// The checks over whole tables: 20, 7, 8, 9.
     fn examine(&self) -> Answer<()> {
+        if self.names_a_leaver() {
+            return Err(LEFT);
+        }
         if self.failing_step() != 0 {
             return Err(RANK);
         }
@@ -164,6 +176,15 @@ impl Tables {
             return Err(TWIN);
         }
         Ok(())
+    }
+
+    /// "a row of mark 2 with a word not zero, a session of a leaver, or a CU word naming one"
+    fn names_a_leaver(&self) -> bool {
+        let left = |user: &usize| !self.present.contains(*user);
+        let mut leavers = (0..self.assigned.len()).filter(left);
+        leavers.any(|user| !self.assigned[user].is_empty())
+            || self.sessions.iter().any(|session| left(&session.user))
+            || self.cu.iter().any(|users| !users.within(&self.present))
     }
 
     /// "reflexive, transitive and antisymmetric, in that sequence": the first step that some roles

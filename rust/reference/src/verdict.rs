@@ -94,7 +94,7 @@ pub fn steps(tables: &Tables, rule: &Rule) -> u64 {
 fn choosable(tables: &Tables, rule: &Rule) -> Vec<u64> {
     let kinds = Kinds::of(rule).expect("an accepted rule has kinds");
     let sets = kinds.sets();
-    sets.map(|set| items(tables, set) as u64).collect()
+    sets.map(|set| items(tables, set).len() as u64).collect()
 }
 
 /// The variable numbers in order, from 0: each once, and each after those that its set names.
@@ -151,7 +151,7 @@ impl Judge<'_> {
         let Some((&variable, rest)) = order.split_first() else {
             return self.try_one();
         };
-        for item in 0..items(self.tables, self.kinds.set(variable)) {
+        for item in items(self.tables, self.kinds.set(variable)).items() {
             self.choice[variable] = item;
             self.try_all(rest);
         }
@@ -264,23 +264,24 @@ fn stands(left: usize, relation: Relation, right: usize) -> bool {
     }
 }
 
-/// How many items a variable has to choose from, by the kind of its set: all of its sort, or all
+/// The items that a variable has to choose from, by the kind of its set: all of its sort, or all
 /// words.
-fn items(tables: &Tables, set: Kind) -> usize {
+fn items(tables: &Tables, set: Kind) -> Set {
     match set {
-        Kind::Element(sort) | Kind::Set(sort) => count(tables, sort),
-        Kind::Collection(collection) => words(tables, collection).len(),
+        Kind::Element(sort) | Kind::Set(sort) => all_of(tables, sort),
+        Kind::Collection(collection) => Set::below(words(tables, collection).len()),
     }
 }
 
-fn count(tables: &Tables, sort: Sort) -> usize {
+/// The items of a sort. A leaver is none, and keeps the number.
+fn all_of(tables: &Tables, sort: Sort) -> Set {
     match sort {
-        Sort::U => tables.assigned.len(),
-        Sort::R => tables.dominated.len(),
-        Sort::Op => tables.operations,
-        Sort::Obj => tables.objects,
-        Sort::P => tables.permissions(),
-        Sort::S => tables.sessions.len(),
+        Sort::U => tables.present,
+        Sort::R => Set::below(tables.dominated.len()),
+        Sort::Op => Set::below(tables.operations),
+        Sort::Obj => Set::below(tables.objects),
+        Sort::P => Set::below(tables.permissions()),
+        Sort::S => Set::below(tables.sessions.len()),
     }
 }
 
@@ -293,15 +294,15 @@ fn words(tables: &Tables, collection: Collection) -> &[Set] {
 }
 
 fn all(tables: &Tables, basic: Basic) -> Set {
-    Set::below(match basic {
-        Basic::U => count(tables, Sort::U),
-        Basic::R => count(tables, Sort::R),
-        Basic::Op => count(tables, Sort::Op),
-        Basic::Obj => count(tables, Sort::Obj),
-        Basic::P => count(tables, Sort::P),
-        Basic::S => count(tables, Sort::S),
-        Basic::Cr => tables.cr.len(),
-        Basic::Cp => tables.cp.len(),
-        Basic::Cu => tables.cu.len(),
-    })
+    match basic {
+        Basic::U => all_of(tables, Sort::U),
+        Basic::R => all_of(tables, Sort::R),
+        Basic::Op => all_of(tables, Sort::Op),
+        Basic::Obj => all_of(tables, Sort::Obj),
+        Basic::P => all_of(tables, Sort::P),
+        Basic::S => all_of(tables, Sort::S),
+        Basic::Cr => Set::below(tables.cr.len()),
+        Basic::Cp => Set::below(tables.cp.len()),
+        Basic::Cu => Set::below(tables.cu.len()),
+    }
 }

@@ -161,10 +161,11 @@ fn steps_of_the_rank_test() {
 
 /// The forecast for a rule, as the plain and the fast modules both tell it.
 fn forecast(tables: &[u8], rule: &str) -> String {
-    let command = format!("forecast {} {}", hex(tables), hex(rule.as_bytes()));
-    let plain = answer(command.as_bytes(), Command::plain);
-    assert_eq!(answer(command.as_bytes(), Command::fast), plain, "{rule}");
-    plain
+    both(&format!(
+        "forecast {} {}",
+        hex(tables),
+        hex(rule.as_bytes())
+    ))
 }
 
 /// Tables in which every count is another one: 2 roles, 3 users, 5 sessions, 1 operation, 7 objects, so 7
@@ -242,4 +243,83 @@ fn forecasts_are_refused_for_the_tables_first() {
         assert_eq!(forecast(&T[1..], rule), "refused 5");
     }
     assert_eq!(forecast(&[], "U=U"), "refused 1");
+}
+
+/// Two roles apart; users 0 and 2 with a role each and user 1 with this row; a session of the first of
+/// `named` and a CU word of both; a byte more where there is one.
+fn left(row: [u8; 2], named: [u8; 2], more: &[u8]) -> Vec<u8> {
+    let word = |low: u8| [low, 0, 0, 0, 0, 0, 0, 0];
+    let marked = |mark: u8, low: u8| [&[mark][..], &word(low)].concat();
+    let users = [marked(1, 1), marked(row[0], row[1]), marked(1, 2)].concat();
+    let cu = word(1 << named[0] | 1 << named[1]);
+    let parts: [&[u8]; 11] = [
+        &[2],
+        &word(1),
+        &word(2),
+        &[3],
+        &users,
+        &[1],
+        &marked(named[0], 0),
+        &[0, 0, 0, 0, 1],
+        &cu,
+        &[0],
+        more,
+    ];
+    parts.concat()
+}
+
+/// What the plain and the fast modules both answer.
+fn both(command: &str) -> String {
+    let plain = answer(command.as_bytes(), Command::plain);
+    assert_eq!(
+        answer(command.as_bytes(), Command::fast),
+        plain,
+        "{command}"
+    );
+    plain
+}
+
+#[test]
+fn what_is_still_there_of_a_leaver() {
+    let cases = [
+        (left([2, 0], [0, 2], &[]), 0),
+        (left([2, 1], [0, 2], &[]), 20),
+        (left([2, 0], [1, 2], &[]), 20),
+        (left([2, 0], [0, 1], &[]), 20),
+        // 10 before it; while reading 5 and the marks.
+        (left([2, 1], [0, 2], &[0]), 10),
+        (left([2, 4], [0, 2], &[]), 5),
+        (left([2, 0], [3, 2], &[]), 5),
+        (left([0, 4], [1, 1], &[]), 3),
+        (left([3, 4], [1, 1], &[]), 4),
+        // Whoever is entered is named.
+        (left([1, 3], [1, 1], &[]), 0),
+    ];
+    for (tables, number) in cases {
+        let command = format!("tables {}", hex(&tables));
+        assert_eq!(both(&command), number.to_string(), "{command}");
+    }
+    // 20 before 7, and no step then.
+    for (row, number, step) in [([2, 1], "20", "0"), ([2, 0], "7", "1")] {
+        let mut tables = left(row, [0, 2], &[]);
+        tables[1] = 0;
+        assert_eq!(both(&format!("tables {}", hex(&tables))), number);
+        assert_eq!(both(&format!("rankstep {}", hex(&tables))), step);
+    }
+}
+
+#[test]
+fn users_are_those_who_have_not_left() {
+    let tables = left([2, 0], [2, 0], &[]);
+    let sheet = "1 held 2 0 0\n2 held 1 0 0\n3 broken 2 1 50 v1=2\n4 held 2 0 0\n5 held 1 0 0\n\
+                 total 5 held 4 idle 0 broken 1 refused 0\n";
+    let rules = b"OE(U)=OE(U)\n|U|=2\nsessions(OE(U))={}\n|AO(U)|=1\nOE(CU)=U";
+    assert_eq!(sheet::sheet(&tables, rules), sheet);
+    assert_eq!(forecast(&tables, "OE(U)=OE(U)"), "12 2");
+    assert_eq!(forecast(&tables, "OE(OE(CU))@U"), "19 2");
+    let nobody = [&[0, 1, 2][..], &[0; 8], &[0; 7]].concat();
+    assert_eq!(forecast(&nobody, "OE(U)=OE(U)"), "12 0");
+    let rules = b"OE(U)=OE(U)\nU={}";
+    let idle = "1 idle 0 0 -\n2 held 1 0 0\ntotal 2 held 1 idle 1 broken 0 refused 0\n";
+    assert_eq!(sheet::sheet(&nobody, rules), idle);
 }

@@ -29,7 +29,7 @@ fn items(tables: &Tables, set: Kind) -> usize {
         Kind::Collection(Collection::Cp) => tables.cp.len(),
         Kind::Collection(Collection::Cu) => tables.cu.len(),
         Kind::Element(sort) | Kind::Set(sort) => match sort {
-            Sort::U => tables.assigned.len(),
+            Sort::U => tables.present.count_ones() as usize,
             Sort::R => tables.dominated.len(),
             Sort::Op => tables.operations,
             Sort::Obj => tables.objects,

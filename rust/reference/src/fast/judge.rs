@@ -118,7 +118,7 @@ impl<'a> Lower<'a> {
 
     fn term(&self, term: &Term) -> Expr<'a> {
         match term {
-            Term::Basic(basic) => Expr::Word(below(self.size(*basic))),
+            Term::Basic(basic) => Expr::Word(self.all(*basic)),
             Term::One(number) => Expr::One(*number),
             Term::Other(number) => Expr::Other(*number),
             Term::Call(function, argument) => self.call(*function, argument),
@@ -161,18 +161,19 @@ impl<'a> Lower<'a> {
         }
     }
 
-    fn size(&self, basic: Basic) -> usize {
-        match basic {
-            Basic::U => self.tables.assigned.len(),
-            Basic::R => self.tables.dominated.len(),
-            Basic::Op => self.tables.operations,
-            Basic::Obj => self.tables.objects,
-            Basic::P => self.tables.holders.len(),
-            Basic::S => self.tables.active.len(),
-            Basic::Cr => self.tables.cr.len(),
-            Basic::Cp => self.tables.cp.len(),
-            Basic::Cu => self.tables.cu.len(),
-        }
+    fn all(&self, basic: Basic) -> u64 {
+        let tables = self.tables;
+        below(match basic {
+            Basic::U => return tables.present,
+            Basic::R => tables.dominated.len(),
+            Basic::Op => tables.operations,
+            Basic::Obj => tables.objects,
+            Basic::P => tables.holders.len(),
+            Basic::S => tables.active.len(),
+            Basic::Cr => tables.cr.len(),
+            Basic::Cp => tables.cp.len(),
+            Basic::Cu => tables.cu.len(),
+        })
     }
 }
 

@@ -9,6 +9,8 @@ pub struct Tables {
     pub dominated: Vec<u64>,
     /// For each user, the roles assigned.
     pub assigned: Vec<u64>,
+    /// The users who have not left.
+    pub present: u64,
     /// For each session, its user alone.
     pub session_user: Vec<u64>,
     /// For each session, its active roles.
@@ -49,11 +51,28 @@ impl<'a> Rest<'a> {
         (0..count).map(|_| word(*self.row()?, items)).collect()
     }
 
-    fn marked(&mut self, count: usize, items: usize) -> Answer<Vec<u64>> {
+    /// The roles of the users, and which users are present.
+    fn users(&mut self, count: usize, roles: usize) -> Answer<(Vec<u64>, u64)> {
+        let mut present = 0;
+        let mut assigned = Vec::with_capacity(count);
+        for user in 0..count {
+            let [mark, bytes @ ..] = self.row::<9>()?;
+            match mark {
+                0 => return Err(NOT_ENTERED),
+                1 => present |= 1 << user,
+                2 => {}
+                _ => return Err(BAD_MARK),
+            }
+            assigned.push(word(*bytes, roles)?);
+        }
+        Ok((assigned, present))
+    }
+
+    fn permissions(&mut self, count: usize, roles: usize) -> Answer<Vec<u64>> {
         (0..count)
             .map(|_| match self.row::<9>()? {
                 [0, ..] => Err(NOT_ENTERED),
-                [1, bytes @ ..] => word(*bytes, items),
+                [1, bytes @ ..] => word(*bytes, roles),
                 _ => Err(BAD_MARK),
             })
             .collect()
@@ -92,10 +111,13 @@ pub fn read(bytes: &[u8]) -> Answer<Tables> {
     Ok(tables)
 }
 
-/// The first step of the rank test that fails, where the tables are refused 7; else 0. No other
-/// check comes between the sections and the rank.
+/// The first step of the rank test that fails, where the tables are refused 7; else 0. Between the
+/// sections and the rank only leavers are looked for.
 pub fn rank_step(bytes: &[u8]) -> u32 {
-    sections(bytes).map_or(0, |tables| failing_step(&tables.dominated))
+    match sections(bytes) {
+        Ok(tables) if !tables.names_a_leaver() => failing_step(&tables.dominated),
+        _ => 0,
+    }
 }
 
 /// The sections alone, and nothing behind them.
@@ -104,7 +126,7 @@ fn sections(bytes: &[u8]) -> Answer<Tables> {
     let roles = rest.count(64)?;
     let dominated = rest.words(roles, roles)?;
     let users = rest.count(64)?;
-    let assigned = rest.marked(users, roles)?;
+    let (assigned, present) = rest.users(users, roles)?;
     let (session_user, active) = rest.sessions(users, roles)?;
     let operations = rest.count(8)?;
     let objects = rest.count(8)?;
@@ -113,7 +135,7 @@ fn sections(bytes: &[u8]) -> Answer<Tables> {
     if permissions != operations * objects {
         return Err(MISCOUNTED);
     }
-    let holders = rest.marked(permissions, roles)?;
+    let holders = rest.permissions(permissions, roles)?;
     let mut collection = |items| {
         let count = rest.count(64)?;
         rest.words(count, items)
@@ -125,6 +147,7 @@ fn sections(bytes: &[u8]) -> Answer<Tables> {
         object: (0..permissions).map(|p| 1 << (p % objects)).collect(),
         dominated,
         assigned,
+        present,
         session_user,
         active,
         operations,
@@ -138,10 +161,12 @@ fn sections(bytes: &[u8]) -> Answer<Tables> {
 }
 
 impl Tables {
-    /// The checks over whole tables: 7, 8, 9.
+    /// The checks over whole tables: 20, 7, 8, 9.
     fn examine(&self) -> Answer<()> {
         let mut sessions = self.session_user.iter().zip(&self.active);
-        if failing_step(&self.dominated) != 0 {
+        if self.names_a_leaver() {
+            Err(LEFT)
+        } else if failing_step(&self.dominated) != 0 {
             Err(RANK)
         } else if sessions.any(|(user, roles)| self.overreaches(user.trailing_zeros(), *roles)) {
             Err(OVERREACH)
@@ -150,6 +175,13 @@ impl Tables {
         } else {
             Ok(())
         }
+    }
+
+    /// Whether a leaver has a role or a session, or stands in CU.
+    fn names_a_leaver(&self) -> bool {
+        let left = below(self.assigned.len()) & !self.present;
+        let mut users = self.session_user.iter().chain(&self.cu);
+        items(left).any(|user| self.assigned[user] != 0) || users.any(|word| word & left != 0)
     }
 
     /// Whether one of the roles is neither assigned to the user nor junior to such a role. A role
