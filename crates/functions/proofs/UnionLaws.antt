@@ -16,7 +16,7 @@ use Rattle.tables.specs.Functions.{userOfSessions, userOfRoles, rolesOfUsers, r
 use Rattle.tables.specs.Functions.{juniorsOfUsers, juniorsOfSessions, seniorsOfPermissions, sessionsOfUsers}
 use Rattle.tables.specs.Functions.{permissionsOfRoles, permissionsOfJuniors, objectsOfPermissions, operationsOn}
 use Rattle.functions.specs.Union.{Unites}
-use Rattle.tables.proofs.LeaverLaws.{session-present, passes-gone}
+use Rattle.tables.proofs.LeaverLaws.{session-present}
 use Rattle.tables.proofs.CheckLaws.{some-item}
 
 -- Some item of a union is an item of the one or of the other.
@@ -121,7 +121,7 @@ pub user-of-one : (T : Tables) → Passes T → (s : ℕ) → s < length (T .ses
 unfolding userOfSessions itemOf
 user-of-one T passes s l = (
   word-ext 64 (λ u. someIn (itemOf s) (λ s. sessionOf T s u)) (λ u. eqb u user) is,
-  session-present T (passes .sound .bounded) (passes-gone T passes) user s (and-both (lt-ltb s (length (T .sessions)) l) (eq-eqb user user refl)),
+  session-present T passes user s (and-both (lt-ltb s (length (T .sessions)) l) (eq-eqb user user refl)),
 )
   where
     user : ℕ

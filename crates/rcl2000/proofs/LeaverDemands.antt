@@ -2,40 +2,43 @@
 -- after; and of the functions and variables that verdicts rest on. Assumes nothing.
 use mathlib.Core.Path.{_≡_, refl, ap, _∙_}
 use mathlib.Core.Bool.{true}
-use mathlib.Core.List.{[]}
+use mathlib.Core.List.{List, []}
 use mathlib.Core.Logic.{_↔_}
 use mathlib.Core.Option.{some}
-use Prim.Native.Nat.{ℕ, _+_, _*_, _≤_, _<_}
+use Prim.Native.Nat.{ℕ, _+_, _*_, _≤_}
 use native.Mathlib.Omega.{arith}
-use lib.ListN.{length, getD, take, drop}
+use lib.ListN.{length, getElem?, take, drop}
 use Rattle.answers.specs.Refusal.{numberOf}
 use Rattle.answers.specs.declared.Refusal.{Refusal}
-use Rattle.answers.specs.declared.Refusal.the-variants.{Left}
+use Rattle.answers.specs.declared.Refusal.the-variants.{Rank, Left}
 use Rattle.words.specs.Words.{has}
 use Rattle.tables.specs.Tables.{Tables, isPresent}
 use Rattle.tables.specs.Functions.{userOfSessions, userOfRoles}
 use Rattle.tables.specs.Checks.{lateChecks, firstFailing}
-use Rattle.tables.specs.Reading.{next, refuse, nothingLeft, settle, whole, rejected, taken, tablesOf, wordFrom}
+use Rattle.tables.specs.Reading.{next, refuse, nothingLeft, settle, whole, rejected, taken, tablesOf}
 use Rattle.tables.proofs.FitsLaws.{accepted-passes}
 use Rattle.tables.proofs.PresentLaws.{present-is}
-use Rattle.tables.proofs.LeaverLaws.{passes-gone, remains-fails}
-use Rattle.tables.proofs.StopLaws.{left-refused}
+use Rattle.tables.proofs.LeaverLaws.{remains-fails}
+use Rattle.tables.proofs.StopLaws.{left-refused, rank-other}
 use Rattle.syntax.specs.Bytes.{Bytes}
-use Rattle.syntax.specs.Rule.{Rule, ruleVars}
+use Rattle.syntax.specs.Rule.{Rule, ruleVars, ruleOf}
 use Rattle.rules.specs.Accept.{refusal}
-use Rattle.rules.specs.Kind.{sU, set, kind}
 use Rattle.rules.proofs.AcceptLaws.{refused-early}
-use Rattle.values.specs.Sets.{setOf}
+use Rattle.walks.specs.Choices.{variables, fullOn}
+use Rattle.values.specs.Sets.{inSet, TakesPresent}
 use Rattle.values.proofs.InsideLaws.{users-of-sessions, users-of-roles}
-use Rattle.values.proofs.BoundLaws.{variable-present}
-use Rattle.verdicts.specs.Report.{Admitted}
-use Rattle.rcl2000.specs.Calls.{LeftBehind, Judges, JudgeRefuses, tablesRefused, judgedRefused, orderRefused, verdictLonger}
+use Rattle.values.proofs.BoundLaws.{full-present}
+use Rattle.texts.specs.Pieces.{lines}
+use Rattle.verdicts.specs.Verdict.{turnOrder}
+use Rattle.verdicts.specs.Report.{Admitted, ReportsIn}
+use Rattle.pages.specs.Met.{PageAdmitted}
+use Rattle.rcl2000.specs.Calls.{LeftBehind, NamesPresent, Judges, JudgeRefuses, tablesRefused, judgedRefused, orderRefused, verdictLonger}
 use Rattle.rcl2000.specs.Calls.{Forecasts, ForecastRefuses, forecastTables, forecastRule, forecastLonger}
-use Rattle.rcl2000.specs.Calls.{JudgesPage, PageRefuses, pageTables, pageUnsized, pageLine, pageLonger}
+use Rattle.rcl2000.specs.Calls.{JudgesPage, pageSize, PageRefuses, pageTables, pageUnsized, pageLine, pageLonger, GivesStep}
 use Rattle.rcl2000.proofs.CallLaws.{through}
 use Rattle.rcl2000.proofs.Demands.{judge-refuses}
 use Rattle.rcl2000.proofs.ForecastDemands.{forecast-refuses}
-use Rattle.rcl2000.proofs.PageDemands.{page-refuses}
+use Rattle.rcl2000.proofs.PageDemands.{page-refuses, page-line-reports}
 use Rattle.rcl2000.proofs.JudgeLaws.{admitted-reported}
 
 -- "Answers: 20 (left: ..) after 10 and before 7": tables are refused by it exactly there, whatever their hierarchy, sessions and collections are.
@@ -82,24 +85,34 @@ module _ (tables : Bytes) where
       back (pageLine t sized h) q z = absurd (omega arith)
       back (pageLonger a l) q z = own-not (omega arith) q
 
+  -- `rank_step`, which refuses nothing, gives no step there.
+  pub left-stepped : (r : ℕ) → GivesStep tables r → LeftBehind tables → r ≡ 0
+  left-stepped r s b = s ∙ rank-other tables (λ q. let x : Left ≡ Rank = cc (q, left-exactly tables .1 b) in absurd (omega (arith, ap numberOf x)))
+
 -- "A user function never yields a leaver": on accepted tables, of whatever sessions or roles.
-module _ (tables : Bytes) {T : Tables} (t : tablesOf tables ≡ taken T) (w u : ℕ) where
-  pub user-of-sessions-present : has (userOfSessions T w) u ≡ true → isPresent (T .users) u ≡ true
-  user-of-sessions-present h =
-      let p = accepted-passes tables t in
-      present-is (T .users) u (users-of-sessions T (p .sound .fits) (p .sound .bounded) (passes-gone T p) w u h)
+module _ (tables : Bytes) {T : Tables} (t : tablesOf tables ≡ taken T) where
+  pub user-of-sessions-present : (w u : ℕ) → has (userOfSessions T w) u ≡ true → isPresent (T .users) u ≡ true
+  user-of-sessions-present w u h = present-is (T .users) u (users-of-sessions T (accepted-passes tables t) w u h)
 
-  pub user-of-roles-present : has (userOfRoles T w) u ≡ true → isPresent (T .users) u ≡ true
-  user-of-roles-present h =
-      let p = accepted-passes tables t in
-      present-is (T .users) u (users-of-roles T (p .sound .fits) (p .sound .bounded) (passes-gone T p) w u h)
+  pub user-of-roles-present : (w u : ℕ) → has (userOfRoles T w) u ≡ true → isPresent (T .users) u ≡ true
+  user-of-roles-present w u h = present-is (T .users) u (users-of-roles T (accepted-passes tables t) w u h)
 
--- A variable whose set is of users never takes a leaver: where the verdict that `judge` wrote counts a breaking choice, the choice in its bytes 17 to 24
--- names users who are present.
-pub choice-present : (tables rule order old new : Bytes) (r : ℕ) {T : Tables} {ρ : Rule} → Admitted tables rule order T ρ → 26 ≤ length old
-    → Judges tables rule order old new r → 0 < wordFrom (take 8 (drop 9 new))
-    → (v : ℕ) → v < length (ruleVars [] ρ) → kind (setOf (ruleVars [] ρ) v) ≡ some (set sU)
-    → isPresent (T .users) (getD (take 8 (drop 17 new)) v 0) ≡ true
-choice-present tables rule order old new r {T} {ρ} a room j above v l k =
-    let (n, told) = admitted-reported a j room in
-    variable-present T (accepted-passes tables (a .reads)) ρ (take 8 (drop 17 new)) (told .reports .found above .full) v l k
+  -- A variable whose set is of users never takes a leaver: no full choice does, by which a rule is judged,
+  pub choices-present : (ρ : Rule) (c : List ℕ) → fullOn (inSet T (ruleVars [] ρ)) (variables (length (ruleVars [] ρ))) c ≡ true → TakesPresent T ρ c
+  choices-present ρ c full = full-present T (accepted-passes tables t) ρ c full
+
+  reported-present : (ρ : Rule) (order b : Bytes) → ReportsIn T ρ order b → NamesPresent T ρ b
+  reported-present ρ order b told above = choices-present ρ (take 8 (drop 17 b)) (told .found above .full)
+
+-- and the breaking choice that is written names none: by `judge`,
+pub judged-present : (tables rule order old new : Bytes) (r : ℕ) → Judges tables rule order old new r
+    → {T : Tables} {ρ : Rule} → Admitted tables rule order T ρ → 26 ≤ length old → NamesPresent T ρ new
+judged-present tables rule order old new r j {ρ = ρ} a room = reported-present tables (a .reads) ρ order new (admitted-reported a j room .1 .reports)
+
+-- and of each line by `judge_page`.
+pub paged-present : (tables page old new : Bytes) (r : ℕ) → JudgesPage tables page old new r
+    → (T : Tables) → PageAdmitted tables page T → pageSize (length (lines page)) ≤ length old → (j : ℕ) (w : Bytes) → getElem? (lines page) j ≡ some w
+    → (ρ : Rule) × Admitted tables w (turnOrder (ruleOf w)) T ρ × NamesPresent T ρ (drop (pageSize j) new)
+paged-present tables page old new r s T a room j w q =
+    let (ρ, line, told) = page-line-reports tables page old new r s T a room j w q in
+    (ρ, line, reported-present tables (line .reads) ρ (turnOrder (ruleOf w)) (drop (pageSize j) new) told)

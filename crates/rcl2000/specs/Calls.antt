@@ -19,6 +19,7 @@ use Rattle.syntax.specs.Bytes.{Bytes}
 use Rattle.syntax.specs.Rule.{Rule, ruleVars, formula, ruleOf}
 use Rattle.rules.specs.Accept.{refusal}
 use Rattle.formulas.specs.Formulas.{RuleOf, reduced, Rebuilds}
+use Rattle.values.specs.Sets.{TakesPresent}
 use Rattle.values.specs.Ceiling.{ceilingOf}
 use Rattle.verdicts.specs.Verdict.{wordNumber, turnOrder, judged}
 use Rattle.verdicts.specs.Report.{OrderOf, ReportsIn, Admitted}
@@ -193,3 +194,7 @@ pub record LeftBehind (tables : Bytes) : Type 0 where
   pub has : Tables
   pub reads : sections tables ≡ took has []
   pub remains : LeaverRemains has
+
+-- Where the 26 bytes b of a verdict on ρ count a breaking choice, the one in bytes 17 to 24 takes no leaver.
+abbrev pub NamesPresent : Tables → Rule → Bytes → Type 0
+NamesPresent T ρ b = 0 < wordFrom (take 8 (drop 9 b)) → TakesPresent T ρ (take 8 (drop 17 b))

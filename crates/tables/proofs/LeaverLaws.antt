@@ -1,7 +1,7 @@
 -- Laws of leavers: what the code asks of words is what the definition asks of each leaver, and that as a sentence; of accepted tables, whoever
 -- has a role or a session or stands in a word of CU is present. Assumes nothing.
 use mathlib.Core.Path.{_≡_, refl, sym, ap, _∙_}
-use mathlib.Core.Bool.{Bool, true, false, _&&_, _||_, not, true≢false}
+use mathlib.Core.Bool.{Bool, true, false, _&&_, _||_, not, true≢false, and-true as and-yes}
 use mathlib.Core.List.{List, map}
 use mathlib.Core.Logic.{_↔_}
 use Prim.Native.Nat.{ℕ, zero, suc, _^_, _<_, _≤_}
@@ -27,10 +27,6 @@ use Rattle.tables.proofs.CheckLaws.{less-zero}
 use Rattle.tables.proofs.PresentLaws.{has-present, present-there}
 
 -- ---- the words
-
-and-yes : (b : Bool) → (b && true) ≡ b
-and-yes true = refl
-and-yes false = refl
 
 -- A row meets the word of all where it is not empty.
 meets-all : (rows : List ℕ) (u : ℕ) → u < 64 → getD rows u 0 < 2 ^ 64 → has (preimageOf rows (allOf 64)) u ≡ not (eqb (getD rows u 0) 0)
@@ -260,11 +256,20 @@ none-gone T n = go (leaversGone T) refl
 
 -- ---- accepted tables
 
--- Where nothing is left of those who left, whoever has a role or a session or stands in a word of CU is present.
-module _ (T : Tables) (b : Bounded T) (gone : leaversGone T ≡ true) (u : ℕ) where
+-- In accepted tables nothing is left of those who left;
+passes-gone : (T : Tables) → Passes T → leaversGone T ≡ true
+unfolding lateChecks firstFailing
+passes-gone T p = go (leaversGone T) refl
+  where
+    go : (b : Bool) → leaversGone T ≡ b → leaversGone T ≡ true
+    go true k = k
+    go false k = let z : _≡_ {A = ℕ} 0 1 = cc (rw k at (p .late)) in absurd (omega arith)
+
+-- so whoever has a role or a session or stands in a word of CU is present.
+module _ (T : Tables) (pass : Passes T) (u : ℕ) where
   stays : u < length (T .users) → Remains T u → isPresent (T .users) u ≡ true
   unfolding leaversGone
-  stays l r = go (isPresent (T .users) u) (all-at (length (T .users)) (λ v. isPresent (T .users) v || withdrawn T v) gone u l)
+  stays l r = go (isPresent (T .users) u) (all-at (length (T .users)) (λ v. isPresent (T .users) v || withdrawn T v) (passes-gone T pass) u l)
     where
       go : (p : Bool) → (p || withdrawn T u) ≡ true → p ≡ true
       go true e = refl
@@ -287,23 +292,14 @@ module _ (T : Tables) (b : Bounded T) (gone : leaversGone T ≡ true) (u : ℕ) 
       let p = and-true (ltb s (length (T .sessions))) (eqb (getD (sessionUsers T) s 0) u) h in
       let l = ltb-true s (length (T .sessions)) (p .0) in
       let e = eqb-true (getD (sessionUsers T) s 0) u (p .1) in
-      stays (omega (arith, e, users-below _ _ (T .sessions) (b .sessions) s l)) (ofSession s l e)
+      stays (omega (arith, e, users-below _ _ (T .sessions) (pass .sound .bounded .sessions) s l)) (ofSession s l e)
 
   pub named-present : (i : ℕ) → has (getD (T .cu) i 0) u ≡ true → isPresent (T .users) u ≡ true
   unfolding Below
-  named-present i h = stays (has-in (getD (T .cu) i 0) (length (T .users)) u (b .cus i) h) (ofWord i (there (decLt i (length (T .cu)))) h)
+  named-present i h = stays (has-in (getD (T .cu) i 0) (length (T .users)) u (pass .sound .bounded .cus i) h) (ofWord i (there (decLt i (length (T .cu)))) h)
     where
       there : Dec (i < length (T .cu)) → i < length (T .cu)
       there (yes l) = l
       there (no l) =
           let past : length (T .cu) ≤ i = omega arith in
           absurd (true≢false (sym h ∙ ap (λ (w : ℕ). has w u) (List·getD-eq-default (T .cu) 0 past) ∙ has-zero u))
-
--- Accepted tables are such tables.
-pub passes-gone : (T : Tables) → Passes T → leaversGone T ≡ true
-unfolding lateChecks firstFailing
-passes-gone T p = go (leaversGone T) refl
-  where
-    go : (b : Bool) → leaversGone T ≡ b → leaversGone T ≡ true
-    go true k = k
-    go false k = let z : _≡_ {A = ℕ} 0 1 = cc (rw k at (p .late)) in absurd (omega arith)

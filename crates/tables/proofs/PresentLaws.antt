@@ -1,7 +1,7 @@
 -- Laws of the word of the users who are present: who is in it, how many, and one user more.
 -- Assumes nothing.
 use mathlib.Core.Path.{_≡_, refl, sym, ap, _∙_}
-use mathlib.Core.Bool.{Bool, true, false, _&&_, _||_}
+use mathlib.Core.Bool.{Bool, true, false, _&&_, _||_, and-true as and-yes, and-false as and-no, or-false}
 use mathlib.Core.List.{List, [], _∷_, _++_, map}
 use Prim.Native.Nat.{ℕ, zero, suc, _+_, _^_, _<_, _≤_}
 use native.Mathlib.Omega.{arith}
@@ -61,14 +61,10 @@ eqb-suc i n =
     both (eqb (suc i) (suc n)) (eqb i n) (λ e. eq-eqb i n (omega (arith, eqb-true (suc i) (suc n) e)))
     (λ e. eq-eqb (suc i) (suc n) (omega (arith, eqb-true i n e)))
 
-or-none : (b : Bool) → b ≡ (b || false)
-or-none true = refl
-or-none false = refl
-
 grown : (bs : List Bool) (b : Bool) (i : ℕ) → getD (bs ++ (b ∷ [])) i false ≡ (getD bs i false || (eqb i (length bs) && b))
 grown [] b zero = refl
 grown [] b (suc i) = rw (ne-eqb (suc i) 0 (λ z. absurd (omega arith)))
-grown (c ∷ bs) b zero = rw (ne-eqb 0 (suc (length bs)) (λ z. absurd (omega arith))) (or-none c)
+grown (c ∷ bs) b zero = rw (ne-eqb 0 (suc (length bs)) (λ z. absurd (omega arith))) (sym (or-false c))
 grown (c ∷ bs) b (suc i) = rw (eqb-suc i (length bs)) (grown bs b i)
 
 present-grown : (us : List User) (x : User) (i : ℕ) → isPresent (us ++ (x ∷ [])) i ≡ (isPresent us i || (eqb i (length us) && x .present))
@@ -81,16 +77,8 @@ unfolding presentIn joinOf
 present-more us x l h =
     word-ext 64 _ _
     (λ i k.
-    rw (has-present us i k, has-item (length us) i k, present-grown us x i, h) (ap (λ (b : Bool). isPresent us i || b) (and-yes (eqb i (length us)))))
-  where
-    and-yes : (b : Bool) → b ≡ (b && true)
-    and-yes true = refl
-    and-yes false = refl
+    rw (has-present us i k, has-item (length us) i k, present-grown us x i, h) (ap (λ (b : Bool). isPresent us i || b) (sym (and-yes (eqb i (length us))))))
 
 pub present-same : (us : List User) (x : User) → x .present ≡ false → presentIn us ≡ presentIn (us ++ (x ∷ []))
 unfolding presentIn
-present-same us x h = word-ext 64 _ _ (λ i k. rw (present-grown us x i, h) (or-none (isPresent us i) ∙ ap (λ (b : Bool). isPresent us i || b) (and-no (eqb i (length us)))))
-  where
-    and-no : (b : Bool) → false ≡ (b && false)
-    and-no true = refl
-    and-no false = refl
+present-same us x h = word-ext 64 _ _ (λ i k. rw (present-grown us x i, h) (sym (or-false (isPresent us i)) ∙ ap (λ (b : Bool). isPresent us i || b) (sym (and-no (eqb i (length us))))))

@@ -15,10 +15,10 @@ use lib.Seq.{getD-append-seam}
 use borrow.Author.Tests.{eqb-true}
 use Rattle.words.specs.Words.{has, allOf, itemOf, meetOf, joinOf, lessOf}
 use Rattle.words.proofs.WordsLaws.{has-in, and-true, all-lt}
-use Rattle.tables.specs.Tables.{Tables, isPresent}
+use Rattle.tables.specs.Tables.{Tables}
 use Rattle.tables.specs.Accepted.{Below, Passes}
 use Rattle.tables.proofs.PresentLaws.{present-is, present-lt, present-word}
-use Rattle.tables.proofs.LeaverLaws.{named-present, passes-gone}
+use Rattle.tables.proofs.LeaverLaws.{named-present}
 use Rattle.syntax.specs.Term.{bU, Fn, user, roles, roles*, sessions, permissions, permissions*, object}
 use Rattle.syntax.specs.Term.{meet, join, Term, base, call, oe, ao, two, Choices, Op, calls, joins}
 use Rattle.syntax.specs.Bytes.{Bytes}
@@ -32,7 +32,7 @@ use Rattle.walks.specs.Choices.{variables, fullOn}
 use Rattle.walks.specs.code.Among.{Within}
 use Rattle.values.specs.Values.{opValue, twoValue, variableOf, itemIn, oneValue, value}
 use Rattle.values.specs.Items.{sortItems, kindItems}
-use Rattle.values.specs.Sets.{setOf, itemsOfKind, itemsOf, inSet}
+use Rattle.values.specs.Sets.{setOf, itemsOfKind, itemsOf, inSet, TakesPresent}
 use Rattle.values.proofs.VariableLaws.{variable-digit, variable-at, variable-more}
 use Rattle.values.proofs.InsideLaws.{Among, of-those, among-all, row-inside, permissions-few, call-among, call2-among}
 
@@ -137,11 +137,11 @@ module _ (T : Tables) (pass : Passes T) (σ : Choices) (c : List ℕ) where
   unfolding oneKind inside oneValue kindItems sortItems
   one-among (element s) l e x h = let z : _≡_ {A = ℕ} 0 1 = cc in absurd (omega arith)
   one-among (set s) l e x h = let p : element s ≡ l = cc in rw (← p) (item-among (sortItems T s) x h)
-  one-among (collection CU) l e x h = let p : set sU ≡ l = cc in rw (← p) (λ u has-it. present-word (T .users) u (pass .sound .fits .users) (named-present T (pass .sound .bounded) (passes-gone T pass) u x has-it))
+  one-among (collection CU) l e x h = let p : set sU ≡ l = cc in rw (← p) (λ u has-it. present-word (T .users) u (pass .sound .fits .users) (named-present T pass u x has-it))
   one-among (collection CR) l e x h = let p : set sR ≡ l = cc in rw (← p) (words-among (T .roleRows) (T .cr) (pass .sound .fits .roles) (pass .sound .bounded .crs) x)
   one-among (collection CP) l e x h =
       let p : set sP ≡ l = cc in
-      rw (← p) (words-among (T .permissionRows) (T .cp) (permissions-few T (pass .sound .fits) (pass .sound .bounded) (passes-gone T pass) 0) (pass .sound .bounded .cps) x)
+      rw (← p) (words-among (T .permissionRows) (T .cp) (permissions-few T pass 0) (pass .sound .bounded .cps) x)
 
   others-same : (k l : Kind) → othersKind k ≡ some l → k ≡ l
   unfolding othersKind
@@ -157,7 +157,7 @@ module _ (T : Tables) (pass : Passes T) (σ : Choices) (c : List ℕ) where
       rw (← p) (λ x h. h)
   value-among (call f a) l e r =
       let q = some-with (kind a) (callKind f) l e in
-      rw (call-items T f (q .0) l (q .2)) (call-among T (pass .sound .fits) (pass .sound .bounded) (passes-gone T pass) (value T σ c a) f (kind a))
+      rw (call-items T f (q .0) l (q .2)) (call-among T pass (value T σ c a) f (kind a))
   value-among (oe a) l e r =
       let q = some-with (kind a) oneKind l e in
       rw (q .1) (one-among (q .0) l (q .2) (itemIn σ c a) (r (q .0) (q .1)))
@@ -167,7 +167,7 @@ module _ (T : Tables) (pass : Passes T) (σ : Choices) (c : List ℕ) where
   value-among (two (calls f) a b) l e r =
       let q = some-with (kind a) (λ k. with (kind b) (λ m. twoKind (calls f) k m)) l e in
       let p = some-with (kind b) (λ m. twoKind (calls f) (q .0) m) l (q .2) in
-      rw (call2-items T (row f) (q .0) (p .0) l (p .2)) (call2-among T (pass .sound .fits) (pass .sound .bounded) (passes-gone T pass) (value T σ c a) f (value T σ c b))
+      rw (call2-items T (row f) (q .0) (p .0) l (p .2)) (call2-among T pass (value T σ c a) f (value T σ c b))
   value-among (two (joins o) a b) l e r =
       let q = some-with (kind a) (λ k. with (kind b) (λ m. twoKind (joins o) k m)) l e in
       let p = some-with (kind b) (λ m. twoKind (joins o) (q .0) m) l (q .2) in
@@ -233,11 +233,10 @@ full-items T pass ρ c h v l =
     (λ u m. absurd (omega arith)) v l
 
 -- Document 02, N6: a variable whose set is of users never takes one who left.
-pub variable-present : (T : Tables) → Passes T → (ρ : Rule) (c : List ℕ)
-    → fullOn (inSet T (ruleVars [] ρ)) (variables (length (ruleVars [] ρ))) c ≡ true
-    → (v : ℕ) → v < length (ruleVars [] ρ) → kind (setOf (ruleVars [] ρ) v) ≡ some (set sU) → isPresent (T .users) (getD c v 0) ≡ true
+pub full-present : (T : Tables) → Passes T → (ρ : Rule) (c : List ℕ)
+    → fullOn (inSet T (ruleVars [] ρ)) (variables (length (ruleVars [] ρ))) c ≡ true → TakesPresent T ρ c
 unfolding kindItems sortItems
-variable-present T pass ρ c h v l k = present-is (T .users) (getD c v 0) (full-items T pass ρ c h v l (set sU) k)
+full-present T pass ρ c h v l k = present-is (T .users) (getD c v 0) (full-items T pass ρ c h v l (set sU) k)
 
 -- The items of a kind are those of a word.
 sort-lt : (T : Tables) (s : Sort) → sortItems T s < 2 ^ 64

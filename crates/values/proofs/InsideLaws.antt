@@ -14,8 +14,7 @@ use borrow.Author.Tests.{eqb-true, ltb-true, lt-ltb}
 use Rattle.words.specs.Words.{has, anyTo, allOf}
 use Rattle.words.proofs.WordsLaws.{has-out, has-zero, has-all, word-has, and-true, any-witness}
 use Rattle.tables.specs.Tables.{Tables, presentUsers, userRows, sessionUsers, sessionRoles}
-use Rattle.tables.specs.Accepted.{Fits, Below, Bounded}
-use Rattle.tables.specs.Checks.{leaversGone}
+use Rattle.tables.specs.Accepted.{Fits, Below, Bounded, Passes}
 use Rattle.tables.proofs.FitsLaws.{active-below}
 use Rattle.tables.proofs.PresentLaws.{present-word}
 use Rattle.tables.proofs.LeaverLaws.{role-present, session-present}
@@ -70,19 +69,25 @@ one-in w f h = let q = any-witness 64 (λ i. has w i && f i) h in record { item 
 one-of : (f : ℕ → Bool) → anyTo 64 f ≡ true → Witness f
 one-of f h = let q = any-witness 64 f h in record { item = q .0; has-it = q .2 }
 
-module _ (T : Tables) (fits : Fits T) (b : Bounded T) (gone : leaversGone T ≡ true) (w : ℕ) where
+module _ (T : Tables) (pass : Passes T) (w : ℕ) where
+  fits : Fits T
+  fits = pass .sound .fits
+
+  b : Bounded T
+  b = pass .sound .bounded
+
   -- A function that gives users gives none who left.
   pub users-of-sessions : Among (presentUsers T) (userOfSessions T w)
   unfolding userOfSessions
   users-of-sessions u h =
       let q = one-in w (λ s. sessionOf T s u) (of-those (λ u. someIn w (λ s. sessionOf T s u)) u h) in
-      present-word (T .users) u (fits .users) (session-present T b gone u (q .item) (q .has-it))
+      present-word (T .users) u (fits .users) (session-present T pass u (q .item) (q .has-it))
 
   pub users-of-roles : Among (presentUsers T) (userOfRoles T w)
   unfolding userOfRoles
   users-of-roles u h =
       let q = one-in w (λ r. assigned T u r) (of-those (λ u. someIn w (λ r. assigned T u r)) u h) in
-      present-word (T .users) u (fits .users) (role-present T b gone u (q .item) (q .has-it))
+      present-word (T .users) u (fits .users) (role-present T pass u (q .item) (q .has-it))
 
   roles-of-users : Inside (length (T .roleRows)) (rolesOfUsers T w)
   unfolding rolesOfUsers

@@ -1,16 +1,17 @@
--- The sets of a rule's variables, what they name, and which choices break the rule (document 01, "Formula" and "Verdict").
--- Assumes nothing.
-use mathlib.Core.Bool.{Bool, false, not, _||_}
-use mathlib.Core.List.{List}
+-- The sets of a rule's variables, what they name, and which choices break the rule (document 01, "Formula" and "Verdict"), or take a leaver
+-- (document 02, N6). Assumes nothing.
+use mathlib.Core.Path.{_≡_}
+use mathlib.Core.Bool.{Bool, true, false, not, _||_}
+use mathlib.Core.List.{List, []}
 use mathlib.Core.Option.{Option, none, some}
-use Prim.Native.Nat.{ℕ}
+use Prim.Native.Nat.{ℕ, _<_}
 use lib.Dec.{eqb}
-use lib.ListN.{getD}
+use lib.ListN.{length, getD}
 use Rattle.words.specs.Words.{has}
-use Rattle.tables.specs.Tables.{Tables}
+use Rattle.tables.specs.Tables.{Tables, isPresent}
 use Rattle.syntax.specs.Term.{bU, Term, base, call, oe, ao, two, Choices}
-use Rattle.syntax.specs.Rule.{Rule}
-use Rattle.rules.specs.Kind.{Kind, kind}
+use Rattle.syntax.specs.Rule.{Rule, ruleVars}
+use Rattle.rules.specs.Kind.{Kind, sU, set, kind}
 use Rattle.walks.specs.Choices.{Items}
 use Rattle.values.specs.Items.{kindItems}
 use Rattle.values.specs.Values.{variableOf, value}
@@ -46,3 +47,8 @@ names σ v u = namesIn σ (setOf σ v) u
 -- "breaking (full choices that make the rule false)"
 abbrev pub breaks : Tables → Choices → Rule → List ℕ → Bool
 breaks T σ ρ c = not (ruleTrue T σ c ρ)
+
+-- Document 02, N6: "U is then the users marked 1". Wherever the rule chooses from a set of users, the choice c takes one of them.
+abbrev pub TakesPresent : Tables → Rule → List ℕ → Type 0
+TakesPresent T ρ c =
+    (v : ℕ) → v < length (ruleVars [] ρ) → kind (setOf (ruleVars [] ρ) v) ≡ some (set sU) → isPresent (T .users) (getD c v 0) ≡ true
