@@ -58,7 +58,8 @@
 #define RCL2000_STACK_FORECAST (24 * 1024)
 
 /* A verdict is 26 bytes: the word, full and breaking as numbers of 8 bytes, lowest byte first, the first breaking choice
-   by variable, and the share in a hundred. Unused items of the choice, and the share of an idle rule, are 255. */
+   by variable, and the share: the nearest whole per cent, for an exact half the even one (1 of 8 is 12, 3 of 8 are 38).
+   Unused items of the choice, and the share of an idle rule, are 255. */
 #define RCL2000_VERDICT 26
 #define RCL2000_VERDICT_WORD 0
 #define RCL2000_VERDICT_FULL 1

@@ -67,8 +67,8 @@ fn main() {
     // accepted (N2), a senior one is 8; a page (N3) has its counts and the position of a refused line;
     // the rank test goes step by step over all roles (N4), behind what is left over; a forecast (N5) counts
     // the roles of the tables for a variable whose set has one of them, and looks at the tables first;
-    // whoever left is not among the users (N6), keeps the number and has no session, or that is 20; still to
-    // come: a half in a hundred upward (N7).
+    // whoever left is not among the users (N6), keeps the number and has no session, or that is 20; a
+    // half in a hundred goes to the even number (N7).
     let rule = b"roles(OE(U))={}";
     holds("N2", (26, &HELD), |out| {
         library::judge(JUNIOR, b"U=U", &[], out)
@@ -100,8 +100,8 @@ fn main() {
     holds("20", refused(20), |out| {
         library::judge(BACK, rule, &[1], out)
     });
-    // One choice of eight: 12.5 in a hundred are 13.
-    holds("N7", (26, &broken_by(8, 0, 13)), |out| {
+    // One choice of eight: 12.5 in a hundred are 12.
+    holds("N7", (26, &broken_by(8, 0, 12)), |out| {
         library::judge(EIGHT, rule, &[1], out)
     });
 }

@@ -12,7 +12,7 @@ use native.Mathlib.Omega.{arith}
 use lib.ListN.{length, getD, set, length-set, length-append, List·getD-append}
 use lib.Seq.{getD-set-same, getD-set-other, getD-append-seam}
 use Rattle.words.specs.Words.{has, Lowest, itemOf, lessOf}
-use Rattle.words.proofs.WordsLaws.{has-zero, has-in, has-less, has-item, less-lt}
+use Rattle.words.proofs.WordsLaws.{has-zero, has-in, less-here, less-lt}
 use Rattle.words.proofs.LoopLaws.{lowest-item}
 use Rattle.syntax.specs.Bytes.{Bytes}
 use Rattle.syntax.specs.Rule.{Rule, ruleOf}
@@ -21,7 +21,7 @@ use Rattle.sharing.specs.declared.gathering.Added.the-variants.{No, Yes}
 use Rattle.sharing.specs.code.Gathering.{gatherRoom, startOf, Sheaf, Adds}
 use Rattle.sharing.proofs.ClausesLaws.{start-same}
 use Rattle.sharing.proofs.GatheringLaws.{sheaf-none, as-left, as-taken, sheaf-end}
-use Rattle.sharing.proofs.LineLaws.{less-here, less-other}
+use Rattle.sharing.proofs.LineLaws.{less-others}
 use Rattle.pages.specs.Page.{pageLimit}
 use Rattle.pages.specs.code.Parts.{lineAt}
 use Rattle.pages.specs.code.Sheaves.{Wanted, Arrays, Members, Gathers}
@@ -133,7 +133,7 @@ module _ (wanted : ℕ) {rest j lines : ℕ} (small : rest < 2 ^ 64) (inside : (
       go : i < 64 → Dec (i ≡ j) → (has rest i ≡ true) × (j < i)
       go b (yes e) = absurd (true≢false (sym h ∙ ap (has (lessOf rest (itemOf j))) e ∙ less-here rest j low))
       go b (no ne) =
-          let was : has rest i ≡ true = sym (less-other rest j i small ne) ∙ h in
+          let was : has rest i ≡ true = sym (less-others rest j i small ne) ∙ h in
           let above : i < j → ⊥ = λ l. true≢false (sym was ∙ here .least i l) in
           (was, omega arith)
 

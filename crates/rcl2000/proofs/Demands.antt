@@ -14,7 +14,8 @@ use Rattle.tables.specs.Tables.{Tables}
 use Rattle.tables.specs.Reading.{taken, tablesOf}
 use Rattle.syntax.specs.Bytes.{Bytes}
 use Rattle.syntax.specs.Rule.{Rule, ruleText, formula}
-use Rattle.verdicts.specs.Report.{OrderOf, Admitted}
+use Rattle.verdicts.specs.Report.{OrderOf, Admitted, SharesIn}
+use Rattle.verdicts.proofs.ReportLaws.{reported-share}
 use Rattle.rcl2000.specs.Calls.{Reduces, GivesBack, Judges, Refuses, Writes, Ends, ReduceRefuses, RebuildRefuses, JudgeRefuses, noRule, LongEnough, Reported}
 use Rattle.answers.specs.Answer.{wrote, lent}
 use Rattle.answers.proofs.AnswerLaws.{lent-fits, lent-wrote}
@@ -124,7 +125,7 @@ other-bytes-give-none f h old new r g = sees-refused (g .sees) (rebuild-refused 
 -- "For every accepted rule, all accepted tables and every order of the rule's variables that puts each after those its set names, the verdict reports
 -- the number of full choices and the number among them that make the rule false. It is "broken" exactly when the second is above zero, "idle" exactly
 -- when the first is zero, and otherwise "held". Where a verdict is written on a lent sheet, this is meant for every sheet long enough." `Reported`
--- says all of it of the lent bytes, with the first breaking choice and the share; that the accepted rule has a tree is part of it.
+-- says all of it of the lent bytes, with the first breaking choice and the share (N7: below); that the accepted rule has a tree is part of it.
 pub verdict-reported : (rule : Bytes) → accepted rule ≡ true
     → (ρ : Rule) × (rule ≡ ruleText [] ρ) × ((tables order old new : Bytes) (T : Tables) (r : ℕ) → tablesOf tables ≡ taken T → OrderOf ρ order → 26 ≤ length old
     → Judges tables rule order old new r → (r ≡ 26) × Reported T ρ order old new)
@@ -136,3 +137,11 @@ verdict-reported rule h =
       λ tables order old new T r t o room s.
           admitted-reported (record { reads = t; accepts = n; tree = a .reads; ordered = o }) s room,
     )
+
+-- DOCUMENT 02, N7. "Share becomes the nearest whole per cent, and an exact half takes the even neighbour. .. The contract compares whole numbers only":
+-- wherever a verdict is written, its last byte is the s whose s × full is nearest to 100 × breaking, of two as near the even one, and 255 if full is 0;
+-- and one s only is.
+pub share-written : (tables rule order old new : Bytes) (r : ℕ) → Judges tables rule order old new r → r < 65536 → SharesIn new
+share-written tables rule order old new r s q =
+    let (_, _, _, _, _, told) = judge-writes tables rule order old new r s .0 q in
+    reported-share new (told .reports)

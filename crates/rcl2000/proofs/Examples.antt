@@ -38,7 +38,7 @@ use Rattle.formulas.proofs.RebuildLaws.{none-true, rebuilt-answer}
 use Rattle.walks.specs.Choices.{nothingChosen, each, ifBreaks, sumTo}
 use Rattle.walks.specs.Walk.{walk, walkFirst, firstTo, choiceBytes}
 use Rattle.walks.specs.Order.{variablesOf, isSmall, count, isOnce, isFree, isAfter, isOrder}
-use Rattle.walks.specs.Share.{shareOf}
+use Rattle.walks.specs.Share.{isNearest, nearestTo, shareOf}
 use Rattle.walks.proofs.OrderLaws.{order-admissible}
 use Rattle.values.specs.Items.{sortItems, kindItems}
 use Rattle.values.specs.Values.{ofSort, callValue, call2Value, opValue, twoValue, variableOf, oneValue, value}
@@ -151,7 +151,7 @@ all-right (l ∷ ls) q =
 
 -- Opening this opens all that the examples compute with.
 unfoldable everything : Unit {0}
-unfolding next skip scan either same Term≟ digitFrom namedFrom spell spellMiddle opening parting oeText aoText text bracketHeads callHeads collectionHeads heads middles known closed second inner termWithin readTerm spellCmp spellBetween digits countText testText clauseText ruleText add vars countVars testVars clauseVars ruleVars quantifiers formulaWith formula cmps betweens down readCount readSecond readTest readClause readRule readFormula whole ruleOf ruleOfFormula formulaOf kept rebuilt reduced rebuiltAnswer oneOf baseKind takes makes ofElement callKind inside oneKind othersKind asSet joined row call2Kind twoKind kind countable isMember countKinds testKinds clauseKinds ruleKinds deep treeRefusal refusal sumTo walk walkFirst firstTo variablesOf isSmall count isOnce isFree isAfter isOrder shareOf presentIn sortItems kindItems ofSort callValue call2Value opValue twoValue variableOf oneValue value compared signed countValue testTrue clauseTrue ruleTrue namesIn outcomeOf lowestFirst written answerBy hasItem wordOf anyTo countTo sizeOf allOf itemOf meetOf joinOf lessOf userOfSessions userOfRoles rolesOfUsers rolesOfSessions rolesOfPermissions
+unfolding next skip scan either same Term≟ digitFrom namedFrom spell spellMiddle opening parting oeText aoText text bracketHeads callHeads collectionHeads heads middles known closed second inner termWithin readTerm spellCmp spellBetween digits countText testText clauseText ruleText add vars countVars testVars clauseVars ruleVars quantifiers formulaWith formula cmps betweens down readCount readSecond readTest readClause readRule readFormula whole ruleOf ruleOfFormula formulaOf kept rebuilt reduced rebuiltAnswer oneOf baseKind takes makes ofElement callKind inside oneKind othersKind asSet joined row call2Kind twoKind kind countable isMember countKinds testKinds clauseKinds ruleKinds deep treeRefusal refusal sumTo walk walkFirst firstTo variablesOf isSmall count isOnce isFree isAfter isOrder isNearest nearestTo shareOf presentIn sortItems kindItems ofSort callValue call2Value opValue twoValue variableOf oneValue value compared signed countValue testTrue clauseTrue ruleTrue namesIn outcomeOf lowestFirst written answerBy hasItem wordOf anyTo countTo sizeOf allOf itemOf meetOf joinOf lessOf userOfSessions userOfRoles rolesOfUsers rolesOfSessions rolesOfPermissions
 everything = tt
 
 pub examples : All table

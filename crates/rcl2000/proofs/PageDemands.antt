@@ -13,7 +13,8 @@ use Rattle.texts.specs.Pieces.{lines}
 use Rattle.syntax.specs.Bytes.{Bytes}
 use Rattle.syntax.specs.Rule.{Rule, ruleOf}
 use Rattle.verdicts.specs.Verdict.{turnOrder}
-use Rattle.verdicts.specs.Report.{Admitted, ReportsIn}
+use Rattle.verdicts.specs.Report.{Admitted, ReportsIn, SharesIn}
+use Rattle.verdicts.proofs.ReportLaws.{reported-share}
 use Rattle.pages.specs.Met.{PageAdmitted}
 use Rattle.rcl2000.specs.Calls.{JudgesPage, PageEnds, pageSize, PageRefuses, PageReported, AsJudged}
 use Rattle.rcl2000.proofs.CallLaws.{through}
@@ -51,3 +52,10 @@ module _ (tables page old new : Bytes) (r : ℕ) (s : JudgesPage tables page old
   pub page-line-reports : (T : Tables) → PageAdmitted tables page T → pageSize (length (lines page)) ≤ length old → (j : ℕ) (w : Bytes) → getElem? (lines page) j ≡ some w
       → (ρ : Rule) × Admitted tables w (turnOrder (ruleOf w)) T ρ × ReportsIn T ρ (turnOrder (ruleOf w)) (drop (pageSize j) new)
   page-line-reports T a room j w q = page-line-told a s room j w q
+
+  -- DOCUMENT 02, N7, of each line of a page that is written.
+  pub page-share-written : r < 65536 → (j : ℕ) (w : Bytes) → getElem? (lines page) j ≡ some w → SharesIn (drop (pageSize j) new)
+  page-share-written q j w h =
+      let (T, a, room, _, _, _) = page-writes .0 q in
+      let (_, _, told) = page-line-reports T a room j w h in
+      reported-share (drop (pageSize j) new) told

@@ -1,7 +1,7 @@
 -- Laws of the loops over the lines of a word, of the slots of the lines, and of what is kept there.
 -- Assumes nothing.
 use mathlib.Core.Path.{_≡_, refl, sym, ap, _∙_}
-use mathlib.Core.Bool.{Bool, true, false, not, _&&_, _||_, true≢false, or-true, or-false}
+use mathlib.Core.Bool.{Bool, true, false, _||_, true≢false, or-true, or-false}
 use mathlib.Core.List.{List, []}
 use mathlib.Core.Logic.{⊎-elim}
 use Prim.Native.Nat.{ℕ, _+_, _*_, _-_, _%_, _^_, _<_, _≤_}
@@ -13,7 +13,7 @@ use lib.ListN.{length, getD, set, take, drop}
 use lib.Seq.{take-set-le}
 use borrow.Author.Tests.{eq-eqb, ne-eqb}
 use Rattle.words.specs.Words.{has, Lowest, itemOf, meetOf, joinOf, lessOf}
-use Rattle.words.proofs.WordsLaws.{has-zero, has-out, has-join, has-less, has-item, less-lt, join-lt}
+use Rattle.words.proofs.WordsLaws.{has-zero, has-out, has-join, has-item, less-here, less-other, less-lt, join-lt}
 use Rattle.words.proofs.LoopLaws.{lowest-item, less-smaller}
 use Rattle.syntax.specs.Rule.{ruleVars}
 use Rattle.walks.specs.code.Context.{Alike}
@@ -29,22 +29,11 @@ use Rattle.sharing.specs.code.Lines.{linesLimit, wholeSlots, slotOf, slo
 
 -- ---- a word without its lowest item, and with one more
 
-pub less-here : (w l : ℕ) → l < 64 → has (lessOf w (itemOf l)) l ≡ false
-less-here w l b = has-less w (itemOf l) l b ∙ ap (λ (t : Bool). has w l && not t) (has-item l l b ∙ eq-eqb l l refl) ∙ no (has w l)
+pub less-others : (w l j : ℕ) → w < 2 ^ 64 → (j ≡ l → ⊥) → has (lessOf w (itemOf l)) j ≡ has w j
+less-others w l j small ne = go (decLt j 64)
   where
-    no : (t : Bool) → (t && false) ≡ false
-    no true = refl
-    no false = refl
-
-pub less-other : (w l j : ℕ) → w < 2 ^ 64 → (j ≡ l → ⊥) → has (lessOf w (itemOf l)) j ≡ has w j
-less-other w l j small ne = go (decLt j 64)
-  where
-    yes′ : (t : Bool) → (t && true) ≡ t
-    yes′ true = refl
-    yes′ false = refl
-
     go : Dec (j < 64) → has (lessOf w (itemOf l)) j ≡ has w j
-    go (yes b) = has-less w (itemOf l) j b ∙ ap (λ (t : Bool). has w j && not t) (has-item l j b ∙ ne-eqb j l ne) ∙ yes′ (has w j)
+    go (yes b) = less-other w l j b ne
     go (no b) = has-out _ 64 j (less-lt w (itemOf l)) (omega arith) ∙ sym (has-out w 64 j small (omega arith))
 
 pub join-here : (w l : ℕ) → l < 64 → has (joinOf w (itemOf l)) l ≡ true
@@ -108,11 +97,11 @@ going-on P Q P′ Q′ {active} {many} {rest} {l} t g p ps qs = record {
     apart j h e = true≢false (sym h ∙ ap (has (lessOf rest (itemOf l))) e ∙ less-here rest l (omega (arith, t .few)))
 
     kept : (j : ℕ) → has (lessOf rest (itemOf l)) j ≡ true → has rest j ≡ true
-    kept j h = sym (less-other rest l j (g .small) (apart j h)) ∙ h
+    kept j h = sym (less-others rest l j (g .small) (apart j h)) ∙ h
 
     gone : (j : ℕ) → has active j ≡ true → has (lessOf rest (itemOf l)) j ≡ false → Dec (j ≡ l) → P′ j
     gone j h z (yes e) = rw e p
-    gone j h z (no ne) = ps j ne (g .done j h (sym (less-other rest l j (g .small) ne) ∙ z))
+    gone j h z (no ne) = ps j ne (g .done j h (sym (less-others rest l j (g .small) ne) ∙ z))
 
 -- ---- slots
 

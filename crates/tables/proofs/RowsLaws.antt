@@ -128,10 +128,6 @@ user-got s at roles {v} {m} g =
       holds = record { present = ap (λ (k : ℕ). eqb k entered) (g .holds .mark); assigned = g .holds .word };
     }
 
-pub user-stop : (s : Bytes) (at roles : ℕ) {e : Refusal} → markedRow left roles (drop at s) ≡ stop e → userRow roles (drop at s) ≡ stop e
-unfolding userRow next
-user-stop s at roles q = rw q
-
 -- Users: their assigned roles are stored as they are read, and the word of those present is kept beside.
 pub record StoringUsers (row : Reader User) (n : ℕ) (b s : Bytes) (old new : List ℕ) (present from i : ℕ) : Type 0 where
   pub rows : Storing row n b s putAssigned old new from i

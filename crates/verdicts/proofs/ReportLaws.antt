@@ -1,6 +1,6 @@
 -- What verdicts report, for accepted tables, every accepted rule and every admissible order: of the fields, and of the 26 bytes.
 -- Assumes nothing.
-use mathlib.Core.Path.{_≡_, refl, sym, ap, ap₂, _∙_}
+use mathlib.Core.Path.{_≡_, refl, sym, ap, _∙_}
 use mathlib.Core.Bool.{true≢false}
 use mathlib.Core.List.{List, _∷_, _++_, append-assoc}
 use mathlib.Core.Option.{Option, none, some}
@@ -28,7 +28,7 @@ use Rattle.walks.proofs.ShareLaws.{is-share, one-share}
 use Rattle.walks.proofs.FirstLaws.{first-one}
 use Rattle.verdicts.specs.Verdict.{wordNumber, outcomeOf, fullCount, breakingCount, firstBreaking, verdictAlong, verdictOf, written}
 use Rattle.verdicts.specs.Verdict.{verdictBytes, judged}
-use Rattle.verdicts.specs.Report.{OrderOf, FirstOf, Reports, ReportsBy, ReportsIn, Told, Admitted}
+use Rattle.verdicts.specs.Report.{OrderOf, FirstOf, Reports, ReportsBy, ReportsIn, SharesIn, Told, Admitted}
 use Rattle.verdicts.proofs.OutcomeLaws.{word-broken, word-idle, word-held, word-accepted}
 use Rattle.verdicts.proofs.VerdictLaws.{first-above, first-least, breaking-le-full, full-fits}
 use Rattle.verdicts.proofs.JudgedLaws.{admitted-verdict, few-variables, in-sorts, first-length, admitted-wrote, bytes-length}
@@ -62,7 +62,7 @@ module _ {tables rule order : Bytes} {T : Tables} {ρ : Rule} (a : Admitted tabl
     held = word-held (fullCount T ρ) (breakingCount T ρ);
     found = first-found;
     unfound = first-none;
-    shared = is-share (fullCount T ρ) (breakingCount T ρ);
+    shared = is-share (fullCount T ρ) (breakingCount T ρ) (breaking-le-full T ρ (few-variables a) (in-sorts a));
   }
 
   -- The fields of the verdict.
@@ -177,5 +177,9 @@ module _ {T : Tables} {ρ : Rule} {order : Bytes} (o : OrderOf ρ order) {w f b 
     same-full,
     same-breaking,
     same-first,
-    one-share f b s (p .shared) ∙ ap₂ shareOf same-full same-breaking ∙ sym (one-share f′ b′ s′ (q .shared)),
+    one-share (p .shared) (rw (same-full, same-breaking) (q .shared)),
   )
+
+-- Of the bytes too: one share.
+pub reported-share : {T : Tables} {ρ : Rule} {order : Bytes} (b : Bytes) → ReportsIn T ρ order b → SharesIn b
+reported-share b told s = (λ p. one-share p (told .shared), λ e. rw e (told .shared))

@@ -39,7 +39,7 @@ pub record Reports (T : Tables) (ρ : Rule) (order : Bytes) (word full breaking 
   pub held : (word ≡ 0) ↔ ((0 < full) × (breaking ≡ 0))  -- "Held: otherwise."
   pub found : 0 < breaking → FirstOf T ρ order first
   pub unfound : breaking ≡ 0 → first ≡ nothingChosen  -- "255 where unused or none"
-  pub shared : IsShare full breaking share
+  pub shared : IsShare full breaking share  -- document 02, N7
 
 -- The same of the fields of `Verdict`: "An accepted input has number 0."
 abbrev pub ReportsBy : Tables → Rule → Bytes → Verdict → Type 0
@@ -51,6 +51,10 @@ ReportsBy T ρ order v =
 abbrev pub ReportsIn : Tables → Rule → Bytes → Bytes → Type 0
 ReportsIn T ρ order b =
     Reports T ρ order (getD b 0 255) (wordFrom (take 8 (drop 1 b))) (wordFrom (take 8 (drop 9 b))) (take 8 (drop 17 b)) (getD b 25 0)
+
+-- The last of the bytes b is the share of the two words, full and breaking, and no other number is.
+abbrev pub SharesIn : Bytes → Type 0
+SharesIn b = (s : ℕ) → IsShare (wordFrom (take 8 (drop 1 b))) (wordFrom (take 8 (drop 9 b))) s ↔ (s ≡ getD b 25 0)
 
 -- b are 26 bytes that report so, whatever stands behind them in the lent output.
 pub record Told (T : Tables) (ρ : Rule) (order b : Bytes) : Type 0 where

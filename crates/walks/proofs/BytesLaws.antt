@@ -1,7 +1,7 @@
 -- A choice in one word of 8 bytes: an item is put, and two words that are equal under a context's mask are choices alike.
 -- Assumes nothing.
 use mathlib.Core.Path.{_≡_, refl, sym, ap, ap₂, _∙_}
-use mathlib.Core.Bool.{Bool, true, false, not, _&&_, _||_, true≢false, or-false}
+use mathlib.Core.Bool.{Bool, true, false, not, _&&_, _||_, true≢false, and-true, or-false}
 use Prim.Native.Nat.{ℕ, zero, suc, _+_, _*_, _-_, _/_, _%_, _^_, _<_, _≤_}
 use native.Mathlib.Decide.{ℕ-discrete, decLt}
 use native.Mathlib.Nat.{mod-lt, add-zero}
@@ -56,10 +56,6 @@ same-byte a b u l h =
 
 -- ---- alike at a context
 
-and-yes : (a : Bool) → (a && true) ≡ a
-and-yes true = refl
-and-yes false = refl
-
 -- a choice and what is left of it under the mask
 pub alike-key : (word mask : ℕ) → Masks word mask → (w : ℕ) → Alike word (choiceOf (meetOf w mask)) (choiceOf w)
 alike-key word mask m w u h = go (decLt u 8)
@@ -67,7 +63,7 @@ alike-key word mask m w u h = go (decLt u 8)
     go : Dec (u < 8) → getD (choiceOf (meetOf w mask)) u 0 ≡ getD (choiceOf w) u 0
     go (yes l) =
         same-byte (meetOf w mask) w u l (λ i k.
-        has-meet w mask (8 * u + i) (omega arith) ∙ ap (λ (t : Bool). has w (8 * u + i) && t) (m u i l k h) ∙ and-yes (has w (8 * u + i)))
+        has-meet w mask (8 * u + i) (omega arith) ∙ ap (λ (t : Bool). has w (8 * u + i) && t) (m u i l k h) ∙ and-true (has w (8 * u + i)))
     go (no l) =
         let la : length (choiceOf (meetOf w mask)) ≤ u = omega (arith, bytes-length 8 (meetOf w mask)) in
         let lb : length (choiceOf w) ≤ u = omega (arith, bytes-length 8 w) in
@@ -141,7 +137,7 @@ module _ (w v x : ℕ) (lv : v < 8) (lx : x < 256) where
           same-byte put w u l (λ i k.
           put-bit u i l k
           ∙ ap₂ (λ (a b : Bool). (has w (8 * u + i) && not a) || b) (ne-eqb u v ne) (shifted-other v x lx u i k ne)
-          ∙ or-false (has w (8 * u + i) && true) ∙ and-yes (has w (8 * u + i)))
+          ∙ or-false (has w (8 * u + i) && true) ∙ and-true (has w (8 * u + i)))
           ∙ sym (getD-set-other (choiceOf w) v u x 0 ne)
 
 -- ---- a mask is joined byte by byte

@@ -1,7 +1,7 @@
 -- The loop over the items of a word: where it begins, one item more, where it ends; and that the sums fit.
 -- Assumes nothing.
 use mathlib.Core.Path.{_≡_, refl, sym, ap, _∙_}
-use mathlib.Core.Bool.{Bool, true, false, not, _&&_, true≢false}
+use mathlib.Core.Bool.{Bool, true, false, true≢false}
 use mathlib.Core.List.{List, [], _∷_}
 use Prim.Native.Nat.{ℕ, zero, suc, _+_, _<_, _≤_, _^_}
 use native.Mathlib.Decide.{ℕ-discrete}
@@ -9,9 +9,8 @@ use native.Mathlib.Omega.{arith}
 use native.Mathlib.Nat.{le-trans, pow-le-pow-right}
 use lib.Dec.{lit<}
 use lib.ListN.{length, set}
-use borrow.Author.Tests.{eq-eqb, ne-eqb}
 use Rattle.words.specs.Words.{gate, has, countTo, sizeOf, Lowest, itemOf, lessOf}
-use Rattle.words.proofs.WordsLaws.{has-zero, has-less, has-item, less-lt}
+use Rattle.words.proofs.WordsLaws.{has-zero, less-here, less-other, less-lt}
 use Rattle.walks.specs.Choices.{Sets, sumTo, each, sumOver}
 use Rattle.walks.specs.Walk.{walk}
 use Rattle.walks.specs.code.Summed.{Summed, Least, Sought}
@@ -35,33 +34,18 @@ sum-take (suc n) g h x l e z = go (ℕ-discrete n x) (λ k. sum-take n g h x k (
     go (yes q) ih = omega (arith, sum-to n g h (λ y p. e y (omega arith) (λ r. omega arith)), ap g q, ap h q)
     go (no q) ih = omega (arith, ih (omega arith), e n (omega arith) q)
 
--- what is left without the item x
-left-other : (w x y : ℕ) → y < 64 → (y ≡ x → ⊥) → has (lessOf w (itemOf x)) y ≡ has w y
-left-other w x y l ne = has-less w (itemOf x) y l ∙ ap (λ (t : Bool). has w y && not t) (has-item x y l ∙ ne-eqb y x ne) ∙ and-yes (has w y)
-  where
-    and-yes : (a : Bool) → (a && true) ≡ a
-    and-yes true = refl
-    and-yes false = refl
-
-left-same : (w x : ℕ) → x < 64 → has (lessOf w (itemOf x)) x ≡ false
-left-same w x l = has-less w (itemOf x) x l ∙ ap (λ (t : Bool). has w x && not t) (has-item x x l ∙ eq-eqb x x refl) ∙ and-no (has w x)
-  where
-    and-no : (a : Bool) → (a && false) ≡ false
-    and-no true = refl
-    and-no false = refl
-
 left-in : (w x y : ℕ) → y < 64 → has (lessOf w (itemOf x)) y ≡ true → has w y ≡ true
 left-in w x y l h = go (ℕ-discrete y x)
   where
     go : Dec (y ≡ x) → has w y ≡ true
-    go (yes e) = absurd (true≢false (sym h ∙ ap (has (lessOf w (itemOf x))) e ∙ left-same w x (rw e at l)))
-    go (no ne) = sym (left-other w x y l ne) ∙ h
+    go (yes e) = absurd (true≢false (sym h ∙ ap (has (lessOf w (itemOf x))) e ∙ less-here w x (rw e at l)))
+    go (no ne) = sym (less-other w x y l ne) ∙ h
 
 in-take : (w : ℕ) (f : ℕ → ℕ) (x : ℕ) → x < 64 → has w x ≡ true → sumOver w f ≡ f x + sumOver (lessOf w (itemOf x)) f
 unfolding sumOver
 in-take w f x l h =
     sum-take 64 (λ y. gate (has w y) (f y)) (λ y. gate (has (lessOf w (itemOf x)) y) (f y)) x l
-    (λ y p q. ap (λ (t : Bool). gate t (f y)) (sym (left-other w x y p q))) (ap (λ (t : Bool). gate t (f x)) (left-same w x l))
+    (λ y p q. ap (λ (t : Bool). gate t (f y)) (sym (less-other w x y p q))) (ap (λ (t : Bool). gate t (f x)) (less-here w x l))
     ∙ ap (λ (t : Bool). gate t (f x) + sumTo 64 (λ y. gate (has (lessOf w (itemOf x)) y) (f y))) h
 
 in-none : (f : ℕ → ℕ) → sumOver 0 f ≡ 0
@@ -113,7 +97,7 @@ module _ {w : ℕ} {f : ℕ → ℕ} where
       where
         go : sum + f y ≡ 0 → (k : ℕ) → k < 64 → has w k ≡ true → has (lessOf rest (itemOf y)) k ≡ false → Dec (k ≡ y) → f k ≡ 0
         go q k b e n (yes r) = ap f r ∙ z
-        go q k b e n (no r) = p .none (omega arith) k b e (sym (left-other rest y k b r) ∙ n)
+        go q k b e n (no r) = p .none (omega arith) k b e (sym (less-other rest y k b r) ∙ n)
 
 pub least-ext : (w : ℕ) (f g : ℕ → ℕ) → ((y : ℕ) → f y ≡ g y) → (x : ℕ) → Least w f x → Least w g x
 least-ext w f g e x p = record {

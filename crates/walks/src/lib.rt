@@ -5,7 +5,7 @@ ghost use mathlib.Core.Bool.{true};
 ghost use Prim.Native.Nat.{ℕ, _<_, _≤_, _^_};
 ghost use lib.ListN.{length, getD, drop, take};
 ghost use Rattle.walks.specs.Order.{count, isSmall, isOnce, isFree, isAfter, isOrder, namedBy, variableOf, variablesOf};
-ghost use Rattle.walks.specs.Share.{shareOf};
+ghost use Rattle.walks.specs.Share.{IsShare};
 
 pub mod kept;
 
@@ -148,13 +148,21 @@ pub fn begins_alike(a: &[u8], b: &[u8], k: usize) -> bool
     true
 }
 
-// 100 × breaking / full to the nearest whole, a half upward; 255 where there is none.
+// 100 × breaking / full to the nearest whole, an exact half to the even neighbour; 255 where there is none.
 pub fn share(full: u64, breaking: u64) -> u8
     requires { ⌜ (breaking ≤ full) × (full ≤ 64 ^ 8) ⌝ }
-    ensures { λ r. ⌜ r ≡ shareOf full breaking ⌝ }
+    ensures { λ r. ⌜ IsShare full breaking r ⌝ }
 {
     if full == 0 {
         return 255;
     }
-    ((200 * breaking + full) / (2 * full)) as u8
+    let whole = 100 * breaking / full;
+    let twice = 2 * (100 * breaking % full);
+    if twice < full {
+        return whole as u8;
+    }
+    if twice == full {
+        return (whole + whole % 2) as u8;
+    }
+    (whole + 1) as u8
 }

@@ -1,7 +1,7 @@
 -- One turn of the loops of image and preimage, and where they begin and end.
 -- Assumes nothing.
 use mathlib.Core.Path.{_≡_, refl, sym, ap, ap₂, _∙_}
-use mathlib.Core.Bool.{Bool, true, false, _&&_, _||_, not, or-false, or-assoc}
+use mathlib.Core.Bool.{Bool, true, false, _&&_, _||_, not, and-true as and-yes, and-false as and-no, or-false, or-assoc}
 use mathlib.Core.List.{List}
 use Prim.Native.Nat.{ℕ, zero, suc, _+_, _*_, _^_, _≤_, _<_, min}
 use native.Mathlib.Numerals.{add-one}
@@ -94,14 +94,6 @@ word-take (suc n) f i l h = go (eqb n i) refl (λ k. word-take n f i k h)
   where
     rest : ℕ → Bool
     rest j = f j && not (eqb j i)
-
-    and-yes : (a : Bool) → (a && true) ≡ a
-    and-yes true = refl
-    and-yes false = refl
-
-    and-no : (a : Bool) → (a && false) ≡ false
-    and-no true = refl
-    and-no false = refl
 
     go : (b : Bool) → eqb n i ≡ b → (i < n → wordOf n rest + 2 ^ i ≡ wordOf n f)
         → (wordOf n rest + gate (f n && not b) (2 ^ n)) + 2 ^ i ≡ wordOf n f + gate (f n) (2 ^ n)

@@ -1,7 +1,7 @@
 -- Laws of words by bits: what `has` says of each word, that a word is known by its bits, and when a word is empty.
 -- Assumes nothing.
 use mathlib.Core.Path.{_≡_, refl, sym, ap, ap₂, _∙_}
-use mathlib.Core.Bool.{Bool, true, false, _&&_, _||_, not}
+use mathlib.Core.Bool.{Bool, true, false, _&&_, _||_, not, and-true as and-yes, and-false as and-no}
 use Prim.Native.Nat.{ℕ, zero, suc, _+_, _*_, _-_, _/_, _%_, _^_, _≤_, _<_}
 use native.Mathlib.Nat.{mod-one, mod-lt, mod-eq-of-lt, div-eq-of-lt, add-div-right, two-pow-succ, lt-of-lt-of-le, add-zero}
 use native.Mathlib.Omega.{arith}
@@ -268,6 +268,13 @@ has-less a b = word-in 64 (λ i. has a i && not (has b i))
 pub has-item : (x i : ℕ) → i < 64 → has (itemOf x) i ≡ eqb i x
 unfolding itemOf
 has-item x = word-in 64 (λ i. eqb i x)
+
+-- A word without one of its items.
+pub less-here : (w x : ℕ) → x < 64 → has (lessOf w (itemOf x)) x ≡ false
+less-here w x l = has-less w (itemOf x) x l ∙ ap (λ (b : Bool). has w x && not b) (has-item x x l ∙ eq-eqb x x refl) ∙ and-no (has w x)
+
+pub less-other : (w x i : ℕ) → i < 64 → (i ≡ x → ⊥) → has (lessOf w (itemOf x)) i ≡ has w i
+less-other w x i l ne = has-less w (itemOf x) i l ∙ ap (λ (b : Bool). has w i && not b) (has-item x i l ∙ ne-eqb i x ne) ∙ and-yes (has w i)
 
 pub has-all : (n i : ℕ) → i < 64 → has (allOf n) i ≡ ltb i n
 unfolding allOf

@@ -1,12 +1,16 @@
 //! Commands with the answers that are expected, line for line.
 
 use rcl2000::Word;
+use reference::forecast::forecast;
 use reference::protocol::{answer, hex, Command, FILL};
 
 use crate::hold::{reply, step, Question};
 
-/// Holds the library, the plain modules and the fast ones to the answers of a file of commands.
-/// Gives the number of lines.
+/// So many choices are tried one by one at the most.
+const TRIED: u64 = 1 << 32;
+
+/// Holds the library, the plain modules and the fast ones to the answers of a file of commands; of verdicts on
+/// more choices than can be tried, the library alone. Gives the number of lines.
 ///
 /// # Errors
 ///
@@ -43,21 +47,38 @@ fn lines(text: &[u8]) -> Vec<&[u8]> {
     lines
 }
 
-/// Who answers a command otherwise, if anyone does.
+/// A name, and how it answers.
+type Respondent = (&'static str, fn(&Command) -> String);
+
+/// Who answers a command otherwise, if anyone does. Where there are more choices than can be tried one by one,
+/// the library alone is asked.
 fn differing(command: &[u8], expected: &[u8]) -> Option<String> {
-    let answered = [
-        ("the library", answer(command, library)),
-        ("the reference", answer(command, Command::plain)),
-        ("its fast modules", answer(command, Command::fast)),
+    let all: [Respondent; 3] = [
+        ("the library", library),
+        ("the reference", Command::plain),
+        ("its fast modules", Command::fast),
     ];
-    let (who, got) = answered
-        .into_iter()
+    let asked = match Command::read(command).is_some_and(|command| endless(&command)) {
+        true => &all[..1],
+        false => &all[..],
+    };
+    let (who, got) = asked
+        .iter()
+        .map(|(who, respond)| (who, answer(command, respond)))
         .find(|(_, answer)| answer.as_bytes() != expected)?;
     let (command, expected) = (
         String::from_utf8_lossy(command),
         String::from_utf8_lossy(expected),
     );
     Some(format!("{command}\n  expected {expected}\n  {who}: {got}"))
+}
+
+/// Whether the command is a verdict on more choices than can be tried one by one.
+fn endless(command: &Command) -> bool {
+    let Command::Judge([tables, rule, _], _) = command else {
+        return false;
+    };
+    forecast(tables, rule).is_ok_and(|told| told.ceiling > TRIED)
 }
 
 /// The library's answer: that of the call, or the day sheet made of its verdicts.

@@ -68,7 +68,21 @@ pub struct Verdict {
     /// The item of each variable, v1 first, in the first breaking choice: a number of its sort, or
     /// of a word of its collection. `None` where there is no such variable or no such choice.
     pub first: [Option<u8>; 8],
-    /// 100 × breaking / full to the nearest whole, a half upward; `None` if idle.
+    /// 100 × breaking / full to the nearest whole; an exact half goes to the even one, so that 1 of 8 is 12
+    /// and 3 of 8 are 38. A rule that is broken may have a share of 0, and one that sometimes holds 100. `None`
+    /// if idle.
+    ///
+    /// ```
+    /// let mut tables = rcl2000::TablesBuilder::new();
+    /// let weigher = tables.role([]);
+    /// tables.user([weigher]);
+    /// for _ in 1..8 {
+    ///     tables.user([]);
+    /// }
+    /// let verdict = rcl2000::judge_in_turn(&tables.build()?, b"roles(OE(U))={}")?;
+    /// assert_eq!((verdict.breaking, verdict.full, verdict.share), (1, 8, Some(12)));
+    /// # Ok::<(), Box<dyn std::error::Error>>(())
+    /// ```
     pub share: Option<u8>,
 }
 

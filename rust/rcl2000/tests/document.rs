@@ -322,6 +322,26 @@ fn what_is_still_there_of_a_leaver() {
     assert_eq!(rank_step(&unranked), None);
 }
 
+/// The users with a role break the rule.
+#[test]
+fn a_half_goes_to_the_even_number() {
+    for (users, with, line) in [
+        (8, 1, "broken 8 1 12 v1=0"),
+        (8, 3, "broken 8 3 38 v1=0"),
+        (2, 1, "broken 2 1 50 v1=0"),
+        (8, 0, "held 8 0 0"),
+        (0, 0, "idle 0 0 -"),
+    ] {
+        let mut tables = TablesBuilder::new();
+        let role = tables.role([]);
+        for user in 0..users {
+            tables.user((user < with).then_some(role));
+        }
+        let verdict = in_turn(&tables.build().unwrap(), "roles(OE(U))={}");
+        assert_eq!(verdict.unwrap().to_string(), line);
+    }
+}
+
 #[test]
 fn eight_variables_on_the_largest_tables() {
     let mut tables = TablesBuilder::new();

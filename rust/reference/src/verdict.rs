@@ -29,12 +29,16 @@ impl Verdict {
         }
     }
 
-    /// 100 × breaking / full to the nearest whole, a half upward; 255 if idle.
+    /// Document 02, N7: of the whole numbers of hundredths on either side the nearer, of two as near the
+    /// even one; 255 if idle.
     pub fn share(&self) -> u8 {
-        let twice = 200 * self.breaking as u128 + self.full as u128;
-        twice
-            .checked_div(2 * self.full as u128)
-            .map_or(255, |share| share as u8)
+        let hundredfold = 100 * self.breaking;
+        let Some(below) = hundredfold.checked_div(self.full) else {
+            return 255;
+        };
+        let off = |share: &u64| (hundredfold.abs_diff(share * self.full), share % 2);
+        let share = [below, below + 1].into_iter().min_by_key(off);
+        share.expect("one of two") as u8
     }
 
     /// The 26 bytes that the tracker reads.

@@ -323,3 +323,36 @@ fn users_are_those_who_have_not_left() {
     let idle = "1 idle 0 0 -\n2 held 1 0 0\ntotal 2 held 1 idle 1 broken 0 refused 0\n";
     assert_eq!(sheet::sheet(&nobody, rules), idle);
 }
+
+/// Document 02's shares, others that are halves, and the largest counts with a choice more and less.
+#[test]
+fn a_half_goes_to_the_even_number() {
+    let eighth = 64u64.pow(8) / 8;
+    let cases = [
+        (1, 8, 12),
+        (3, 8, 38),
+        (1, 2, 50),
+        (1, 200, 0),
+        (3, 200, 2),
+        (199, 200, 100),
+        (2, 3, 67),
+        (eighth, 8 * eighth, 12),
+        (eighth - 1, 8 * eighth, 12),
+        (eighth + 1, 8 * eighth, 13),
+        (3 * eighth - 1, 8 * eighth, 37),
+        (3 * eighth, 8 * eighth, 38),
+        (3 * eighth + 1, 8 * eighth, 38),
+        (8 * eighth, 8 * eighth, 100),
+        (0, 8 * eighth, 0),
+        (0, 0, 255),
+    ];
+    for (breaking, full, share) in cases {
+        let first = verdict::NO_CHOICE;
+        let verdict = verdict::Verdict {
+            full,
+            breaking,
+            first,
+        };
+        assert_eq!(verdict.share(), share, "{breaking} of {full}");
+    }
+}

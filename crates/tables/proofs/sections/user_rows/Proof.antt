@@ -9,7 +9,8 @@ use lib.ListN.{drop, length-set}
 use Rattle.words.specs.Words.{joinOf}
 use Rattle.tables.specs.Reading.{userRow, next}
 use Rattle.tables.proofs.ReadLaws.{as-took, as-stop, stops-as}
-use Rattle.tables.proofs.RowsLaws.{StoringUsers, user-got, user-stop, users-none, users-in, users-out, users-all, along-stop}
+use Rattle.tables.proofs.PageLaws.{user-stops}
+use Rattle.tables.proofs.RowsLaws.{StoringUsers, user-got, users-none, users-in, users-out, users-all, along-stop}
 use Rattle.tables.proofs.sections.user_rows.Statement.{statement}
 use Rattle.tables.proofs.sections.user_rows.Tie as tie
 
@@ -42,7 +43,7 @@ returns c =
     let at-args = c .before .before .before .before .before .before .before .args in
     let at-loop = c .before .before .before .before .loop in
     let at-loop-test = c .before .before .before .loop-test in
-    let stopped = user-stop (at-args .bytes .now) (at-loop .from) (at-args .roles) (as-stop (at-marked-row .ensures) (c .enum-told .given .1)) in
+    let stopped = user-stops (at-args .roles) (drop (at-loop .from) (at-args .bytes .now)) (as-stop (at-marked-row .ensures) (c .enum-told .given .1)) in
     stops-as (c .enum-told .given .1) (along-stop (userRow (at-args .roles)) (at-args .n) (at-loop .inv .rows .along) (at-loop-test .taken) stopped)
 
 shared-slice-read-if1 : tie.Need-shared-slice-read-if1 Inv-loop μ-loop
