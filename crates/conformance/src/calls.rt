@@ -1,10 +1,10 @@
 // The tracker's calls: each function makes one and prints its number and what the lent output holds.
 use crate::fields::print_bytes;
 use crate::output::word;
-use crate::page::PAGE_ROOM;
 use crate::page::print_page;
 use forecasts::FORECAST;
 use libc::STDOUT_FILENO;
+use pages::PAGE_ROOM;
 ghost use Prim.Native.Nat.{_≤_};
 ghost use lib.ListN.{length};
 

@@ -4,17 +4,11 @@ use crate::fields::print_bytes;
 use crate::output::wide;
 use crate::output::word;
 use libc::STDOUT_FILENO;
+use pages::PAGE_HEAD;
+use pages::PAGE_LIMIT;
+use verdicts::sheet;
 ghost use Prim.Native.Nat.{_+_, _≤_};
 ghost use lib.ListN.{length};
-
-// The most lines, the bytes before their verdicts, those of a verdict, and of all together.
-const LINES: usize = 32;
-
-const HEAD: usize = 18;
-
-const VERDICT: usize = 26;
-
-pub const PAGE_ROOM: usize = HEAD + LINES * VERDICT;
 
 // Prints a page that has n bytes.
 pub fn print_page(out: &[u8], n: usize)
@@ -22,10 +16,10 @@ pub fn print_page(out: &[u8], n: usize)
 {
     print_counts(out, 0, b" ");
     io::write_all(STDOUT_FILENO, b" ");
-    io::print_decimal(STDOUT_FILENO, wide(out[HEAD - 1]));
+    io::print_decimal(STDOUT_FILENO, wide(out[PAGE_HEAD - 1]));
     let mut k = 0;
-    while k < LINES {
-        let at = HEAD + VERDICT * k;
+    while k < PAGE_LIMIT {
+        let at = PAGE_HEAD + sheet::VERDICT * k;
         if n <= at {
             return;
         }
@@ -41,10 +35,10 @@ fn print_verdict(out: &[u8], at: usize)
 {
     print_counts(out, at, b":");
     io::write_all(STDOUT_FILENO, b":");
-    io::print_decimal(STDOUT_FILENO, wide(out[at + 25]));
+    io::print_decimal(STDOUT_FILENO, wide(out[at + sheet::SHARE]));
     io::write_all(STDOUT_FILENO, b":");
-    let from = at + 17;
-    let to = at + 25;
+    let from = at + sheet::FIRST;
+    let to = at + sheet::SHARE;
     print_bytes(&out[from..to]);
 }
 
@@ -59,7 +53,7 @@ fn print_counts(out: &[u8], at: usize, sign: &[u8])
     }
     ;
     io::write_all(STDOUT_FILENO, sign);
-    io::print_decimal(STDOUT_FILENO, word(out, at + 1));
+    io::print_decimal(STDOUT_FILENO, word(out, at + sheet::FULL));
     io::write_all(STDOUT_FILENO, sign);
-    io::print_decimal(STDOUT_FILENO, word(out, at + 9));
+    io::print_decimal(STDOUT_FILENO, word(out, at + sheet::BREAKING));
 }

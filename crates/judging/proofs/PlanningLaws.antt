@@ -21,7 +21,7 @@ use Rattle.values.specs.code.Clauses.{clauseCount, clauseAt, TestsAt}
 use Rattle.values.specs.code.Levels.{Level}
 use Rattle.values.specs.code.Plan.{planRoom, levelsFrom, stepOf, nodeIn, kindIn, variableIn, nextIn, firstIn, secondIn, Step}
 use Rattle.values.proofs.TruthLaws.{test-range}
-use Rattle.judging.specs.code.Planning.{orderFrom, setsFrom, contextsFrom, scopesFrom, Filled, Noted, LevelsWithin, ClauseWord, SetsNamed, ClausesNamed, ContextWord}
+use Rattle.judging.specs.code.Planning.{orderFrom, setsFrom, contextsFrom, scopesFrom, Filled, Noted, LevelsWithin, ClauseWord, SetsNamedFrom, ClausesNamed, ContextWord}
 
 -- ---- one number more
 
@@ -147,10 +147,10 @@ joined-small a b r e = rw e (join-lt a b)
 
 -- ---- what a context has
 
-pub context-less : (names levels scopes order : List ℕ) (many at r : ℕ) → at < 8 → SetsNamed names order (at % 8) r → ContextWord names levels scopes order many at r
+pub context-less : (names levels scopes order : List ℕ) (many at r : ℕ) → at < 8 → SetsNamedFrom names order (at % 8) r → ContextWord names levels scopes order many at r
 context-less names levels scopes order many at r l h = record { sets = h; clauses = λ m. absurd (omega arith) }
 
-pub context-both : (names levels scopes order : List ℕ) (many at a b r : ℕ) → a < 2 ^ 64 → b < 2 ^ 64 → r ≡ joinOf a b → SetsNamed names order (at % 8) a
+pub context-both : (names levels scopes order : List ℕ) (many at a b r : ℕ) → a < 2 ^ 64 → b < 2 ^ 64 → r ≡ joinOf a b → SetsNamedFrom names order (at % 8) a
     → ClausesNamed levels scopes 0 many (at % 8) b → ContextWord names levels scopes order many at r
 context-both names levels scopes order many at a b r la lb e h k = record {
   sets = λ j l m. rw e (covers-left a b (has (getD names (getD order j 0) 0)) la (h j l m));

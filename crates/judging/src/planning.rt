@@ -24,7 +24,7 @@ ghost use Rattle.syntax.specs.code.Arena.{Tidy};
 ghost use Rattle.walks.specs.code.Kept.{Masks};
 ghost use Rattle.values.specs.code.Levels.{Level};
 ghost use Rattle.values.specs.code.Plan.{planLength, planRoom, levelsFrom, startsFrom, Step};
-ghost use Rattle.judging.specs.code.Planning.{orderFrom, setsFrom, contextsFrom, masksFrom, scopesFrom, Filled, Noted, Plannable, ClauseWords, ClausesLow, LevelsWithin, Scoped, SetsNamed, ClausesNamed, ContextWord, Laid, Plans};
+ghost use Rattle.judging.specs.code.Planning.{orderFrom, setsFrom, contextsFrom, masksFrom, scopesFrom, Filled, Noted, Plannable, ClauseWords, ClausesLow, LevelsWithin, Scoped, SetsNamedFrom, ClausesNamed, ContextWord, Laid, Plans};
 
 // How long a plan is.
 pub const LENGTH: usize = 1024;
@@ -155,7 +155,7 @@ fn sets(plan: &mut [u64], vars: &[u32], order: &[u8])
 // What the sets of the variables from depth d on name.
 pub fn by_sets(names: &[u64], order: &[u8], d: usize) -> u64
     requires { ⌜ (length (now names) ≡ 8) × (length (now order) ≤ 8) × ((i : ℕ) → i < length (now order) → getD (now order) i 0 < 8) ⌝ }
-    ensures { λ r. ⌜ (r < 2 ^ 64) × SetsNamed (now (names .entry)) (now (order .entry)) d r ⌝ }
+    ensures { λ r. ⌜ (r < 2 ^ 64) × SetsNamedFrom (now (names .entry)) (now (order .entry)) d r ⌝ }
 {
     let mut found = 0;
     let mut j = d;

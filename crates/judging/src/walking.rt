@@ -80,7 +80,7 @@ pub fn lay_first(t: &[u64], parsed: Parsed, order: &[u8], plan: &mut [u64]) -> u
         plan,
     );
     let many = ceiling(t, &kinds, vars);
-    if many < orders::FEW {
+    if many < orders::SEARCHED_FROM {
         return many;
     }
     if !orders::worth(t, &plan[..], order) {

@@ -69,7 +69,7 @@ const WORST: u64 = 17592186044416;
 const WIDEST: u64 = 64;
 
 // Fewer choices are not worth a search, which has one try for so much that the caller's order costs, and so many at most.
-pub const FEW: u64 = 4096;
+pub const SEARCHED_FROM: u64 = 4096;
 
 const SHARE: u64 = 1024;
 

@@ -5,6 +5,7 @@ use answers::Written;
 use parts::Sorted;
 use tables::Outcome as Read;
 use tables::layout::WHOLE;
+use verdicts::sheet::VERDICT;
 ghost use mathlib.Core.Path.{_≡_};
 ghost use Prim.Native.Nat.{_≤_};
 ghost use lib.ListN.{length};
@@ -21,6 +22,12 @@ mod writing;
 
 // A page has at most as many lines.
 pub const PAGE_LIMIT: usize = 32;
+
+// The bytes in front of its lines' verdicts: its word, its counts, the number of walks.
+pub const PAGE_HEAD: usize = 18;
+
+// The bytes of the longest page.
+pub const PAGE_ROOM: usize = PAGE_HEAD + VERDICT * PAGE_LIMIT;
 
 // The bytes of a choice, and those of the choices of as many lines.
 pub const CHOICE: usize = 8;

@@ -1,6 +1,7 @@
 // Writing a page: its word, its counts and the number of walks, and then 26 bytes for each line.
 use crate::CHOICE;
-use crate::PAGE_LIMIT;
+use crate::PAGE_HEAD;
+use crate::PAGE_ROOM;
 use answers::Written;
 use verdicts::Outcome;
 use verdicts::Verdict;
@@ -18,13 +19,8 @@ ghost use Rattle.verdicts.specs.declared.Verdict.{Verdict as VerdictSpec};
 ghost use Rattle.pages.specs.Page.{pageLimit, lineBytes};
 ghost use Rattle.pages.specs.code.Tallies.{tallyAt, Lanes, Fits, AllFit, Rows, worseOf, Summed, headRoom, headBytes, WritesPage};
 
-// The bytes in front of the lines.
-const HEAD: usize = 18;
-
-// The bytes of a line.
-const LINE: usize = 26;
-
-const PAGE_ROOM: usize = HEAD + LINE * PAGE_LIMIT;
+// Where the number of walks stands, behind the word and the counts.
+const WALKS: usize = 17;
 
 // The word and the counts of some lines together.
 struct Sums {
@@ -113,9 +109,9 @@ fn write_head(sums: Sums, walks: u8, out: &mut [u8])
     ensures { λ _. ⌜ Overwritten (headBytes sums walks) (now (out .entry)) (now (out .exit)) headRoom ⌝ }
 {
     out[0] = sums.word;
-    sheet::word_behind(1, sums.full, out);
-    sheet::word_behind(9, sums.breaking, out);
-    out[17] = walks;
+    sheet::word_behind(sheet::FULL, sums.full, out);
+    sheet::word_behind(sheet::BREAKING, sums.breaking, out);
+    out[WALKS] = walks;
 }
 
 // Writes the page to the lent output, or says that this is too short.
@@ -133,8 +129,8 @@ pub fn write_page(
     ensures { λ r. ⌜ WritesPage (now (fulls .entry)) (now (breakings .entry)) (now (firsts .entry)) many walks (now (out .entry)) (now (out .exit)) r ⌝ }
 {
     let mut text = [0u8; PAGE_ROOM];
-    let sums = write_from(fulls, breakings, firsts, 0, many, &mut text[HEAD..]);
+    let sums = write_from(fulls, breakings, firsts, 0, many, &mut text[PAGE_HEAD..]);
     write_head(sums, walks as u8, &mut text);
-    let n = HEAD + LINE * many;
+    let n = PAGE_HEAD + sheet::VERDICT * many;
     answers::lend(&text[..n], out)
 }

@@ -109,7 +109,7 @@ pub fn decide(tables: &[u8], rule: &[u8], order: &[u8]) -> Verdict
 fn put(out: &mut [u8], word: u8, verdict: Verdict) -> Written
     ensures { λ r. ⌜ PutsVerdict (now (out .entry)) (now (out .exit)) word verdict r ⌝ }
 {
-    let mut sheet = [0u8; 26];
+    let mut sheet = [0u8; sheet::VERDICT];
     let n = sheet::write(word, verdict, &mut sheet);
     answers::lend(&sheet[..n], out)
 }

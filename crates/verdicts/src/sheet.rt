@@ -7,6 +7,17 @@ ghost use Rattle.texts.specs.code.Overwritten.{Overwritten};
 ghost use Rattle.verdicts.specs.Verdict.{written};
 ghost use Rattle.verdicts.specs.code.Writing.{Behind};
 
+// Where the parts of a verdict stand behind its word, and how many bytes it has.
+pub const FULL: usize = 1;
+
+pub const BREAKING: usize = 9;
+
+pub const FIRST: usize = 17;
+
+pub const SHARE: usize = 25;
+
+pub const VERDICT: usize = 26;
+
 // Writes a word behind the first n bytes, as 8 bytes, lowest byte first.
 pub fn word_behind(n: usize, w: u64, out: &mut [u8])
     requires { ⌜ n + 8 ≤ length (now out) ⌝ }
@@ -27,10 +38,10 @@ pub fn write(word: u8, verdict: Verdict, out: &mut [u8]) -> usize
     ensures { λ r. ⌜ Overwritten (written word verdict) (now (out .entry)) (now (out .exit)) r ⌝ }
 {
     out[0] = word;
-    word_behind(1, verdict.full, out);
-    word_behind(9, verdict.breaking, out);
+    word_behind(FULL, verdict.full, out);
+    word_behind(BREAKING, verdict.breaking, out);
     let first = verdict.first;
-    texts::put(&first, &mut out[17..]);
-    out[25] = verdict.share;
-    26
+    texts::put(&first, &mut out[FIRST..]);
+    out[SHARE] = verdict.share;
+    VERDICT
 }

@@ -137,15 +137,15 @@ abbrev pub LevelsWithin : List ℕ → ℕ → ℕ → Type 0
 LevelsWithin plan many n = (i : ℕ) → i < many → getD plan (levelsFrom + i) 0 ≤ n
 
 -- The word r has what the sets of the order's variables from depth d on name; what the clauses above level d name, of those from `from` up to `to`.
-abbrev pub SetsNamed : List ℕ → List ℕ → ℕ → ℕ → Type 0
-SetsNamed names order d r = (j : ℕ) → d ≤ j → j < length order → Covers r (has (getD names (getD order j 0) 0))
+abbrev pub SetsNamedFrom : List ℕ → List ℕ → ℕ → ℕ → Type 0
+SetsNamedFrom names order d r = (j : ℕ) → d ≤ j → j < length order → Covers r (has (getD names (getD order j 0) 0))
 
 abbrev pub ClausesNamed : List ℕ → List ℕ → ℕ → ℕ → ℕ → ℕ → Type 0
 ClausesNamed levels scopes from to d r = (i : ℕ) → from ≤ i → i < to → d < getD levels i 0 → Covers r (has (getD scopes i 0))
 
 -- The word of a mode and depth, 8 × mode + depth, has both; that of mode 0 the first alone.
 pub record ContextWord (names levels scopes order : List ℕ) (many at r : ℕ) : Type 0 where
-  pub sets : SetsNamed names order (at % 8) r
+  pub sets : SetsNamedFrom names order (at % 8) r
   pub clauses : 8 ≤ at → ClausesNamed levels scopes 0 many (at % 8) r
 
 -- ---- the whole plan

@@ -13,7 +13,7 @@ use Rattle.rules.specs.declared.Parsed.{Parsed}
 use Rattle.walks.specs.code.Context.{Covers}
 use Rattle.values.specs.code.Clauses.{clauseCount}
 use Rattle.values.specs.code.Plan.{planLength, planRoom, levelsFrom}
-use Rattle.judging.specs.code.Planning.{orderFrom, variablesAt, Layout, Planned, SetsNamed, ClausesNamed}
+use Rattle.judging.specs.code.Planning.{orderFrom, variablesAt, Layout, Planned, SetsNamedFrom, ClausesNamed}
 use Rattle.judging.specs.code.Walking.{OwnNodes}
 use Rattle.sharing.specs.declared.laying.Range.{Range}
 use Rattle.sharing.specs.code.Lines.{linesLength, maskOf, fromOf, toOf, Grouped}
@@ -64,7 +64,7 @@ OrderOf plan order = (d : ℕ) → d < getD plan variablesAt 0 → getD order d 
 
 -- By depth a word has what the sets of the order's variables from there on name.
 abbrev pub ByDepth : List ℕ → List ℕ → List ℕ → Type 0
-ByDepth names order found = (d : ℕ) → d < 8 → SetsNamed names order d (getD found d 0)
+ByDepth names order found = (d : ℕ) → d < 8 → SetsNamedFrom names order d (getD found d 0)
 
 -- The mask of a line at a depth stands for the variables of that word, and for what the line's clauses above that level name.
 pub record MaskFor (plan scopes : List ℕ) (named from to d mask : ℕ) : Type 0 where

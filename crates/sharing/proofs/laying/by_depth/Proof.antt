@@ -4,13 +4,13 @@ use mathlib.Core.Path.{_≡_, refl, _∙_}
 use Prim.Native.Nat.{ℕ, _-_, _<_, _≤_}
 use native.Mathlib.Omega.{arith}
 use lib.ListN.{length, getD, length-set}
-use Rattle.judging.specs.code.Planning.{SetsNamed}
+use Rattle.judging.specs.code.Planning.{SetsNamedFrom}
 use Rattle.sharing.proofs.LayingLaws.{put-more}
 use Rattle.sharing.proofs.laying.by_depth.Statement.{statement}
 use Rattle.sharing.proofs.laying.by_depth.Tie as tie
 
 abbrev Inv-loop : tie.InvT-loop
-Inv-loop names order found₀ d₀ found d = (d ≤ 8) × (length found ≡ 8) × ((e : ℕ) → e < d → SetsNamed names order e (getD found e 0))
+Inv-loop names order found₀ d₀ found d = (d ≤ 8) × (length found ≡ 8) × ((e : ℕ) → e < d → SetsNamedFrom names order e (getD found e 0))
 
 abbrev μ-loop : tie.MeasureT-loop
 μ-loop names order found₀ d₀ found d = 8 - d
@@ -52,7 +52,7 @@ loop-again c =
     let at-start = c .before .before .before .before .before in (
       omega (arith, at-loop-test .loop-test .taken),
       length-set (at-loop .loop .found) (at-loop .loop .d) (at-by-sets .by-sets .result) ∙ at-loop .loop .inv .1,
-      put-more (λ e w. SetsNamed (at-start .args .names .now) (at-start .args .order .now) e w) (at-loop .loop .found) (at-loop .loop .d) (omega (arith, at-loop .loop .inv .1, at-loop-test .loop-test .taken)) (at-loop .loop .inv .2) (at-by-sets .by-sets .result) (at-by-sets .by-sets .ensures .1),
+      put-more (λ e w. SetsNamedFrom (at-start .args .names .now) (at-start .args .order .now) e w) (at-loop .loop .found) (at-loop .loop .d) (omega (arith, at-loop .loop .inv .1, at-loop-test .loop-test .taken)) (at-loop .loop .inv .2) (at-by-sets .by-sets .result) (at-by-sets .by-sets .ensures .1),
     )
 
 returns : tie.Need-returns Inv-loop μ-loop
