@@ -9,14 +9,21 @@ use crate::hold::{reply, step, Question};
 /// So many choices are tried one by one at the most.
 const TRIED: u64 = 1 << 32;
 
+/// What a file of commands was held to.
+pub struct Held {
+    pub lines: usize,
+    /// How many of the lines only the library was asked.
+    pub alone: usize,
+}
+
 /// Holds the library, the plain modules and the fast ones to the answers of a file of commands; of verdicts on
-/// more choices than can be tried, the library alone. Gives the number of lines.
+/// more choices than can be tried one by one, the library alone.
 ///
 /// # Errors
 ///
 /// What is wrong: no commands at all, other numbers of lines, or each line that is answered
 /// otherwise by one of the three.
-pub fn hold(commands: &[u8], answers: &[u8]) -> Result<usize, Vec<String>> {
+pub fn hold(commands: &[u8], answers: &[u8]) -> Result<Held, Vec<String>> {
     let (commands, answers) = (lines(commands), lines(answers));
     if commands.is_empty() {
         return Err(vec!["there are no commands".to_string()]);
@@ -33,7 +40,10 @@ pub fn hold(commands: &[u8], answers: &[u8]) -> Result<usize, Vec<String>> {
         })
         .collect();
     match differences.is_empty() {
-        true => Ok(commands.len()),
+        true => Ok(Held {
+            lines: commands.len(),
+            alone: commands.iter().filter(|command| endless(command)).count(),
+        }),
         false => Err(differences),
     }
 }
@@ -50,15 +60,14 @@ fn lines(text: &[u8]) -> Vec<&[u8]> {
 /// A name, and how it answers.
 type Respondent = (&'static str, fn(&Command) -> String);
 
-/// Who answers a command otherwise, if anyone does. Where there are more choices than can be tried one by one,
-/// the library alone is asked.
+/// Who answers a command otherwise, if anyone of those asked does.
 fn differing(command: &[u8], expected: &[u8]) -> Option<String> {
     let all: [Respondent; 3] = [
         ("the library", library),
         ("the reference", Command::plain),
         ("its fast modules", Command::fast),
     ];
-    let asked = match Command::read(command).is_some_and(|command| endless(&command)) {
+    let asked = match endless(command) {
         true => &all[..1],
         false => &all[..],
     };
@@ -73,12 +82,12 @@ fn differing(command: &[u8], expected: &[u8]) -> Option<String> {
     Some(format!("{command}\n  expected {expected}\n  {who}: {got}"))
 }
 
-/// Whether the command is a verdict on more choices than can be tried one by one.
-fn endless(command: &Command) -> bool {
-    let Command::Judge([tables, rule, _], _) = command else {
+/// Whether the command is for a verdict on more choices than can be tried one by one.
+fn endless(command: &[u8]) -> bool {
+    let Some(Command::Judge([tables, rule, _], _)) = Command::read(command) else {
         return false;
     };
-    forecast(tables, rule).is_ok_and(|told| told.ceiling > TRIED)
+    forecast(&tables, &rule).is_ok_and(|told| told.ceiling > TRIED)
 }
 
 /// The library's answer: that of the call, or the day sheet made of its verdicts.

@@ -1,11 +1,12 @@
 //! Holds the proved library and the reference to vectors: `vectors PATH..`, each a file `NAME.in`
 //! with one command to a line, beside which `NAME.out` has the answer to each, or a folder of such
-//! files. It fails on any difference, and where a file is missing or empty.
+//! files. It fails on any difference, and where a file is missing or empty. Of verdicts on more choices than
+//! the reference can try, the library alone is asked, and it says how many these are.
 
 use std::path::{Path, PathBuf};
 use std::{env, fs, process};
 
-use differential::vectors::hold;
+use differential::vectors::{hold, Held};
 
 /// How many differences of a file are printed.
 const PRINTED: usize = 10;
@@ -51,7 +52,7 @@ fn files(path: &Path) -> Result<Vec<PathBuf>, String> {
     }
 }
 
-/// Whether all three answer a file's commands as its answers say. Says what they do otherwise.
+/// Whether all who are asked answer a file's commands as its answers say. Says what they do otherwise.
 fn held(commands: &Path) -> bool {
     let name = commands.display();
     let (texts, answers) = (fs::read(commands), fs::read(commands.with_extension("out")));
@@ -67,8 +68,12 @@ fn held(commands: &Path) -> bool {
         }
     };
     match hold(&texts, &answers) {
-        Ok(lines) => {
-            println!("{name}: {lines} lines, as expected");
+        Ok(Held { lines, alone }) => {
+            let alone = match alone {
+                0 => String::new(),
+                _ => format!(", {alone} of them by the library alone"),
+            };
+            println!("{name}: {lines} lines, as expected{alone}");
             true
         }
         Err(faults) => {
