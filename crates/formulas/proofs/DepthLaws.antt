@@ -10,7 +10,7 @@ use native.Mathlib.Decide.{decLt}
 use lib.Dec.{eqb, ltb}
 use borrow.Author.Tests.{ne-eqb, lt-ltb, le-ltb, ltb-false}
 use Rattle.syntax.specs.Bytes.{Bytes, ascii}
-use Rattle.syntax.specs.Term.{Base, bU, bR, bOP, bOBJ, bP, bS, bCR, bCP, bCU, Fn, user, roles, roles*, sessions, permissions, permissions*, object, operations}
+use Rattle.syntax.specs.Term.{Base, bU, bR, bOP, bOBJ, bP, bS, bCR, bCP, bCU, Fn, user, roles, roles*, sessions, permissions, permissions*, object, operations, done}
 use Rattle.syntax.specs.Term.{meet, join, Pair, calls, joins, Term, base, call, oe, ao, two, Choices, digitFrom, digit, isBase, isCall, isOE, isAO, isBracket}
 use Rattle.syntax.specs.Term.{spell, spellMiddle, opening, parting, oeText, aoText, text}
 use Rattle.syntax.specs.Rule.{Cmp, lt, le, gt, ge, eq, ne, spellCmp, is, isnt, Between, isIn, isSign, spellBetween, Count, number, count, Test, member, alike, empty, sized}
@@ -97,6 +97,7 @@ open-bracket = record { opens = λ o c r. refl }
 open-two : (o : Pair) → Opening (spell (opening o))
 unfolding spell deep opening
 open-two (calls operations) = record { opens = λ o c r. refl }
+open-two (calls done) = record { opens = λ o c r. refl }
 open-two (joins p) = record { opens = λ o c r. refl }
 
 flat-parting : (o : Pair) → Flat (parting o)

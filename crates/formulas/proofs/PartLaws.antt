@@ -9,7 +9,7 @@ use native.Mathlib.Omega.{arith}
 use lib.ListN.{length, drop, length-append}
 use borrow.Author.Tests.{ne-eqb}
 use Rattle.syntax.specs.Bytes.{Bytes, ascii}
-use Rattle.syntax.specs.Term.{Base, bU, bR, bOP, bOBJ, bP, bS, bCR, bCP, bCU, Fn, user, roles, roles*, sessions, permissions, permissions*, object, operations}
+use Rattle.syntax.specs.Term.{Base, bU, bR, bOP, bOBJ, bP, bS, bCR, bCP, bCU, Fn, user, roles, roles*, sessions, permissions, permissions*, object, operations, done}
 use Rattle.syntax.specs.Term.{meet, join, Pair, calls, joins, Term, base, call, oe, ao, two, Term≟, Choices, digitFrom, digit, isBase, isCall, isOE, isAO, isBracket, isChoice, isLess}
 use Rattle.syntax.specs.Term.{spell, spellMiddle, opening, parting, oeText, aoText, text}
 use Rattle.syntax.specs.Rule.{Rule, ruleText, ruleVars, ruleOf, formula}
@@ -61,11 +61,13 @@ free-call object = record { past = λ r. refl }
 free-opening : (o : Pair) → Free (spell (opening o))
 unfolding spell opening quantifierPart
 free-opening (calls operations) = record { past = λ r. refl }
+free-opening (calls done) = record { past = λ r. refl }
 free-opening (joins o) = record { past = λ r. refl }
 
 free-parting : (o : Pair) → Free (parting o)
 unfolding parting spellMiddle quantifierPart
 free-parting (calls operations) = record { past = λ r. refl }
+free-parting (calls done) = record { past = λ r. refl }
 free-parting (joins meet) = record { past = λ r. refl }
 free-parting (joins join) = record { past = λ r. refl }
 

@@ -12,17 +12,19 @@ use lib.Dec.{eqb, ltb}
 use lib.ListN.{length, getD, length-map, List·getD-eq-default}
 use Rattle.words.specs.Words.{has, anyTo, itemOf, meetOf, imageOf, preimageOf}
 use Rattle.words.proofs.WordsLaws.{word-ext, both, eqb-comm, and-true, and-both, any-here, any-witness, any-ext, has-zero, has-item, has-meet}
-use Rattle.words.proofs.RelationLaws.{reach, reach-ext, image-reach, preimage-reach, image-image, preimage-image, has-preimage}
-use Rattle.tables.specs.Tables.{Tables, userRows, sessionUsers, sessionRoles}
+use Rattle.words.specs.Relations.{reach}
+use Rattle.words.proofs.RelationLaws.{reach-ext, image-reach, preimage-reach, image-image, preimage-image, has-preimage}
+use Rattle.tables.specs.Tables.{Tables, userRows, sessionUsers, sessionRoles, doneUsers, doneObjects, doneOperations}
 use Rattle.tables.specs.Accepted.{Fits}
 use Rattle.tables.specs.code.Layout.{roleCountAt, userCountAt, sessionCountAt, permissionCountAt, roleRowsAt, userRowsAt, sessionUsersAt}
-use Rattle.tables.specs.code.Layout.{sessionRolesAt, permissionRowsAt, objectRowsAt, operationRowsAt, sectionAt}
+use Rattle.tables.specs.code.Layout.{sessionRolesAt, permissionRowsAt, objectRowsAt, operationRowsAt, doneCountAt, doneUsersAt, doneObjectsAt, doneOperationsAt, sectionAt}
 use Rattle.tables.specs.Flat.{counts, objectRows, operationRows, sections}
-use Rattle.tables.proofs.FlatLaws.{map-at, length-tabulate, tabulate-at}
+use Rattle.tables.proofs.FlatLaws.{map-at, numbers-long, length-tabulate, tabulate-at}
 use Rattle.tables.proofs.ReachLaws.{juniors-words}
-use Rattle.tables.specs.Functions.{sessionOf, isPermission, userOfSessions, userOfRoles, rolesOfUsers, rolesOfSessions, rolesOfPermissions}
+use Rattle.tables.specs.Functions.{sessionOf, isPermission, onObject, may, doneRowIs, did, onSome}
+use Rattle.tables.specs.Functions.{userOfSessions, userOfRoles, rolesOfUsers, rolesOfSessions, rolesOfPermissions}
 use Rattle.tables.specs.Functions.{juniorsOfUsers, juniorsOfSessions, seniorsOfPermissions, sessionsOfUsers}
-use Rattle.tables.specs.Functions.{permissionsOfRoles, permissionsOfJuniors, objectsOfPermissions, operationsOn}
+use Rattle.tables.specs.Functions.{permissionsOfRoles, permissionsOfJuniors, objectsOfPermissions, operationsOn, doneBy}
 
 -- ---- the rows of one item
 
@@ -37,11 +39,14 @@ row-is rows n i x y l long within = go (ltb i n) refl
         let h : length rows ≤ i = omega arith in
         ap (λ (w : ℕ). has w x) (List·getD-eq-default rows 0 h) ∙ has-zero x
 
+-- Rows whose items are the numbers that f gives of the members of a list.
+number-row : {A : Type 0} (xs : List A) (f : A → ℕ) (i x : ℕ) → x < 64
+    → has (getD (map itemOf (map f xs)) i 0) x ≡ (ltb i (length xs) && eqb (getD (map f xs) i 0) x)
+number-row xs f i x l =
+    row-is (map itemOf (map f xs)) (length xs) i x (getD (map f xs) i 0) l (numbers-long xs f) (λ h. map-at itemOf (map f xs) i (omega (arith, length-map xs f)))
+
 session-row : (T : Tables) (s u : ℕ) → u < 64 → has (getD (map itemOf (sessionUsers T)) s 0) u ≡ sessionOf T s u
-session-row T s u l =
-    let n = length-map (T .sessions) (λ s. s .user) in
-    row-is (map itemOf (sessionUsers T)) (length (T .sessions)) s u (getD (sessionUsers T) s 0) l (length-map (sessionUsers T) itemOf ∙ n) (λ h.
-    map-at itemOf (sessionUsers T) s (omega (arith, n)))
+session-row T s u l = number-row (T .sessions) (λ s. s .user) s u l
 
 object-row : (T : Tables) (p b : ℕ) → b < 64 → has (getD (objectRows T) p 0) b ≡ (ltb p (length (T .permissionRows)) && eqb (p % T .objectCount) b)
 unfolding objectRows
@@ -127,7 +132,7 @@ counted-users T = sym (length-map (T .users) (λ u. u .assigned))
 
 pub counted-sessions : (T : Tables) → getD (counts T) sessionCountAt 0 ≡ length (sectionAt T sessionUsersAt)
 unfolding counts sections
-counted-sessions T = sym (length-map (sessionUsers T) itemOf ∙ length-map (T .sessions) (λ s. s .user))
+counted-sessions T = sym (numbers-long (T .sessions) (λ s. s .user))
 
 pub counted-permissions : (T : Tables) → getD (counts T) permissionCountAt 0 ≡ length (sectionAt T permissionRowsAt)
 unfolding counts sections
@@ -137,45 +142,52 @@ pub counted-objects : (T : Tables) → getD (counts T) permissionCountAt 0 ≡ l
 unfolding counts sections objectRows
 counted-objects T = sym (length-tabulate (length (T .permissionRows)) (λ p. itemOf (p % T .objectCount)))
 
+pub counted-done-users : (T : Tables) → getD (counts T) doneCountAt 0 ≡ length (sectionAt T doneUsersAt)
+unfolding counts sections
+counted-done-users T = sym (numbers-long (T .done) (λ d. d .user))
+
+pub counted-done-objects : (T : Tables) → getD (counts T) doneCountAt 0 ≡ length (sectionAt T doneObjectsAt)
+unfolding counts sections
+counted-done-objects T = sym (numbers-long (T .done) (λ d. d .object))
+
 -- ---- one step
 
 pub user-of-sessions : (T : Tables) (w : ℕ) → imageOf (sectionAt T sessionUsersAt) w ≡ userOfSessions T w
-unfolding sections userOfSessions reach
+unfolding sections userOfSessions
 user-of-sessions T w =
     image-reach (map itemOf (sessionUsers T)) w
     ∙ reach-ext (λ s u. has (getD (map itemOf (sessionUsers T)) s 0) u) (sessionOf T) w (λ s u _ l. session-row T s u l)
 
 pub sessions-of-users : (T : Tables) (w : ℕ) → preimageOf (sectionAt T sessionUsersAt) w ≡ sessionsOfUsers T w
-unfolding sections sessionsOfUsers reach
+unfolding sections sessionsOfUsers
 sessions-of-users T w =
     preimage-reach (map itemOf (sessionUsers T)) w
     ∙ reach-ext (λ u s. has (getD (map itemOf (sessionUsers T)) s 0) u) (λ u s. sessionOf T s u) w (λ u s l _. session-row T s u l)
 
 pub user-of-roles : (T : Tables) (w : ℕ) → preimageOf (sectionAt T userRowsAt) w ≡ userOfRoles T w
-unfolding sections userOfRoles reach
+unfolding sections userOfRoles
 user-of-roles T w = preimage-reach (userRows T) w
 
 pub roles-of-users : (T : Tables) (w : ℕ) → imageOf (sectionAt T userRowsAt) w ≡ rolesOfUsers T w
-unfolding sections rolesOfUsers reach
+unfolding sections rolesOfUsers
 roles-of-users T w = image-reach (userRows T) w
 
 pub roles-of-sessions : (T : Tables) (w : ℕ) → imageOf (sectionAt T sessionRolesAt) w ≡ rolesOfSessions T w
-unfolding sections rolesOfSessions reach
+unfolding sections rolesOfSessions
 roles-of-sessions T w = image-reach (sessionRoles T) w
 
 pub roles-of-permissions : (T : Tables) (w : ℕ) → imageOf (sectionAt T permissionRowsAt) w ≡ rolesOfPermissions T w
-unfolding sections rolesOfPermissions reach
+unfolding sections rolesOfPermissions
 roles-of-permissions T w = image-reach (T .permissionRows) w
 
 pub permissions-of-roles : (T : Tables) (w : ℕ) → preimageOf (sectionAt T permissionRowsAt) w ≡ permissionsOfRoles T w
-unfolding sections permissionsOfRoles reach
+unfolding sections permissionsOfRoles
 permissions-of-roles T w = preimage-reach (T .permissionRows) w
 
 pub objects-of-permissions : (T : Tables) → Fits T → (w : ℕ) → imageOf (sectionAt T objectRowsAt) w ≡ objectsOfPermissions T w
-unfolding sections objectsOfPermissions reach
+unfolding sections objectsOfPermissions
 objects-of-permissions T fits w =
-    image-reach (objectRows T) w
-    ∙ reach-ext (λ p b. has (getD (objectRows T) p 0) b) (λ p b. anyTo 64 (λ a. isPermission T p a b)) w (λ p b lp lb. object-is T fits p b lp lb)
+    image-reach (objectRows T) w ∙ reach-ext (λ p b. has (getD (objectRows T) p 0) b) (onObject T) w (λ p b lp lb. object-is T fits p b lp lb)
 
 -- ---- two steps
 
@@ -184,20 +196,20 @@ unfolding sections
 juniors-of-users T w = juniors-words T w
 
 pub juniors-of-sessions : (T : Tables) (w : ℕ) → imageOf (sectionAt T roleRowsAt) (imageOf (sectionAt T sessionRolesAt) w) ≡ juniorsOfSessions T w
-unfolding sections juniorsOfSessions reach
+unfolding sections juniorsOfSessions
 juniors-of-sessions T w = image-image (sessionRoles T) (T .roleRows) w
 
 pub seniors-of-permissions : (T : Tables) (w : ℕ)
     → preimageOf (sectionAt T roleRowsAt) (imageOf (sectionAt T permissionRowsAt) w) ≡ seniorsOfPermissions T w
-unfolding sections seniorsOfPermissions reach
+unfolding sections seniorsOfPermissions
 seniors-of-permissions T w = preimage-image (T .permissionRows) (T .roleRows) w
 
 pub permissions-of-juniors : (T : Tables) (w : ℕ)
     → preimageOf (sectionAt T permissionRowsAt) (imageOf (sectionAt T roleRowsAt) w) ≡ permissionsOfJuniors T w
-unfolding sections permissionsOfJuniors reach
+unfolding sections permissionsOfJuniors
 permissions-of-juniors T w = preimage-image (T .roleRows) (T .permissionRows) w
 
--- ---- the operations of a role on an object
+-- ---- the operations that rows say of somebody and an object
 
 -- Some p that a W holds, that touches a B, and that is in A: first the W, then the B, then p.
 regroup : (W B A : ℕ → Bool) (H O : ℕ → ℕ → Bool)
@@ -248,43 +260,75 @@ regroup W B A H O = both (anyTo 64 first) (anyTo 64 outer) there back
         let (p, lp, q) = any-witness 64 (inner r b) i in
         to-first p r b lp lr lb q w v
 
-pub operations-on : (T : Tables) → Fits T → (w o : ℕ)
-    → imageOf (sectionAt T operationRowsAt) (meetOf (preimageOf (sectionAt T permissionRowsAt) w) (preimageOf (sectionAt T objectRowsAt) o)) ≡ operationsOn T w o
-unfolding sections operationsOn imageOf
-operations-on T fits w o = word-ext 64 (λ a. anyTo 64 (code a)) (λ a. anyTo 64 (told a)) bit
+-- Rows of three words, who, which object and which operation: those of w and on o, and forth to their operations, is what w reaches where `does` is what some row says.
+by-rows : (who objects operations : List ℕ) (does : ℕ → ℕ → ℕ → Bool)
+    → ((i a b : ℕ) → i < 64 → a < 64 → b < 64
+    → anyTo 64 (λ k. (has (getD objects k 0) b && has (getD operations k 0) a) && has (getD who k 0) i) ≡ does i a b)
+    → (w o : ℕ) → imageOf operations (meetOf (preimageOf who w) (preimageOf objects o)) ≡ reach (onSome o does) w
+unfolding imageOf reach
+by-rows who objects operations does says w o = word-ext 64 (λ a. anyTo 64 (code a)) (λ a. anyTo 64 (told a)) bit
   where
-    held : ℕ → ℕ → Bool
-    held p r = has (getD (T .permissionRows) p 0) r
+    theirs : ℕ → ℕ → Bool
+    theirs k i = has (getD who k 0) i
 
     on : ℕ → ℕ → Bool
-    on p b = has (getD (objectRows T) p 0) b
+    on k b = has (getD objects k 0) b
 
     by : ℕ → ℕ → Bool
-    by a p = has (getD (operationRows T) p 0) a
+    by a k = has (getD operations k 0) a
 
     code : ℕ → ℕ → Bool
-    code a p = has (meetOf (preimageOf (T .permissionRows) w) (preimageOf (objectRows T) o)) p && by a p
+    code a k = has (meetOf (preimageOf who w) (preimageOf objects o)) k && by a k
 
     told : ℕ → ℕ → Bool
-    told a r = has w r && anyTo 64 (λ b. has o b && anyTo 64 (λ p. isPermission T p a b && held p r))
+    told a i = has w i && anyTo 64 (λ b. has o b && does i a b)
 
-    met : (p : ℕ) → p < 64 → has (meetOf (preimageOf (T .permissionRows) w) (preimageOf (objectRows T) o)) p
-        ≡ (anyTo 64 (λ r. held p r && has w r) && anyTo 64 (λ b. on p b && has o b))
-    met p l =
-        has-meet (preimageOf (T .permissionRows) w) (preimageOf (objectRows T) o) p l
-        ∙ ap₂ (λ (x y : Bool). x && y) (has-preimage (T .permissionRows) w p l) (has-preimage (objectRows T) o p l)
-
-    is : (a r b : ℕ) → a < 64 → b < 64 → anyTo 64 (λ p. (on p b && by a p) && held p r) ≡ anyTo 64 (λ p. isPermission T p a b && held p r)
-    is a r b la lb =
-        any-ext 64 (λ p. (on p b && by a p) && held p r) (λ p. isPermission T p a b && held p r) (λ p _.
-        ap (λ (x : Bool). x && held p r) (sym (permission-is T fits p a b la lb)))
+    met : (k : ℕ) → k < 64
+        → has (meetOf (preimageOf who w) (preimageOf objects o)) k ≡ (anyTo 64 (λ i. theirs k i && has w i) && anyTo 64 (λ b. on k b && has o b))
+    met k l =
+        has-meet (preimageOf who w) (preimageOf objects o) k l
+        ∙ ap₂ (λ (x y : Bool). x && y) (has-preimage who w k l) (has-preimage objects o k l)
 
     bit : (a : ℕ) → a < 64 → anyTo 64 (code a) ≡ anyTo 64 (told a)
-    bit a l =
-        any-ext 64 (code a) (λ p. (anyTo 64 (λ r. held p r && has w r) && anyTo 64 (λ b. on p b && has o b)) && by a p) (λ p lp.
-        ap (λ (x : Bool). x && by a p) (met p lp))
-        ∙ regroup (has w) (has o) (by a) held on
-        ∙ any-ext 64 (λ r. has w r && anyTo 64 (λ b. has o b && anyTo 64 (λ p. (on p b && by a p) && held p r))) (told a) (λ r _.
-        ap (λ (x : Bool). has w r && x)
-        (any-ext 64 (λ b. has o b && anyTo 64 (λ p. (on p b && by a p) && held p r)) (λ b. has o b && anyTo 64 (λ p. isPermission T p a b && held p r)) (λ b lb.
-        ap (λ (x : Bool). has o b && x) (is a r b l lb))))
+    bit a la =
+        any-ext 64 (code a) (λ k. (anyTo 64 (λ i. theirs k i && has w i) && anyTo 64 (λ b. on k b && has o b)) && by a k) (λ k l.
+        ap (λ (x : Bool). x && by a k) (met k l))
+        ∙ regroup (has w) (has o) (by a) theirs on
+        ∙ any-ext 64 (λ i. has w i && anyTo 64 (λ b. has o b && anyTo 64 (λ k. (on k b && by a k) && theirs k i))) (told a) (λ i li.
+        ap (λ (x : Bool). has w i && x)
+        (any-ext 64 (λ b. has o b && anyTo 64 (λ k. (on k b && by a k) && theirs k i)) (λ b. has o b && does i a b) (λ b lb.
+        ap (λ (x : Bool). has o b && x) (says i a b li la lb))))
+
+-- Permissions: the roles that hold them.
+pub operations-on : (T : Tables) → Fits T → (w o : ℕ)
+    → imageOf (sectionAt T operationRowsAt) (meetOf (preimageOf (sectionAt T permissionRowsAt) w) (preimageOf (sectionAt T objectRowsAt) o)) ≡ operationsOn T w o
+unfolding sections operationsOn
+operations-on T fits =
+    by-rows (T .permissionRows) (objectRows T) (operationRows T) (may T) (λ r a b _ la lb.
+    any-ext 64 _ _ (λ p _. ap (λ (x : Bool). x && has (getD (T .permissionRows) p 0) r) (sym (permission-is T fits p a b la lb))))
+
+-- Rows of Done: their users.
+gather : (n u a b : Bool) → (((n && b) && (n && a)) && (n && u)) ≡ (n && (u && (a && b)))
+gather false u a b = refl
+gather true false true true = refl
+gather true false true false = refl
+gather true false false true = refl
+gather true false false false = refl
+gather true true true true = refl
+gather true true true false = refl
+gather true true false true = refl
+gather true true false false = refl
+
+done-row : (T : Tables) (k u a b : ℕ) → u < 64 → a < 64 → b < 64
+    → ((has (getD (map itemOf (doneObjects T)) k 0) b && has (getD (map itemOf (doneOperations T)) k 0) a) && has (getD (map itemOf (doneUsers T)) k 0) u)
+    ≡ doneRowIs T k u a b
+done-row T k u a b lu la lb =
+    rw (number-row (T .done) (λ d. d .user) k u lu, number-row (T .done) (λ d. d .operation) k a la, number-row (T .done) (λ d. d .object) k b lb)
+    (gather (ltb k (length (T .done))) (eqb (getD (doneUsers T) k 0) u) (eqb (getD (doneOperations T) k 0) a) (eqb (getD (doneObjects T) k 0) b))
+
+pub done-by : (T : Tables) (w o : ℕ)
+    → imageOf (sectionAt T doneOperationsAt) (meetOf (preimageOf (sectionAt T doneUsersAt) w) (preimageOf (sectionAt T doneObjectsAt) o)) ≡ doneBy T w o
+unfolding sections doneBy
+done-by T =
+    by-rows (map itemOf (doneUsers T)) (map itemOf (doneObjects T)) (map itemOf (doneOperations T)) (did T) (λ u a b lu la lb.
+    any-ext 64 _ _ (λ k _. done-row T k u a b lu la lb))

@@ -1,4 +1,5 @@
 -- The laws of the functions.
 pub mod SectionLaws
 pub mod FunctionsLaws
-pub mod UnionLaws
+pub mod UserLaws
+pub mod DoneLaws

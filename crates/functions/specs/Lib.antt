@@ -1,2 +1,2 @@
--- What "the union over its members" is; the functions themselves are defined beside the tables.
-pub mod Union
+-- What a row of Done says; the functions themselves are defined beside the tables.
+pub mod Done

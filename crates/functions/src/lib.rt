@@ -10,7 +10,7 @@ ghost use Rattle.tables.specs.code.Layout.{Whole, Begins, sectionAt};
 ghost use Rattle.tables.specs.Flat.{room, counts, flat};
 ghost use Rattle.tables.specs.Functions.{userOfSessions, userOfRoles, rolesOfUsers, rolesOfSessions, rolesOfPermissions};
 ghost use Rattle.tables.specs.Functions.{juniorsOfUsers, juniorsOfSessions, seniorsOfPermissions, sessionsOfUsers};
-ghost use Rattle.tables.specs.Functions.{permissionsOfRoles, permissionsOfJuniors, objectsOfPermissions, operationsOn};
+ghost use Rattle.tables.specs.Functions.{permissionsOfRoles, permissionsOfJuniors, objectsOfPermissions, operationsOn, doneBy};
 use tables::layout;
 
 // The union of the rows of w's items in the section that begins at `at`.
@@ -128,4 +128,14 @@ pub fn operations_on(t: &[u64], w: u64, o: u64) -> u64
     let held = preimage(t, layout::PERMISSION_ROWS, layout::PERMISSION_COUNT, w);
     let on = preimage(t, layout::OBJECT_ROWS, layout::PERMISSION_COUNT, o);
     image(t, layout::OPERATION_ROWS, words::meet(held, on))
+}
+
+// Document 02, N8: the operations of the rows of Done that are of a user of w and on an object of o.
+pub fn done_by(t: &[u64], w: u64, o: u64) -> u64
+    requires { ⌜ Whole (now t) ⌝ }
+    ensures { λ r. ⌜ ((T : Tables) → Fits T → now (t .entry) ≡ flat T → r ≡ doneBy T w o) ⌝ }
+{
+    let theirs = preimage(t, layout::DONE_USERS, layout::DONE_COUNT, w);
+    let on = preimage(t, layout::DONE_OBJECTS, layout::DONE_COUNT, o);
+    image(t, layout::DONE_OPERATIONS, words::meet(theirs, on))
 }

@@ -11,3 +11,4 @@ pub mod PageLaws
 pub mod WalkLaws
 pub mod MetLaws
 pub mod ReportLaws
+pub mod AlikeLaws

@@ -8,7 +8,7 @@ use native.Mathlib.Omega.{arith}
 use lib.ListN.{length, getD}
 use Rattle.syntax.specs.Bytes.{Bytes, ascii}
 use Rattle.syntax.specs.Term.{Base, bU, bR, bOP, bOBJ, bP, bS, bCR, bCP, bCU, Fn, user, roles, roles*, sessions, permissions}
-use Rattle.syntax.specs.Term.{permissions*, object, operations, meet, join, Term, base, call, oe, ao, two, Term≟, Choices, digitFrom, digit}
+use Rattle.syntax.specs.Term.{permissions*, object, operations, done, meet, join, Term, base, call, oe, ao, two, Term≟, Choices, digitFrom, digit}
 use Rattle.syntax.specs.Term.{isBase, isCall, spell, oeText, aoText, text, calls, joins, parting}
 use Rattle.syntax.specs.code.Arena.{baseOp, fnOp, twoOp, One, Holds, HoldsAll, Apart}
 use Rattle.syntax.specs.code.Reading.{Sought}
@@ -126,6 +126,9 @@ module _ (ns : List ℕ) (k : ℕ) (σ : Choices) where
   text-two (oe a) h l x = absurd (omega (arith, holds-op ns k (oe a) x))
   text-two (ao a) h l x = absurd (omega (arith, holds-op ns k (ao a) x))
   text-two (two (calls operations) a b) h l x =
+      let y = both-parts (x .2) (omega arith) in
+      record { thing = (a, b); held = (rw (y .left) (x .3), rw (y .right) (x .4)); written = rw (y .op) }
+  text-two (two (calls done) a b) h l x =
       let y = both-parts (x .2) (omega arith) in
       record { thing = (a, b); held = (rw (y .left) (x .3), rw (y .right) (x .4)); written = rw (y .op) }
   text-two (two (joins meet) a b) h l x =

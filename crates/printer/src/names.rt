@@ -41,7 +41,8 @@ const CALLS: [[u8; 13]; 9] = [
 
 const CALL_LENGTHS: [u8; 9] = [5, 6, 7, 9, 12, 13, 7, 3, 3];
 
-const SIGNS: [[u8; 2]; 20] = [
+const SIGNS: [[u8; 2]; 21] = [
+    *b", ",
     *b", ",
     *b"& ",
     *b"+ ",
@@ -64,11 +65,38 @@ const SIGNS: [[u8; 2]; 20] = [
     *b"!=",
 ];
 
-const SIGN_LENGTHS: [u8; 20] = [1, 1, 1, 1, 1, 2, 1, 2, 1, 2, 1, 2, 1, 2, 1, 2, 1, 2, 1, 2];
+const SIGN_LENGTHS: [u8; 21] = [
+    1,
+    1,
+    1,
+    1,
+    1,
+    1,
+    2,
+    1,
+    2,
+    1,
+    2,
+    1,
+    2,
+    1,
+    2,
+    1,
+    2,
+    1,
+    2,
+    1,
+    2,
+];
 
-const OPENINGS: [[u8; 11]; 3] = [*b"operations(", *b"(          ", *b"(          "];
+const OPENINGS: [[u8; 11]; 4] = [
+    *b"operations(",
+    *b"done(      ",
+    *b"(          ",
+    *b"(          ",
+];
 
-const OPENING_LENGTHS: [u8; 3] = [11, 1, 1];
+const OPENING_LENGTHS: [u8; 4] = [11, 5, 1, 1];
 
 // A length, which takes one byte of its table.
 fn wide(n: u8) -> usize

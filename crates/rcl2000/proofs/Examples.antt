@@ -9,6 +9,7 @@ use lib.Dec.{eqb}
 use lib.ListN.{length}
 use borrow.Author.Tests.{eqb-true}
 use Rattle.words.specs.Words.{has as hasItem, wordOf, anyTo, countTo, sizeOf, allOf, itemOf, meetOf, joinOf, lessOf}
+use Rattle.words.specs.Relations.{reach}
 use Rattle.words.proofs.WordsLaws.{and-true}
 use Rattle.answers.specs.Refusal.{numberOf}
 use Rattle.answers.specs.Answer.{Answer, refused, wrote}
@@ -77,6 +78,7 @@ tablesT = record {
   cr = 3 ∷ [];
   cu = [];
   cp = [];
+  done = [];
 }
 
 reads-T : tablesOf bytesT ≡ taken tablesT
@@ -151,7 +153,7 @@ all-right (l ∷ ls) q =
 
 -- Opening this opens all that the examples compute with.
 unfoldable everything : Unit {0}
-unfolding next skip scan either same Term≟ digitFrom namedFrom spell spellMiddle opening parting oeText aoText text bracketHeads callHeads collectionHeads heads middles known closed second inner termWithin readTerm spellCmp spellBetween digits countText testText clauseText ruleText add vars countVars testVars clauseVars ruleVars quantifiers formulaWith formula cmps betweens down readCount readSecond readTest readClause readRule readFormula whole ruleOf ruleOfFormula formulaOf kept rebuilt reduced rebuiltAnswer oneOf baseKind takes makes ofElement callKind inside oneKind othersKind asSet joined row call2Kind twoKind kind countable isMember countKinds testKinds clauseKinds ruleKinds deep treeRefusal refusal sumTo walk walkFirst firstTo variablesOf isSmall count isOnce isFree isAfter isOrder isNearest nearestTo shareOf presentIn sortItems kindItems ofSort callValue call2Value opValue twoValue variableOf oneValue value compared signed countValue testTrue clauseTrue ruleTrue namesIn outcomeOf lowestFirst written answerBy hasItem wordOf anyTo countTo sizeOf allOf itemOf meetOf joinOf lessOf userOfSessions userOfRoles rolesOfUsers rolesOfSessions rolesOfPermissions
+unfolding next skip scan either same Term≟ digitFrom namedFrom spell spellMiddle opening parting oeText aoText text bracketHeads callHeads collectionHeads heads middles known closed second inner termWithin readTerm spellCmp spellBetween digits countText testText clauseText ruleText add vars countVars testVars clauseVars ruleVars quantifiers formulaWith formula cmps betweens down readCount readSecond readTest readClause readRule readFormula whole ruleOf ruleOfFormula formulaOf kept rebuilt reduced rebuiltAnswer oneOf baseKind takes makes ofElement callKind inside oneKind othersKind asSet joined row call2Kind twoKind kind countable isMember countKinds testKinds clauseKinds ruleKinds deep treeRefusal refusal sumTo walk walkFirst firstTo variablesOf isSmall count isOnce isFree isAfter isOrder isNearest nearestTo shareOf presentIn sortItems kindItems ofSort callValue call2Value opValue twoValue variableOf oneValue value compared signed countValue testTrue clauseTrue ruleTrue namesIn outcomeOf lowestFirst written answerBy hasItem wordOf anyTo countTo sizeOf allOf itemOf meetOf joinOf lessOf reach userOfSessions userOfRoles rolesOfUsers rolesOfSessions rolesOfPermissions
 everything = tt
 
 pub examples : All table

@@ -11,4 +11,5 @@ pub mod StepDemands
 pub mod ForecastLaws
 pub mod ForecastDemands
 pub mod LeaverDemands
+pub mod DoneDemands
 pub mod Examples

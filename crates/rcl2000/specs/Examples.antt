@@ -17,7 +17,7 @@ word w = w ∷ replicate 7 0
 
 abbrev pub bytesT : Bytes
 bytesT =
-    2 ∷ (word 1 ++ (word 2 ++ (2 ∷ 1 ∷ (word 3 ++ (1 ∷ (word 1 ++ (0 ∷ 0 ∷ 0 ∷ 0 ∷ 1 ∷ (word 3 ++ (0 ∷ 0 ∷ [])))))))))
+    2 ∷ (word 1 ++ (word 2 ++ (2 ∷ 1 ∷ (word 3 ++ (1 ∷ (word 1 ++ (0 ∷ 0 ∷ 0 ∷ 0 ∷ 1 ∷ (word 3 ++ (0 ∷ 0 ∷ 0 ∷ [])))))))))
 
 -- A rule and its formula; bytes that are no rule's formula; a rule, an order and what judging them on T answers.
 pub data Line : Type 0 where
@@ -50,12 +50,17 @@ ruleC = ascii "AO(U)={}"
 abbrev pub ruleD : Bytes
 ruleD = ascii "|CR|=1"
 
+-- Document 02, N8: "The committee will write".
+abbrev pub committees : Bytes
+committees = ascii "|done(OE(U),OE(OBJ))|<=1"
+
 abbrev pub table : List Line
 table =
     has ruleA (ascii "[v1@U][v2@CR]:|(roles(v1)&v2)|<=1")  -- A
     ∷ has ruleB (ascii "[v1@CR][v2@v1][v3@U]:v2@roles(v3)=>((v1-{v2})&roles(v3))={}")  -- B
     ∷ has ruleC (ascii "[v1@U]:(U-{v1})={}")  -- C
     ∷ has ruleD (ascii ":|CR|=1")  -- D
+    ∷ has committees (ascii "[v1@U][v2@OBJ]:|done(v1,v2)|<=1")  -- document 02, N8
     ∷ gives ruleA (1 ∷ 2 ∷ []) (verdict 2 2 1 (0 ∷ 0 ∷ []) 50)  -- E: A gives 2, 1
     ∷ gives ruleB (1 ∷ 2 ∷ 3 ∷ []) (verdict 2 4 2 (0 ∷ 0 ∷ 0 ∷ []) 50)  -- F: B gives 4, 2 in orders 1 2 3
     ∷ gives ruleB (3 ∷ 1 ∷ 2 ∷ []) (verdict 2 4 2 (0 ∷ 0 ∷ 0 ∷ []) 50)  -- and 3 1 2
@@ -66,4 +71,5 @@ table =
     ∷ isNone (ascii "[v1@U]:U=U")  -- K: are 16
     ∷ isNone (ascii "[v1@U][v2@U]:v1=v2")
     ∷ gives ruleD [] (verdict 0 1 0 [] 0)  -- line 3 of the day sheet
+    ∷ gives committees (1 ∷ 2 ∷ []) (verdict 1 0 0 [] 255)  -- T has no object: N8's rule meets nothing
     ∷ []

@@ -45,7 +45,7 @@ others-many (set s) l e = refl
 others-many (collection c) l e = refl
 
 -- A term has a kind where those inside it have one, and where its choices can be chosen from.
-abbrev HasKind : Term → Type 0
+abbrev pub HasKind : Term → Type 0
 HasKind t = (k : Kind) × (kind t ≡ some k)
 
 passes : Passes HasKind Choosable
@@ -99,6 +99,10 @@ rule-has (also c ρ) e =
     let w = and-eq-true-iff (clauseKinds c) (ruleKinds ρ) .0 e in
     (clause-has c (w .0), rule-has ρ (w .1))
 
+-- So have those of an accepted rule.
+pub accepted-kinds : (s : Bytes) (ρ : Rule) → refusal s ≡ none → ruleOf s ≡ some ρ → RuleHas HasKind ρ
+accepted-kinds s ρ e h = rule-has ρ (tree-kinds ρ (accepted-tree s ρ e h))
+
 all-at : (σ : Choices) → All Choosable σ → (v : ℕ) → v < length σ → Choosable (getD σ v (base bU))
 all-at [] g v l = absurd (omega arith)
 all-at (x ∷ σ) g zero l = g .0
@@ -107,4 +111,4 @@ all-at (x ∷ σ) g (suc v) l = all-at σ (g .1) v (omega arith)
 -- THE THEOREM: the set of every variable of an accepted rule can be chosen from.
 pub accepted-choosable : (s : Bytes) (ρ : Rule) → refusal s ≡ none → ruleOf s ≡ some ρ
     → (v : ℕ) → v < length (ruleVars [] ρ) → Choosable (getD (ruleVars [] ρ) v (base bU))
-accepted-choosable s ρ e h = all-at (ruleVars [] ρ) (rule-all HasKind Choosable passes [] ρ tt (rule-has ρ (tree-kinds ρ (accepted-tree s ρ e h))))
+accepted-choosable s ρ e h = all-at (ruleVars [] ρ) (rule-all HasKind Choosable passes [] ρ tt (accepted-kinds s ρ e h))

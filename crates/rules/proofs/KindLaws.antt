@@ -12,7 +12,7 @@ use lib.Dec.{T, eqb, ltb, lit<, lit≤}
 use lib.ListN.{length, getD, set}
 use borrow.Author.Tests.{lt-ltb, le-ltb}
 use Rattle.syntax.specs.Term.{Base, bU, bR, bOP, bOBJ, bP, bS, bCR, bCP, bCU, Fn, user, roles, roles*, sessions, permissions, permissions*, object}
-use Rattle.syntax.specs.Term.{operations, meet, join, Term, base, call, oe, ao, two, Pair, calls, joins}
+use Rattle.syntax.specs.Term.{operations, done, meet, join, Term, base, call, oe, ao, two, Pair, calls, joins}
 use Rattle.syntax.specs.Rule.{Sign, is, isnt, number, count, Test, member, alike, empty, sized}
 use Rattle.syntax.specs.Rule.{Clause, plain, when, Rule, last, also}
 use Rattle.syntax.specs.code.Arena.{baseOp, fnOp, twoOp, alikeOp, emptyOp, cmpNumber, One}
@@ -98,6 +98,7 @@ twoRight o a b = numbersB (twoNumber (twoOp o) a b) (with (kindOf a) (λ k. with
 two-right : (o : Pair) → T (upto (λ a. upto (twoRight o a) kindsFit) kindsFit)
 unfolding twoRight numbersB sameKind kindOf kindList twoOp twoNumber call2Number pairTable setNumber twoKind call2Kind row joined asSet
 two-right (calls operations) = tt
+two-right (calls done) = tt
 two-right (joins meet) = tt
 two-right (joins join) = tt
 

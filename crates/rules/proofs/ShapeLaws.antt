@@ -11,7 +11,7 @@ use lib.Dec.{eqb, ltb}
 use lib.ListN.{length, getD, length-append}
 use borrow.Author.Tests.{lt-ltb, le-ltb}
 use Rattle.syntax.specs.Term.{Base, bU, bR, bOP, bOBJ, bP, bS, bCR, bCP, bCU, Fn, user, roles, roles*, sessions, permissions, permissions*, object}
-use Rattle.syntax.specs.Term.{operations, meet, join, Term, base, call, oe, ao, two, Choices, digit, isBase, isCall}
+use Rattle.syntax.specs.Term.{operations, done, meet, join, Term, base, call, oe, ao, two, Choices, digit, isBase, isCall}
 use Rattle.syntax.specs.Term.{spell, spellMiddle, oeText, aoText, text, Pair, calls, joins, opening, parting}
 use Rattle.syntax.specs.Rule.{Cmp, lt, le, gt, ge, eq, ne, Sign, is, isnt, number, count, Test, member, alike, empty, sized}
 use Rattle.syntax.specs.Rule.{Clause, plain, when, last, also, spellCmp, isSign, spellBetween, digits, countText, testText, clauseText, ruleText}
@@ -75,6 +75,7 @@ record Extras : Type 0 where
   one : extra oeOp ≡ 4
   rest : extra aoOp ≡ 4
   calls : extra firstPair ≡ 13
+  deeds : extra (firstPair + 1) ≡ 7
   meets : extra firstJoin ≡ 3
   joins : extra (firstJoin + 1) ≡ 3
   members : extra memberOp ≡ 1
@@ -83,7 +84,7 @@ record Extras : Type 0 where
 
 extras : Extras
 unfolding extra extraTable
-extras = record { one = refl; rest = refl; calls = refl; meets = refl; joins = refl; members = refl; whens = refl; alsos = refl }
+extras = record { one = refl; rest = refl; calls = refl; deeds = refl; meets = refl; joins = refl; members = refl; whens = refl; alsos = refl }
 
 -- How long what a node holds is, by what it stands on: a number behind it has one digit or two, and OE and AO are written by their choice where it is known.
 abbrev pub len : Choices → Thing → ℕ
@@ -170,6 +171,7 @@ clause-shape ns k (when p q) x =
 two-length : (σ : Choices) (o : Pair) (a b : Term) → length (text σ (two o a b)) ≡ extra (twoOp o) + length (text σ a) + length (text σ b)
 unfolding text opening parting twoOp spell spellMiddle
 two-length σ (calls operations) a b = simp length-append (omega (arith, extras))
+two-length σ (calls done) a b = simp length-append (omega (arith, extras))
 two-length σ (joins meet) a b = simp length-append (omega (arith, extras))
 two-length σ (joins join) a b = simp length-append (omega (arith, extras))
 

@@ -4,7 +4,7 @@ use mathlib.Core.List.{List, [], _∷_}
 use mathlib.Core.Option.{Option, none, some}
 use mathlib.Core.Bool.{Bool, true, false, _&&_, _||_}
 use Rattle.syntax.specs.Term.{Base, bU, bR, bOP, bOBJ, bP, bS, bCR, bCP, bCU, Fn, user, roles, roles*, sessions, permissions}
-use Rattle.syntax.specs.Term.{permissions*, object, Fn2, operations, Pair, calls, joins, Term, base, call, oe, ao, two}
+use Rattle.syntax.specs.Term.{permissions*, object, Fn2, operations, done, Pair, calls, joins, Term, base, call, oe, ao, two}
 use Rattle.syntax.specs.Rule.{Count, number, count, Test, member, alike, empty, sized, Clause, plain, when, Rule, last, also}
 
 -- "element or set of each of the six sorts U, R, OP, OBJ, P, S; collections CR, CP, CU"
@@ -110,8 +110,10 @@ pub record Row : Type 0 where
   pub gives : Sort
 
 -- "operations(r,o): a role or roles and one object; a set of operations."
+-- Document 02, N8: "done(u,o) takes a user or users and one object (an element) and gives the operations done."
 unfoldable pub row : Fn2 → Row
 row operations = record { first = sR; second = sOBJ; gives = sOP }
+row done = record { first = sU; second = sOBJ; gives = sOP }
 
 unfoldable pub call2Kind : Row → Kind → Kind → Option Kind
 call2Kind ρ k l = elim (holds (Kind≟ (asSet k) (set (ρ .first))) && holds (Kind≟ l (element (ρ .second)))) [ true ↦ some (set (ρ .gives)) | false ↦ none ]

@@ -200,8 +200,11 @@ const ONE: [u8; 135] = [
 ];
 
 // The calls of two terms, a row for each: an element or a set of the first kind and an element of the second give the third.
-const PAIRS: [u8; 3] = [
+const PAIRS: [u8; 6] = [
     ROLES, // operations
+    OBJECT,
+    OPERATIONS,
+    USERS, // done
     OBJECT,
     OPERATIONS,
 ];

@@ -21,7 +21,7 @@ ghost use Rattle.rules.specs.Accept.{ruleLimit};
 ghost use Rattle.rules.specs.code.Lengths.{extra, plainLength, knownLength, stepLength, lengthCap, capped, Knowing, LengthsOf, FormulaLength, FormulaIn};
 
 // How many bytes an operation adds to what it stands on: names with their brackets, signs, bars.
-const EXTRA: [u8; 40] = [
+const EXTRA: [u8; 41] = [
     1,
     1,
     2,
@@ -41,6 +41,7 @@ const EXTRA: [u8; 40] = [
     4,
     4,
     13,
+    7,
     3,
     3,
     1,

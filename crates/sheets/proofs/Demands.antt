@@ -1,6 +1,6 @@
 -- The demands, of what the caller of `sheets::line` sees.
 -- Assumes nothing.
-use mathlib.Core.Path.{_≡_, refl, ap, _∙_}
+use mathlib.Core.Path.{_≡_, refl, sym, ap, _∙_}
 use mathlib.Core.List.{List, [], _++_}
 use mathlib.Core.Option.{some}
 use mathlib.Core.Bool.{Bool, true, false}
@@ -12,7 +12,7 @@ use lib.ListN.{length, take, drop, getElem?}
 use lib.Seq.{take-at, drop-at}
 use borrow.Author.Tests.{le-leb, lt-leb, leb-false}
 use Rattle.answers.specs.Refusal.{numberOf}
-use Rattle.answers.specs.Answer.{refused, ifRoom, lent, outputAfter, answerNumber, answerLength}
+use Rattle.answers.specs.Answer.{Answer, refused, wrote, ifRoom, lent, outputAfter, answerNumber, answerLength}
 use Rattle.answers.specs.Written.{numberIn, lengthIn}
 use Rattle.answers.specs.declared.Written.{Written}
 use Rattle.answers.specs.declared.Refusal.{Refusal}
@@ -23,6 +23,7 @@ use Rattle.rules.specs.Accept.{refusal, accepted}
 use Rattle.rules.proofs.AcceptLaws.{none-true, accepted-rule}
 use Rattle.tables.specs.Tables.{Tables}
 use Rattle.tables.specs.Reading.{rejected, taken, tablesOf}
+use Rattle.functions.specs.Done.{SameDone}
 use Rattle.texts.specs.Pieces.{lines}
 use Rattle.texts.specs.Decimal.{decimalOf}
 use Rattle.walks.specs.Order.{upFrom, variablesOf}
@@ -32,12 +33,14 @@ use Rattle.verdicts.specs.Verdict.{acceptedVerdict, turnOrder, turnVerdict, tab
 use Rattle.verdicts.specs.Report.{OrderOf}
 use Rattle.verdicts.proofs.VerdictLaws.{turn-order}
 use Rattle.verdicts.proofs.ReportLaws.{verdict-reports}
+use Rattle.verdicts.proofs.AlikeLaws.{done-twins}
 use Rattle.sheets.specs.Line.{labelled, saysOf, lineText}
 use Rattle.sheets.specs.Total.{isHeld, isIdle, isBroken, isRefused, totalOf}
 use Rattle.sheets.specs.Sheet.{judgedFrom, only, listed, sheetBy, sheetOf, sheetLine}
 use Rattle.sheets.specs.Promise.{Lines, Wrote, TooShort, LineReports, TotalReports}
 use Rattle.sheets.proofs.SheetLaws.{judged-length, listed-some, listed-total, listed-none}
 use Rattle.sheets.proofs.TotalLaws.{total-adds-up}
+use Rattle.sheets.proofs.AlikeLaws.{sheet-alike}
 use Rattle.sheets.proofs.WordLaws.{tells-held, tells-idle, tells-broken, tells-refused, carried}
 
 -- DEMANDS 1 and 2. `line` finishes, on every input, with its line written or with 17, which changes no lent byte; 17 exactly where the line is longer.
@@ -138,3 +141,13 @@ module _ (tables rules : Bytes) (T : Tables) (t : tablesOf tables ≡ taken T) (
 
   pub nothing-further : (place : ℕ) → suc (length (lines rules)) < place → sheetLine (sheetOf tables rules) place ≡ []
   nothing-further place h = rw listed-is (listed-none T (lines rules) place (omega arith))
+
+-- DOCUMENT 02, N8. Tables that differ in the order of Done's rows, in repeats and in rows of leavers have the same lines, in the same lent bytes.
+pub done-listed : {b c : Bytes} → SameDone b c → (rules : Bytes) (place : ℕ) {old new new′ : List ℕ} {w w′ : Written}
+    → Lines b rules place old new w → Lines c rules place old new′ w′ → (numberIn w ≡ numberIn w′) × (lengthIn w ≡ lengthIn w′) × (new ≡ new′)
+done-listed s rules place {old} x y =
+    let e = ap (λ (ls : List Bytes). lent (length old) (wrote (sheetLine ls place))) (sheet-alike (done-twins s) rules) in (
+      x .number ∙ sym (y .number ∙ ap answerNumber e),
+      x .size ∙ sym (y .size ∙ ap answerLength e),
+      x .output ∙ sym (y .output ∙ ap (λ (a : Answer). outputAfter a old) e),
+    )

@@ -5,4 +5,5 @@ pub mod TotalLaws
 pub mod TurnLaws
 pub mod WordLaws
 pub mod JudgedLaws
+pub mod AlikeLaws
 pub mod Demands

@@ -11,7 +11,7 @@ use borrow.Author.Tests.{lt-ltb, le-ltb, le-leb, lt-leb}
 use lib.ListN.{length, getD, set, take, drop, length-set}
 use lib.Seq.{getD-set-same, getD-set-other, getD-take, getD-drop}
 use Rattle.syntax.specs.Term.{Base, bU, bR, bOP, bOBJ, bP, bS, bCR, bCP, bCU, Fn, user, roles, roles*, sessions, permissions}
-use Rattle.syntax.specs.Term.{permissions*, object, operations, meet, join, Term, base, call, oe, ao, two, Choices, Pair, calls, joins}
+use Rattle.syntax.specs.Term.{permissions*, object, operations, done, meet, join, Term, base, call, oe, ao, two, Choices, Pair, calls, joins}
 use Rattle.syntax.specs.Rule.{number, count, Test, member, alike, empty, sized, Clause, plain, when, Rule, last, also}
 use Rattle.syntax.specs.code.Arena.{baseOp, fnOp, twoOp, None, One, Numbered, Both, Holds, HoldsTest, HoldsClause, HoldsRule, HoldsAll, Apart, hasTwo, Low, Down, Tidy}
 use Rattle.syntax.specs.code.Reading.{Arena, Stays, Sought, Knows}
@@ -74,6 +74,7 @@ pub record TwoRange (o : ℕ) : Type 0 where
 pub two-range : (o : Pair) → TwoRange (twoOp o)
 unfolding twoOp
 two-range (calls operations) = record { low = omega arith; high = omega arith }
+two-range (calls done) = record { low = omega arith; high = omega arith }
 two-range (joins meet) = record { low = omega arith; high = omega arith }
 two-range (joins join) = record { low = omega arith; high = omega arith }
 
@@ -107,9 +108,10 @@ fn-back object = refl
 pub fn-one : (f g : Fn) → fnOp f ≡ fnOp g → f ≡ g
 fn-one f g e = cc (fn-back f, fn-back g)
 
-two-back : (o : Pair) → getD (calls operations ∷ joins meet ∷ joins join ∷ []) (twoOp o - firstPair) (calls operations) ≡ o
+two-back : (o : Pair) → getD (calls operations ∷ calls done ∷ joins meet ∷ joins join ∷ []) (twoOp o - firstPair) (calls operations) ≡ o
 unfolding twoOp
 two-back (calls operations) = refl
+two-back (calls done) = refl
 two-back (joins meet) = refl
 two-back (joins join) = refl
 

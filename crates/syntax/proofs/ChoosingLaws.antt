@@ -13,7 +13,7 @@ use lib.Seq.{take-append-seam}
 use borrow.Author.Tests.{ne-eqb}
 use Rattle.syntax.specs.Bytes.{Bytes, ascii, same}
 use Rattle.syntax.specs.Term.{Base, bU, bR, bOP, bOBJ, bP, bS, bCR, bCP, bCU, Fn, user, roles, roles*, sessions, permissions, permissions*}
-use Rattle.syntax.specs.Term.{object, operations, meet, join, calls, joins, Term, base, call, oe, ao, two, Term≟, Choices, digitFrom, digit}
+use Rattle.syntax.specs.Term.{object, operations, done, meet, join, calls, joins, Term, base, call, oe, ao, two, Term≟, Choices, digitFrom, digit}
 use Rattle.syntax.specs.Term.{isBase, isCall, isOE, isAO, isCall2, isBracket, spell, spellMiddle, opening, parting, text, oeText, aoText}
 use Rattle.syntax.specs.Rule.{lt, le, gt, ge, eq, ne, is, isnt, Count, number, count, Test, member, alike, empty, sized, Cmp, Clause}
 use Rattle.syntax.specs.Rule.{plain, when, Rule, last, also, spellCmp, Between, spellBetween, isIn, isSign, digits, countText, testText, clauseText, ruleText}
@@ -153,6 +153,10 @@ open-operations : Opens (spell (isCall2 operations)) false
 unfolding spell choicesFrom chooser same
 open-operations = record { at = λ x y bs xs s h. (115, refl) }
 
+open-done : Opens (spell (isCall2 done)) false
+unfolding spell choicesFrom chooser same
+open-done = record { at = λ x y bs xs s h. (101, refl) }
+
 open-oe : Opens (spell isOE) true
 unfolding spell choicesFrom chooser same
 open-oe = record { at = λ x y bs xs s h. (69, refl) }
@@ -230,6 +234,7 @@ term-choices (call f a) = plain-wrapped (open-call f) (term-choices a)
 term-choices (oe a) = chosen-wrapped a open-oe (term-choices a)
 term-choices (ao a) = chosen-wrapped a open-ao (term-choices a)
 term-choices (two (calls operations) a b) = reads-pair 44 (text [] a) (text [] b) open-operations (refl, refl, refl, refl) (term-choices a) (term-choices b)
+term-choices (two (calls done) a b) = reads-pair 44 (text [] a) (text [] b) open-done (refl, refl, refl, refl) (term-choices a) (term-choices b)
 term-choices (two (joins meet) a b) = reads-pair 38 (text [] a) (text [] b) open-bracket (refl, refl, refl, refl) (term-choices a) (term-choices b)
 term-choices (two (joins join) a b) = reads-pair 43 (text [] a) (text [] b) open-bracket (refl, refl, refl, refl) (term-choices a) (term-choices b)
 

@@ -31,6 +31,34 @@ abbrev pub RuleHas : (Term → Type 0) → Rule → Type 0
 RuleHas Q (last c) = ClauseHas Q c
 RuleHas Q (also c ρ) = ClauseHas Q c × RuleHas Q ρ
 
+-- What two properties of a term give, they give of the terms that stand there.
+module _ {P Q R : Term → Type 0} (f : (t : Term) → P t → Q t → R t) where
+  count-both : (k : Count) → CountHas P k → CountHas Q k → CountHas R k
+  count-both (number n) p q = tt
+  count-both (count a) p q = f a p q
+
+  test-both : (t : Test) → TestHas P t → TestHas Q t → TestHas R t
+  test-both (member a b) p q = (f a (p .0) (q .0), f b (p .1) (q .1))
+  test-both (alike g a b) p q = (f a (p .0) (q .0), f b (p .1) (q .1))
+  test-both (empty g a) p q = f a p q
+  test-both (sized c a k) p q = (f a (p .0) (q .0), count-both k (p .1) (q .1))
+
+  clause-both : (c : Clause) → ClauseHas P c → ClauseHas Q c → ClauseHas R c
+  clause-both (plain t) p q = test-both t p q
+  clause-both (when t u) p q = (test-both t (p .0) (q .0), test-both u (p .1) (q .1))
+
+  pub rule-both : (ρ : Rule) → RuleHas P ρ → RuleHas Q ρ → RuleHas R ρ
+  rule-both (last c) p q = clause-both c p q
+  rule-both (also c ρ) p q = (clause-both c (p .0) (q .0), rule-both ρ (p .1) (q .1))
+
+-- And what one gives.
+module _ {P R : Term → Type 0} (f : (t : Term) → P t → R t) where
+  pub test-has : (t : Test) → TestHas P t → TestHas R t
+  test-has t p = test-both (λ t p _. f t p) t p p
+
+  pub clause-has : (c : Clause) → ClauseHas P c → ClauseHas R c
+  clause-has c p = clause-both (λ t p _. f t p) c p p
+
 -- Q goes on to the terms inside, and gives P of the argument of a choice.
 pub record Passes (Q P : Term → Type 0) : Type 0 where
   pub inCall : (f : Fn) (a : Term) → Q (call f a) → Q a

@@ -1,14 +1,15 @@
 -- What each way out of the reader of terms gives: what was read, or that nothing is there, and what the nodes hold.
 -- Assumes nothing.
 use mathlib.Core.Path.{_≡_, refl, sym, ap, subst, _∙_}
-use mathlib.Core.Bool.{Bool, true, false}
+use mathlib.Core.Bool.{Bool, true, false, cond}
 use mathlib.Core.List.{List, [], _∷_}
 use Prim.Native.Nat.{ℕ, _+_, _<_, _≤_}
 use native.Mathlib.Omega.{arith}
-use borrow.Author.Tests.{lt-ltb, le-ltb}
+use borrow.Author.Tests.{lt-ltb, le-ltb, ltb-true, ltb-false, eqb-true, eqb-false}
+use lib.Dec.{eqb, ltb}
 use lib.ListN.{length, getD, drop}
 use Rattle.syntax.specs.Bytes.{Bytes, ascii, Read, fail, got, Reader, next, skip, either, scan}
-use Rattle.syntax.specs.Term.{Base, operations, meet, join, Term, base, call, oe, ao, two, Choices, Head, isBase, isCall, isOE}
+use Rattle.syntax.specs.Term.{Base, Fn2, operations, done, meet, join, Term, base, call, oe, ao, two, Choices, Head, isBase, isCall, isOE}
 use Rattle.syntax.specs.Term.{isAO, isBracket, isChoice, spell, heads, spellMiddle, middles}
 use Rattle.syntax.specs.Term.{known, closed, second, inner, readTerm, Pair, calls, joins, isCall2, parting}
 use Rattle.syntax.specs.code.Arena.{baseOp, twoOp, None, One, Numbered, Both, Holds, hasTwo, Down, Tidy}
@@ -143,6 +144,7 @@ number-node {a} {b} {o} {i} {m} {k} u lo hi li lm =
 has-pair : (o : Pair) → hasTwo (twoOp o) ≡ true
 unfolding hasTwo twoOp
 has-pair (calls operations) = refl
+has-pair (calls done) = refl
 has-pair (joins meet) = refl
 has-pair (joins join) = refl
 
@@ -155,6 +157,7 @@ leaf-head (isCall f) l = absurd (omega (arith, fn-range f .low))
 leaf-head isOE l = absurd (omega arith)
 leaf-head isAO l = absurd (omega arith)
 leaf-head (isCall2 operations) l = absurd (omega arith)
+leaf-head (isCall2 done) l = absurd (omega arith)
 leaf-head isBracket l = absurd (omega arith)
 leaf-head isChoice l = absurd (omega arith)
 
@@ -170,16 +173,22 @@ one-head (isCall f) l m = record { make = call f; makes = record { builds = λ n
 one-head isOE l m = record { make = oe; makes = record { builds = λ ns k i a x y. (i, x, y) }; is = λ rd σ s. refl }
 one-head isAO l m = record { make = ao; makes = record { builds = λ ns k i a x y. (i, x, y) }; is = λ rd σ s. refl }
 one-head (isCall2 operations) l m = absurd (omega arith)
+one-head (isCall2 done) l m = absurd (omega arith)
 one-head isBracket l m = absurd (omega arith)
 one-head isChoice l m = absurd (omega arith)
 
-comma-paired : (rd : Reader Term) (σ : Choices) (s : Bytes) → inner rd σ (isCall2 operations) s ≡ paired rd σ firstPair s
-unfolding inner paired joints fn2At scan either spellJoint parting next ending
-comma-paired rd σ s = next-agree (rd s) _ _ (λ a r e. go a r (skip (ascii ",") r) refl)
+-- Behind a call of two terms stands the comma.
+pub joints-comma : (op : ℕ) → op < firstJoin → joints op ≡ pair (calls (fn2At op)) ∷ []
+unfolding joints
+joints-comma op h = rw (lt-ltb op firstJoin h)
+
+comma-paired : (f : Fn2) (op : ℕ) → op < firstJoin → fn2At op ≡ f → (rd : Reader Term) (σ : Choices) (s : Bytes) → inner rd σ (isCall2 f) s ≡ paired rd σ op s
+unfolding inner paired scan either spellJoint parting next ending
+comma-paired f op small is rd σ s = next-agree (rd s) _ _ (λ a r e. go a r (skip (ascii ",") r) refl)
   where
-    go : (a : Term) (r : Bytes) (o : Read (Unit {0})) → skip (ascii ",") r ≡ o → next (skip (ascii ",") r) (λ _. closed rd (two (calls operations) a)) ≡ next (scan spellJoint (joints firstPair) r) (ending rd σ a)
-    go a r fail q = rw q
-    go a r (got u w) q = rw q
+    go : (a : Term) (r : Bytes) (o : Read (Unit {0})) → skip (ascii ",") r ≡ o → next (skip (ascii ",") r) (λ _. closed rd (two (calls f) a)) ≡ next (scan spellJoint (joints op) r) (ending rd σ a)
+    go a r fail q = rw (joints-comma op small, is, q)
+    go a r (got u w) q = rw (joints-comma op small, is, q)
 
 sign-paired : (rd : Reader Term) (σ : Choices) (s : Bytes) → inner rd σ isBracket s ≡ paired rd σ bracketHead s
 unfolding inner paired joints scan either spellJoint parting spellMiddle middles second less next ending
@@ -192,12 +201,13 @@ sign-paired rd σ s = next-agree (rd s) _ _ (λ a r e. go a r (skip (ascii "&") 
     go a r fail e fail e′ fail e″ = rw (e, e′, e″)
 
 pub two-head : (h : Head) → firstPair ≤ headOp h → headOp h < choiceHead → (rd : Reader Term) (σ : Choices) (s : Bytes) → inner rd σ h s ≡ paired rd σ (headOp h) s
-unfolding headOp
+unfolding headOp fn2At
 two-head (isBase b) l m rd σ s = absurd (omega (arith, base-small b))
 two-head (isCall f) l m rd σ s = absurd (omega (arith, fn-range f .high))
 two-head isOE l m rd σ s = absurd (omega arith)
 two-head isAO l m rd σ s = absurd (omega arith)
-two-head (isCall2 operations) l m rd σ s = comma-paired rd σ s
+two-head (isCall2 operations) l m rd σ s = comma-paired operations firstPair (omega arith) refl rd σ s
+two-head (isCall2 done) l m rd σ s = comma-paired done (firstPair + 1) (omega arith) refl rd σ s
 two-head isBracket l m rd σ s = sign-paired rd σ s
 two-head isChoice l m rd σ s = absurd (omega arith)
 
@@ -208,6 +218,7 @@ choice-head (isCall f) l rd σ s = absurd (omega (arith, fn-range f .high))
 choice-head isOE l rd σ s = absurd (omega arith)
 choice-head isAO l rd σ s = absurd (omega arith)
 choice-head (isCall2 operations) l rd σ s = absurd (omega arith)
+choice-head (isCall2 done) l rd σ s = absurd (omega arith)
 choice-head isBracket l rd σ s = absurd (omega arith)
 choice-head isChoice l rd σ s = refl
 
@@ -289,17 +300,24 @@ is-pair away h = absurd (h refl)
 
 -- The names between two terms, by the number of what stands before.
 
-pub joints-comma : (op : ℕ) → op < firstJoin → joints op ≡ pair (calls (fn2At op)) ∷ []
-unfolding joints
-joints-comma op h = rw (lt-ltb op firstJoin h)
-
 pub joints-sign : (op : ℕ) → firstJoin ≤ op → joints op ≡ pair (joins meet) ∷ pair (joins join) ∷ away ∷ []
 unfolding joints
 joints-sign op h = rw (le-ltb op firstJoin h)
 
+next-pair : (op : ℕ) → firstPair ≤ op → op < firstJoin → (op ≡ firstPair → ⊥) → op ≡ firstPair + 1
+next-pair op l h n = go (ltb firstPair op) refl
+  where
+    go : (b : Bool) → ltb firstPair op ≡ b → op ≡ firstPair + 1
+    go true e = omega (arith, ltb-true firstPair op e)
+    go false e = absurd (n (omega (arith, ltb-false firstPair op e)))
+
 pub fn2-number : (op : ℕ) → firstPair ≤ op → op < firstJoin → jointOp (pair (calls (fn2At op))) ≡ op
 unfolding jointOp twoOp fn2At
-fn2-number op l h = omega arith
+fn2-number op l h = go (eqb op firstPair) refl
+  where
+    go : (b : Bool) → eqb op firstPair ≡ b → twoOp (calls (cond b operations done)) ≡ op
+    go true e = sym (eqb-true op firstPair e)
+    go false e = sym (next-pair op l h (eqb-false op firstPair e))
 
 -- A node behind what was read, where one byte more is there.
 pub fresh-on : {A : Type 0} {H : List ℕ → ℕ → A → Type 0} {s : Bytes} {at i e o j : ℕ} {vars : List ℕ} {a b : Arena} {r : Read A} → Readable s at vars a → Found H s at a b i e r → e + 1 ≤ length s → o < opsEnd → j < b .n → Fresh b o i j

@@ -10,7 +10,7 @@ use Rattle.syntax.specs.Bytes.{Bytes, ascii, Read, fail, got, Reader, ne
 use Rattle.syntax.proofs.BytesLaws.{never, next-case, skip-gives}
 use Rattle.syntax.proofs.BytesLaws.{scan-gives}
 use Rattle.syntax.specs.Term.{bU, bR, bOP, bOBJ, bP, bS, bCR, bCP, bCU, user, roles, roles*, sessions, permissions, permissions*}
-use Rattle.syntax.specs.Term.{object, operations, meet, join, Term, base, call, oe, ao, two, Term≟, Choices, digitFrom, namedFrom}
+use Rattle.syntax.specs.Term.{object, operations, done, meet, join, Term, base, call, oe, ao, two, Term≟, Choices, digitFrom, namedFrom}
 use Rattle.syntax.specs.Term.{digit, Head, isBase, isCall, isOE, isAO, isBracket, isChoice, spell, Middle}
 use Rattle.syntax.specs.Term.{isLess, spellMiddle, text, oeText, aoText, heads, collectionHeads, callHeads, bracketHeads, middles, known, closed, second, inner}
 use Rattle.syntax.specs.Term.{termWithin, readTerm, calls, joins, isCall2, isOp, opening, parting}
@@ -37,6 +37,7 @@ scan-head (isCall object) s = refl
 scan-head isOE s = refl
 scan-head isAO s = refl
 scan-head (isCall2 operations) s = refl
+scan-head (isCall2 done) s = refl
 scan-head isBracket s = refl
 scan-head isChoice s = refl
 

@@ -19,9 +19,9 @@ pub data Fn : Type 0 where
   user roles roles* sessions permissions permissions* object : Fn
   deriving Discrete as Fn≟
 
--- "operations alone has two, parted by a comma".
+-- "operations alone has two, parted by a comma"; document 02, N8, of `done`: "Beside operations it is the only call with two terms."
 pub data Fn2 : Type 0 where
-  operations : Fn2
+  operations done : Fn2
   deriving Discrete as Fn2≟
 
 -- "(term&term) (intersection), (term+term) (union)": meet and join.
@@ -95,6 +95,7 @@ spell (isCall object) = ascii "object("
 spell isOE = ascii "OE("
 spell isAO = ascii "AO("
 spell (isCall2 operations) = ascii "operations("
+spell (isCall2 done) = ascii "done("
 spell isBracket = ascii "("
 spell isChoice = ascii "v"
 
@@ -137,7 +138,7 @@ text σ (two o a b) = spell (opening o) ++ (text σ a ++ (parting o ++ (text σ 
 
 -- The names, the longest of those that begin alike first.
 unfoldable pub bracketHeads : List Head
-bracketHeads = isCall2 operations ∷ isBracket ∷ isChoice ∷ []
+bracketHeads = isCall2 operations ∷ isCall2 done ∷ isBracket ∷ isChoice ∷ []
 
 unfoldable pub callHeads : List Head
 callHeads =

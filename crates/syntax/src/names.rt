@@ -15,6 +15,7 @@ use super::nodes::CHOICE_HEAD;
 use super::nodes::CP;
 use super::nodes::CR;
 use super::nodes::CU;
+use super::nodes::DONE;
 use super::nodes::EQ;
 use super::nodes::FIRST_JOIN;
 use super::nodes::GE;
@@ -152,6 +153,9 @@ fn bracket_at(s: &[u8], at: usize) -> Spelled
 {
     if stands(s, at, b"operations(") {
         return Spelled::Name(OPERATIONS, at + 11);
+    }
+    if stands(s, at, b"done(") {
+        return Spelled::Name(DONE, at + 5);
     }
     if stands(s, at, b"(") {
         return Spelled::Name(BRACKET_HEAD, at + 1);

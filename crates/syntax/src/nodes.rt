@@ -52,10 +52,12 @@ pub const FIRST_PAIR: u32 = OPERATIONS;
 
 pub const OPERATIONS: u32 = AO + 1;
 
+pub const DONE: u32 = OPERATIONS + 1;
+
 // and then `&` and `+`.
 pub const FIRST_JOIN: u32 = MEET;
 
-pub const MEET: u32 = OPERATIONS + 1;
+pub const MEET: u32 = DONE + 1;
 
 pub const JOIN: u32 = MEET + 1;
 

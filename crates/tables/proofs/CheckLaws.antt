@@ -6,9 +6,8 @@ use Prim.Native.Nat.{ℕ, _≤_, _<_, _^_}
 use native.Mathlib.Omega.{arith}
 use lib.Dec.{eqb, ltb}
 use borrow.Author.Tests.{ltb-true, ltb-false, eqb-true, eq-eqb}
-use Rattle.words.specs.Words.{has, itemOf, lessOf}
-use Rattle.words.proofs.WordsLaws.{word-none, has-zero, has-out, has-less, has-item, both, and-true, and-both, any-here, any-witness}
-use Rattle.tables.specs.Functions.{someIn}
+use Rattle.words.specs.Words.{has, lessOf}
+use Rattle.words.proofs.WordsLaws.{word-none, has-zero, has-out, has-less, both}
 use Rattle.tables.specs.Checks.{allTo, implies}
 use Rattle.tables.proofs.AllLaws.{all-every, all-at}
 
@@ -62,16 +61,3 @@ pub left-out : (a b : Bool) → (a && not b) ≡ false → a ≡ true → b ≡ 
 left-out true true e p = refl
 left-out true false e p = sym e
 left-out false b e p = absurd (clash (sym p))
-
--- The one member of a set of one.
-pub some-item : (i : ℕ) (g : ℕ → Bool) → i < 64 → someIn (itemOf i) g ≡ g i
-some-item i g l = both (someIn (itemOf i) g) (g i) there back
-  where
-    there : someIn (itemOf i) g ≡ true → g i ≡ true
-    there e =
-        let (j, lj, h) = any-witness 64 (λ j. has (itemOf i) j && g j) e in
-        let (p, q) = and-true (has (itemOf i) j) (g j) h in
-        rw (eqb-true j i (sym (has-item i j lj) ∙ p)) at q
-
-    back : g i ≡ true → someIn (itemOf i) g ≡ true
-    back e = any-here 64 (λ j. has (itemOf i) j && g j) i l (and-both (has-item i i l ∙ eq-eqb i i refl) e)

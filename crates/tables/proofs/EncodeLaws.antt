@@ -14,11 +14,11 @@ use borrow.Author.Tests.{ltb-false, le-ltb, lt-leb, eq-eqb, ne-eqb, eqb-false}
 use Rattle.answers.specs.declared.Refusal.the-variants.{CutShort}
 use Rattle.tables.specs.Tables.{User, Tables, userRows}
 use Rattle.tables.specs.Bytes.{Bytes, AreBytes, wordFrom, lowestFirst, entered, left}
-use Rattle.tables.specs.Accepted.{Below, Known, Every, Sound, Passes}
-use Rattle.tables.specs.Reading.{Taken, Reader, stop, took, next, refuse, front, byte, count, wordWithin, wordRow, MarkedRow, markedRow, userRow, permissionRow, sessionRow}
+use Rattle.tables.specs.Accepted.{Below, Known, KnownDeed, Every, Sound, Passes}
+use Rattle.tables.specs.Reading.{Taken, Reader, stop, took, next, refuse, front, byte, count, wordWithin, wordRow, MarkedRow, markedRow, userRow, permissionRow, sessionRow, doneRow}
 use Rattle.tables.specs.Reading.{rows, section, permissions, Rights, rights, Collections, collections, sections, nothingLeft, settle, whole}
 use Rattle.tables.specs.Reading.{assembled, taken, tablesOf}
-use Rattle.tables.specs.Encode.{wordBytes, markOf, userBytes, permissionBytes, sessionBytes, joined, counted, sectionBytes, encode}
+use Rattle.tables.specs.Encode.{wordBytes, markOf, userBytes, permissionBytes, sessionBytes, deedBytes, joined, counted, sectionBytes, encode}
 use Rattle.tables.proofs.BytesLaws.{lowest-length, word-lowest, lowest-word, bytes-behind, bytes-before}
 use Rattle.tables.proofs.FitsLaws.{next-case, refuse-case, count-few, rows-are, sections-sound, accepted-read, accepted-passes}
 use Rattle.tables.proofs.SectionsLaws.{product-few}
@@ -202,6 +202,35 @@ session-coded users roles few =
           rw (← d, ← z) (p .split ∙ ap (λ (x : Bytes). getD b 0 0 ∷ x) (within-encodes roles (drop 1 b) u (p .eight) (p .bytes) f));
     }
 
+-- A row of Done: three bytes.
+deed-coded : (users operations objects : ℕ) → Coded (KnownDeed users operations objects) deedBytes (doneRow users operations objects)
+unfolding doneRow deedBytes next refuse
+deed-coded users operations objects =
+    record {
+      decodes = λ a h r.
+          rw (
+            front-at (a .user ∷ a .operation ∷ a .object ∷ []) r 3 refl,
+            lt-leb users (a .user) (h .user),
+            lt-leb operations (a .operation) (h .operation),
+            lt-leb objects (a .object) (h .object),
+          );
+      encodes = λ s h a t q. next-case (front 3 s) _ q λ b u e k.
+          refuse-case (leb users (getD b 0 0)) _ u _ k λ c₀ k₀.
+          refuse-case (leb operations (getD b 1 0)) _ u _ k₀ λ c₁ k₁.
+          refuse-case (leb objects (getD b 2 0)) _ u _ k₁ λ c₂ k₂.
+          let p = front-split 3 s e in
+          let d : record { user = getD b 0 0; operation = getD b 1 0; object = getD b 2 0 } ≡ a = cc in
+          let z : u ≡ t = cc in
+          rw (← d, ← z) (p .whole ∙ ap (λ (x : Bytes). x ++ u) (three b (p .size)));
+    }
+  where
+    three : (b : Bytes) → length b ≡ 3 → b ≡ getD b 0 0 ∷ getD b 1 0 ∷ getD b 2 0 ∷ []
+    three [] l = absurd (omega arith)
+    three (x ∷ []) l = absurd (omega arith)
+    three (x ∷ y ∷ []) l = absurd (omega arith)
+    three (x ∷ y ∷ z ∷ []) l = refl
+    three (x ∷ y ∷ z ∷ w ∷ b) l = absurd (omega arith)
+
 -- A count.
 byte-decodes : (n : ℕ) (r : Bytes) → byte (n ∷ r) ≡ took n r
 unfolding byte next
@@ -382,7 +411,7 @@ unfolding Below
 below-assigned n [] h = tt
 below-assigned n (u ∷ us) h = (h 0, below-assigned n us (λ i. h (suc i)))
 
--- The nine sections.
+-- The ten sections.
 module _ {A B : Type 0} {P : A → Type 0} {bytes : A → Bytes} {m : Reader A} (h : Coded P bytes m) where
   then-decodes : (a : A) → P a → (r : Bytes) (f : A → Reader B) {x : Taken B} → f a r ≡ x → next (m (bytes a ++ r)) f ≡ x
   unfolding next
@@ -404,9 +433,11 @@ sections-decodes T sound =
     (then-decodes (section-coded (λ _. Known U R) sessionBytes (λ _. sessionRow U R) (λ _ _. session-coded U R (f .roles))) (T .sessions)
     (f .sessions, b .sessions) _ _
     (rw (
-      rights-decodes R (f .roles) q (f .operations) (f .objects) (f .permissions) (below-every R (T .permissionRows) (b .permissions)) (collectionBytes c []),
+      rights-decodes R (f .roles) q (f .operations) (f .objects) (f .permissions) (below-every R (T .permissionRows) (b .permissions)) (collectionBytes c (counted deedBytes (T .done) ++ [])),
       collections-decodes R U (length (T .permissionRows)) (f .roles) (f .users) held c (f .crs, below-every R (T .cr) (b .crs))
-          (f .cus, below-every U (T .cu) (b .cus)) (f .cps, below-every (length (T .permissionRows)) (T .cp) (b .cps)) [],
+          (f .cus, below-every U (T .cu) (b .cus)) (f .cps, below-every (length (T .permissionRows)) (T .cp) (b .cps)) (counted deedBytes (T .done) ++ []),
+      section-coded (λ _. KnownDeed U (T .operationCount) (T .objectCount)) deedBytes (λ _. doneRow U (T .operationCount) (T .objectCount))
+          (λ _ _. deed-coded U (T .operationCount) (T .objectCount)) .decodes (T .done) (f .done, b .done) [],
     ))))
 
 pub sections-encodes : (s : Bytes) → AreBytes s → {T : Tables} → sections s ≡ took T [] → s ≡ encode T
@@ -417,10 +448,11 @@ sections-encodes s h {T} e =
     λ us s₂ e₂ k₂. next-case (section (λ _. sessionRow (length us) (length rs)) s₂) _ k₂
     λ ss s₃ e₃ k₃. next-case (rights (length rs) s₃) _ k₃
     λ q s₄ e₄ k₄. next-case (collections (length rs) (length us) (length (q .permissionRows)) s₄) _ k₄
-    λ c s₅ e₅ k₅.
-    let d : assembled rs us ss q c ≡ T = cc in
-    let none : s₅ ≡ [] = cc in
-    let sound : Sound (assembled rs us ss q c) = rw (← d) at (sections-sound s e) in
+    λ c s₅ e₅ k₅. next-case (section (λ _. doneRow (length us) (q .operationCount) (q .objectCount)) s₅) _ k₅
+    λ ds s₆ e₆ k₆.
+    let d : assembled rs us ss q c ds ≡ T = cc in
+    let none : s₆ ≡ [] = cc in
+    let sound : Sound (assembled rs us ss q c ds) = rw (← d) at (sections-sound s e) in
     let fits = sound .fits in
     let held : length (q .permissionRows) ≤ 64 = rw (fits .permissions) (product-few (fits .operations) (fits .objects)) in
     let R = length rs in
@@ -434,7 +466,12 @@ sections-encodes s h {T} e =
     let f₄ = rights-encodes R (fits .roles) s₃ h₃ e₄ in
     let h₄ = bytes-behind (q .operationCount ∷ q .objectCount ∷ counted permissionBytes (q .permissionRows)) s₄ (rw f₄ at h₃) in
     let f₅ = collections-encodes R U (length (q .permissionRows)) (fits .roles) (fits .users) held s₄ h₄ e₅ in
-    rw (← d) (rw none at (rw f₅ at (rw f₄ at (rw f₃ at (rw f₂ at f₁)))))
+    let g₅ = bytes-behind (counted wordBytes (c .cr)) (counted wordBytes (c .cu) ++ (counted wordBytes (c .cp) ++ s₅)) (rw f₅ at h₄) in
+    let i₅ = bytes-behind (counted wordBytes (c .cu)) (counted wordBytes (c .cp) ++ s₅) g₅ in
+    let h₅ = bytes-behind (counted wordBytes (c .cp)) s₅ i₅ in
+    let f₆ = section-coded (λ _. KnownDeed U (q .operationCount) (q .objectCount)) deedBytes (λ _. doneRow U (q .operationCount) (q .objectCount))
+    (λ _ _. deed-coded U (q .operationCount) (q .objectCount)) .encodes s₅ h₅ ds s₆ e₆ in
+    rw (← d) (rw none at (rw f₆ at (rw f₅ at (rw f₄ at (rw f₃ at (rw f₂ at f₁))))))
 
 -- "Tables are accepted when no check on them refuses": tables that pass are what is read from their bytes.
 pub passes-accepted : (T : Tables) → Passes T → tablesOf (encode T) ≡ taken T

@@ -1,16 +1,16 @@
 -- What encoded tables are: bytes, and as many as the counts say.
 -- Assumes nothing.
-use mathlib.Core.Path.{_≡_, ap}
+use mathlib.Core.Path.{_≡_, refl, ap}
 use mathlib.Core.Bool.{Bool, true, false}
 use mathlib.Core.List.{List, [], _∷_, map}
 use Prim.Native.Nat.{ℕ, suc, _+_, _*_, _^_, _≤_, _<_}
 use native.Mathlib.Nat.{mul-suc}
 use native.Mathlib.Omega.{arith}
 use lib.ListN.{length, length-append}
-use Rattle.tables.specs.Tables.{User, Session, Tables}
+use Rattle.tables.specs.Tables.{User, Session, Deed, Tables}
 use Rattle.tables.specs.Bytes.{Bytes, AreBytes, lowestFirst}
-use Rattle.tables.specs.Accepted.{Known, Every, Sound}
-use Rattle.tables.specs.Encode.{wordBytes, markOf, userBytes, permissionBytes, sessionBytes, joined, counted, sectionBytes, encode, bytesOf}
+use Rattle.tables.specs.Accepted.{Known, KnownDeed, Every, Sound}
+use Rattle.tables.specs.Encode.{wordBytes, markOf, userBytes, permissionBytes, sessionBytes, deedBytes, joined, counted, sectionBytes, encode, bytesOf}
 use Rattle.tables.proofs.SectionsLaws.{product-few}
 use Rattle.tables.proofs.BytesLaws.{lowest-length, lowest-bytes, bytes-cons, bytes-append}
 use Rattle.tables.proofs.EncodeLaws.{below-every, below-assigned}
@@ -42,6 +42,10 @@ sessions-length : (ss : List Session) → length (counted sessionBytes ss) ≡ 1
 unfolding sessionBytes
 sessions-length ss = counted-length 9 sessionBytes (λ s. ap suc (lowest-length 8 (s .active))) ss
 
+deeds-length : (ds : List Deed) → length (counted deedBytes ds) ≡ 1 + 3 * length ds
+unfolding deedBytes
+deeds-length ds = counted-length 3 deedBytes (λ d. refl) ds
+
 none-bytes : AreBytes []
 unfolding AreBytes
 none-bytes i = omega arith
@@ -60,6 +64,7 @@ encode-length T =
       words-length (T .cr),
       words-length (T .cu),
       words-length (T .cp),
+      deeds-length (T .done),
     ))
 
 -- The bytes of each row are bytes, where the rows have P.
@@ -97,6 +102,14 @@ sessions-bytes users roles few ss l e =
     counted-bytes (Known users roles) sessionBytes
     (λ s k. bytes-cons (s .user) (lowestFirst 8 (s .active)) (omega (arith, k .user)) (lowest-bytes 8 (s .active))) ss l e
 
+deeds-bytes : (users operations objects : ℕ) → users ≤ 64 → operations ≤ 8 → objects ≤ 8 → (ds : List Deed) → length ds ≤ 64
+    → Every (KnownDeed users operations objects) ds → AreBytes (counted deedBytes ds)
+unfolding deedBytes
+deeds-bytes users operations objects lu la lb ds l e =
+    counted-bytes (KnownDeed users operations objects) deedBytes
+    (λ d k. bytes-cons (d .user) (d .operation ∷ d .object ∷ []) (omega (arith, k .user))
+    (bytes-cons (d .operation) (d .object ∷ []) (omega (arith, k .operation)) (bytes-cons (d .object) [] (omega (arith, k .object)) none-bytes))) ds l e
+
 -- Encoded tables are bytes, such as `read` is lent.
 pub encode-bytes : (T : Tables) → Sound T → AreBytes (encode T)
 unfolding encode sectionBytes joined
@@ -115,5 +128,6 @@ encode-bytes T sound =
     (permissions-bytes R (T .permissionRows) held (below-every R (T .permissionRows) (b .permissions)))
     (bytes-append (counted wordBytes (T .cr)) _ (words-bytes R (T .cr) (f .crs) (below-every R (T .cr) (b .crs)))
     (bytes-append (counted wordBytes (T .cu)) _ (words-bytes U (T .cu) (f .cus) (below-every U (T .cu) (b .cus)))
-    (bytes-append (counted wordBytes (T .cp)) [] (words-bytes (length (T .permissionRows)) (T .cp) (f .cps) (below-every (length (T .permissionRows)) (T .cp) (b .cps)))
-    none-bytes))))))))
+    (bytes-append (counted wordBytes (T .cp)) _ (words-bytes (length (T .permissionRows)) (T .cp) (f .cps) (below-every (length (T .permissionRows)) (T .cp) (b .cps)))
+    (bytes-append (counted deedBytes (T .done)) []
+    (deeds-bytes U (T .operationCount) (T .objectCount) (f .users) (f .operations) (f .objects) (T .done) (f .done) (b .done)) none-bytes)))))))))

@@ -11,13 +11,13 @@ use lib.Pow.{pow-pos}
 use borrow.Author.Tests.{ltb-false, leb-false, eqb-true, not-false}
 use Rattle.answers.specs.declared.Refusal.{Refusal}
 use Rattle.answers.specs.declared.Refusal.the-variants.{NoSuchItem}
-use Rattle.tables.specs.Tables.{User, Session, Tables}
+use Rattle.tables.specs.Tables.{User, Session, Deed, Tables}
 use Rattle.tables.specs.declared.Outcome.{Outcome}
 use Rattle.tables.specs.declared.Outcome.the-variants.{Refused, Accepted}
 use Rattle.tables.specs.Checks.{late}
-use Rattle.tables.specs.Accepted.{Below, Known, Every, Sound, Passes}
+use Rattle.tables.specs.Accepted.{Below, Known, KnownDeed, Every, Sound, Passes}
 use Rattle.tables.specs.Reading.{Bytes, Taken, Reader, stop, took, next, refuse, front, byte, count, wordFrom, wordWithin}
-use Rattle.tables.specs.Reading.{wordRow, MarkedRow, markedRow, userRow, permissionRow, sessionRow, rows, section, permissions, Rights, rights, Collections, collections}
+use Rattle.tables.specs.Reading.{wordRow, MarkedRow, markedRow, userRow, permissionRow, sessionRow, doneRow, rows, section, permissions, Rights, rights, Collections, collections}
 use Rattle.tables.specs.Reading.{sections, nothingLeft, settle, whole, taken, readingOf, tablesOf, assembled, entered, left}
 
 -- Where something was taken, all that was read on the way was.
@@ -95,6 +95,23 @@ session-known users roles s {a} {t} q =
     let d : record { user = getD b 0 0; active = w } ≡ a = cc in
     rw (← d) (record { user = leb-false users (getD b 0 0) c; active = within-below roles _ u f })
 
+deed-known : (users operations objects : ℕ) (s : Bytes) {a : Deed} {t : Bytes} → doneRow users operations objects s ≡ took a t
+    → KnownDeed users operations objects a
+unfolding doneRow
+deed-known users operations objects s {a} {t} q =
+    next-case (front 3 s) _ q
+    λ b u e h. refuse-case (leb users (getD b 0 0)) _ u _ h
+    λ c k. refuse-case (leb operations (getD b 1 0)) _ u _ k
+    λ c′ k′. refuse-case (leb objects (getD b 2 0)) _ u _ k′
+    λ c″ k″.
+    let d : record { user = getD b 0 0; operation = getD b 1 0; object = getD b 2 0 } ≡ a = cc in
+    rw (← d)
+    (record {
+      user = leb-false users (getD b 0 0) c;
+      operation = leb-false operations (getD b 1 0) c′;
+      object = leb-false objects (getD b 2 0) c″;
+    })
+
 -- n rows, each as its reader leaves it.
 pub record Rows {A : Type 0} (P : A → Type 0) (n : ℕ) (xs : List A) : Type 0 where
   pub size : length xs ≡ n
@@ -140,6 +157,13 @@ assigned-below n [] e i = pow-pos n
 assigned-below n (u ∷ us) e zero = e .0
 assigned-below n (u ∷ us) e (suc i) = assigned-below n us (e .1) i
 
+-- The numbers of the members of a list, where each is below n.
+numbers-below : {A : Type 0} (P : A → Type 0) (f : A → ℕ) (n : ℕ) → ((x : A) → P x → f x < n) → (xs : List A) → Every P xs
+    → (i : ℕ) → i < length xs → getD (map f xs) i 0 < n
+numbers-below P f n h [] e i l = absurd (omega arith)
+numbers-below P f n h (x ∷ xs) e zero l = h x (e .0)
+numbers-below P f n h (x ∷ xs) e (suc i) l = numbers-below P f n h xs (e .1) i (omega arith)
+
 -- The sessions' active roles, and their users.
 pub active-below : (users roles : ℕ) (ss : List Session) → Every (Known users roles) ss → Below roles (map (λ s. s .active) ss)
 unfolding Below
@@ -149,9 +173,15 @@ active-below users roles (x ∷ ss) e (suc i) = active-below users roles ss (e .
 
 pub users-below : (users roles : ℕ) (ss : List Session) → Every (Known users roles) ss
     → (i : ℕ) → i < length ss → getD (map (λ s. s .user) ss) i 0 < users
-users-below users roles [] e i l = absurd (omega arith)
-users-below users roles (x ∷ ss) e zero l = e .0 .user
-users-below users roles (x ∷ ss) e (suc i) l = users-below users roles ss (e .1) i (omega arith)
+users-below users roles = numbers-below (Known users roles) (λ s. s .user) users (λ s k. k .user)
+
+-- The users and the operations of rows of Done.
+module _ (users operations objects : ℕ) (ds : List Deed) (known : Every (KnownDeed users operations objects) ds) where
+  pub doers-below : (k : ℕ) → k < length ds → getD (map (λ d. d .user) ds) k 0 < users
+  doers-below = numbers-below (KnownDeed users operations objects) (λ d. d .user) users (λ d h. h .user) ds known
+
+  pub deeds-below : (k : ℕ) → k < length ds → getD (map (λ d. d .operation) ds) k 0 < operations
+  deeds-below = numbers-below (KnownDeed users operations objects) (λ d. d .operation) operations (λ d h. h .operation) ds known
 
 -- Sections 4 to 6, and 7 to 9.
 pub record RightsFit (roles : ℕ) (q : Rights) : Type 0 where
@@ -219,13 +249,16 @@ sections-sound s {T} {t} e =
     λ us s₂ e₂ k₂. next-case (section (λ _. sessionRow (length us) (length rs)) s₂) _ k₂
     λ ss s₃ e₃ k₃. next-case (rights (length rs) s₃) _ k₃
     λ q s₄ e₄ k₄. next-case (collections (length rs) (length us) (length (q .permissionRows)) s₄) _ k₄
-    λ c s₅ e₅ k₅.
+    λ c s₅ e₅ k₅. next-case (section (λ _. doneRow (length us) (q .operationCount) (q .objectCount)) s₅) _ k₅
+    λ ds s₆ e₆ k₆.
     let r = section-are (λ n w. w < 2 ^ n) (λ n. wordRow n) (λ n z y y′ h. word-below n z h) s e₁ in
     let u = section-are (λ _ u. u .assigned < 2 ^ length rs) (λ _. userRow (length rs)) (λ n z y y′ h. user-below (length rs) z h) s₁ e₂ in
     let o = section-are (λ _. Known (length us) (length rs)) (λ _. sessionRow (length us) (length rs)) (λ n z y y′ h. session-known (length us) (length rs) z h) s₂ e₃ in
     let g = rights-fit (length rs) s₃ e₄ in
     let f = collections-fit (length rs) (length us) (length (q .permissionRows)) s₄ e₅ in
-    let d : assembled rs us ss q c ≡ T = cc in
+    let n = section-are (λ _. KnownDeed (length us) (q .operationCount) (q .objectCount)) (λ _. doneRow (length us) (q .operationCount) (q .objectCount))
+    (λ n z y y′ h. deed-known (length us) (q .operationCount) (q .objectCount) z h) s₅ e₆ in
+    let d : assembled rs us ss q c ds ≡ T = cc in
     rw (← d)
     (record {
       fits = record {
@@ -238,6 +271,7 @@ sections-sound s {T} {t} e =
         crs = f .crs;
         cus = f .cus;
         cps = f .cps;
+        done = n .few;
       };
       bounded = record {
         roles = every-below (length rs) rs (r .every);
@@ -247,6 +281,7 @@ sections-sound s {T} {t} e =
         crs = f .crBelow;
         cus = f .cuBelow;
         cps = f .cpBelow;
+        done = n .every;
       };
     })
 

@@ -4,8 +4,9 @@ use mathlib.Core.Path.{_≡_, refl, ap, _∙_}
 use mathlib.Core.List.{List, [], _∷_, _++_, map}
 use Prim.Native.Nat.{ℕ, zero, suc, _+_, _*_, _/_, _%_, _<_}
 use native.Mathlib.Omega.{arith}
-use lib.ListN.{length, getD, drop, length-append, List·getD-append}
+use lib.ListN.{length, getD, drop, length-append, length-map, List·getD-append}
 use lib.Seq.{getD-append-add, getD-drop}
+use Rattle.words.specs.Words.{itemOf}
 use Rattle.tables.specs.Tables.{Tables}
 use Rattle.tables.specs.code.Layout.{Whole, sectionAt}
 use Rattle.tables.specs.Flat.{room, padded, tabulate, counts, sections, laid, flat}
@@ -39,6 +40,10 @@ pub map-at : (f : ℕ → ℕ) (xs : List ℕ) (i : ℕ) → i < length xs → g
 map-at f [] i l = absurd (omega arith)
 map-at f (x ∷ xs) zero l = refl
 map-at f (x ∷ xs) (suc i) l = map-at f xs i (omega arith)
+
+-- The words of the numbers that f gives of the members of a list: one for each.
+pub numbers-long : {A : Type 0} (xs : List A) (f : A → ℕ) → length (map itemOf (map f xs)) ≡ length xs
+numbers-long xs f = length-map (map f xs) itemOf ∙ length-map xs f
 
 pub length-laid : (ss : List (List ℕ)) → length (laid ss) ≡ room * length ss
 unfolding laid

@@ -7,12 +7,13 @@ use native.Mathlib.Omega.{arith}
 use lib.ListN.{length, getD, set, length-set, length-append, length-map, replicate}
 use lib.Seq.{set-append-left, set-getD, set-set, getD-set-same}
 use Rattle.words.specs.Words.{itemOf}
-use Rattle.tables.specs.Tables.{User, Session, Tables, userRows, presentIn, presentUsers}
+use Rattle.tables.specs.Tables.{User, Session, Deed, Tables, userRows, presentIn, presentUsers}
 use Rattle.tables.specs.Accepted.{Fits}
 use Rattle.tables.specs.Flat.{wholeLength, room, padded, tabulate, counts, objectRows, operationRows, sections, laid, flat}
 use Rattle.tables.specs.Reading.{Rights, Collections}
 use Rattle.tables.specs.code.Reads.{put, putUsers, putSessions, withCount, withSection, withUsers, withSessions, withNames, withRights, withCollections, Filled}
-use Rattle.tables.proofs.FlatLaws.{length-padded, length-tabulate}
+use Rattle.tables.specs.code.Reads.{putDeeds, withDeeds}
+use Rattle.tables.proofs.FlatLaws.{length-padded, numbers-long, length-tabulate}
 use Rattle.tables.proofs.SectionsLaws.{product-few}
 
 -- One word more in a section.
@@ -75,8 +76,9 @@ section-laid : (cs : List ℕ) (ss : List (List ℕ)) (k : ℕ) (xs : List ℕ) 
 unfolding withCount
 section-laid cs ss k xs l h q m = rw (count-laid cs ss (length xs) l) (rows-laid (cs ++ (length xs ∷ [])) ss k xs h q m)
 
+-- Ten lists before the three of Done, which are empty so far.
 abbrev ten : (a b c d e f g h i j : List ℕ) → List (List ℕ)
-ten a b c d e f g h i j = a ∷ b ∷ c ∷ d ∷ e ∷ f ∷ g ∷ h ∷ i ∷ j ∷ []
+ten a b c d e f g h i j = a ∷ b ∷ c ∷ d ∷ e ∷ f ∷ g ∷ h ∷ i ∷ j ∷ [] ∷ [] ∷ [] ∷ []
 
 users-laid : (x : ℕ) (r : List ℕ) (us : List User) → length us ≤ room
     → withUsers (laid ((x ∷ []) ∷ ten r [] [] [] [] [] [] [] [] [])) us
@@ -140,6 +142,26 @@ module _ (x y h : ℕ) (r u : List ℕ) where
           (rw (section-laid (seven ++ (k₁ ∷ [])) (ten r u o v ps (c .cr) [] [] i j) 6 (c .cu) (omega arith) (omega arith) refl l₂)
           (section-laid (seven ++ (k₁ ∷ k₂ ∷ [])) (ten r u o v ps (c .cr) (c .cu) [] i j) 7 (c .cp) (omega arith) (omega arith) refl l₃))
 
+deeds-laid : (x y h z a b n k₁ k₂ k₃ : ℕ) (r u o v ps cr cu cp i j : List ℕ) (ds : List Deed) → length ds ≤ room
+    → withDeeds (laid ((x ∷ y ∷ h ∷ z ∷ a ∷ b ∷ n ∷ k₁ ∷ k₂ ∷ k₃ ∷ []) ∷ ten r u o v ps cr cu cp i j)) ds
+    ≡ laid ((x ∷ y ∷ h ∷ z ∷ a ∷ b ∷ n ∷ k₁ ∷ k₂ ∷ k₃ ∷ length ds ∷ []) ∷ r ∷ u ∷ o ∷ v ∷ ps ∷ cr ∷ cu ∷ cp ∷ i ∷ j
+    ∷ map itemOf (map (λ d. d .user) ds) ∷ map itemOf (map (λ d. d .object) ds) ∷ map itemOf (map (λ d. d .operation) ds) ∷ [])
+unfolding withCount putDeeds
+deeds-laid x y h z a b n k₁ k₂ k₃ r u o v ps cr cu cp i j ds l =
+    let us = map itemOf (map (λ (d : Deed). d .user) ds) in
+    let bs = map itemOf (map (λ (d : Deed). d .object) ds) in
+    let as′ = map itemOf (map (λ (d : Deed). d .operation) ds) in
+    let cs = x ∷ y ∷ h ∷ z ∷ a ∷ b ∷ n ∷ k₁ ∷ k₂ ∷ k₃ ∷ [] in
+    let cs′ = cs ++ (length ds ∷ []) in
+    let none = ten r u o v ps cr cu cp i j in
+    rw (count-laid cs none (length ds) (omega arith))
+    (rw (rows-laid cs′ none 10 us (omega arith) refl (few (λ d. d .user)))
+    (rw (rows-laid cs′ (set none 10 us) 11 bs (omega arith) refl (few (λ d. d .object)))
+    (rows-laid cs′ (set (set none 10 us) 11 bs) 12 as′ (omega arith) refl (few (λ d. d .operation)))))
+  where
+    few : (f : Deed → ℕ) → length (map itemOf (map f ds)) ≤ room
+    few f = omega (arith, numbers-long ds f)
+
 -- All sections stored in empty words are the flat tables.
 empty : replicate wholeLength 0 ≡ laid ([] ∷ ten [] [] [] [] [] [] [] [] [] [])
 unfolding laid padded
@@ -164,4 +186,7 @@ filled-flat {T} fits g =
     (rw (users-laid x rs (T .users) (fits .users))
     (rw (sessions-laid x y h rs us ss (fits .sessions))
     (rw (rights-laid x y h rs us (length ss) o v q held)
-    (collections-laid x y h rs us (length ss) o v _ _ _ _ _ _ c (fits .crs) (fits .cus) (fits .cps)))))
+    (rw (collections-laid x y h rs us (length ss) o v (T .operationCount) (T .objectCount) (length (T .permissionRows)) (T .permissionRows) (objectRows T) (operationRows T) c
+    (fits .crs) (fits .cus) (fits .cps))
+    (deeds-laid x y h (length ss) (T .operationCount) (T .objectCount) (length (T .permissionRows)) (length (T .cr)) (length (T .cu)) (length (T .cp))
+    rs us o v (T .permissionRows) (T .cr) (T .cu) (T .cp) (objectRows T) (operationRows T) (T .done) (fits .done))))))

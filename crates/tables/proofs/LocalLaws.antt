@@ -1,26 +1,29 @@
 -- Document 01: "the first refusal met is the answer and nothing further is read", whatever bytes follow; "first 4,096 bytes suffice": reading
--- looks at no more than 3,785 bytes, and then for one that is left over.
+-- looks at no more than 3,978 bytes, and then for one that is left over.
 -- Assumes nothing.
 use mathlib.Core.Path.{_≡_, refl, sym, ap, _∙_}
 use mathlib.Core.Bool.{Bool, true, false, not, cond}
-use mathlib.Core.List.{[], _∷_, _++_}
+use mathlib.Core.List.{List, [], _∷_, _++_, append-assoc}
 use Prim.Native.Nat.{ℕ, zero, suc, _+_, _*_, _≤_, _<_}
 use native.Mathlib.Nat.{mul-suc, mul-le-mul-left}
 use native.Mathlib.Omega.{arith}
 use lib.Dec.{eqb, ltb}
 use lib.ListN.{length, getD, take, drop, length-append, length-drop, take-append-drop}
-use lib.Seq.{take-append-le, drop-append-le, take-all, length-take-le}
+use lib.Seq.{take-append-le, drop-append-le, take-all, take-at, length-take-le}
 use borrow.Author.Tests.{ltb-true, ltb-false, le-ltb, eqb-true, not-false}
 use Rattle.answers.specs.declared.Refusal.{Refusal}
 use Rattle.answers.specs.declared.Refusal.the-variants.{CutShort, Overfull, NotEntered, BadMark, NoSuchItem, Miscounted}
 use Rattle.answers.specs.Refusal.{numberOf}
 use Rattle.answers.proofs.AnswerLaws.{number-some, same-number}
 use Rattle.tables.specs.Tables.{Tables}
+use Rattle.tables.specs.Accepted.{Sound}
+use Rattle.tables.specs.Encode.{deedBytes, joined, counted, sectionBytes, encode, nineBytes}
 use Rattle.tables.specs.Reading.{Bytes, Taken, Reader, stop, took, next, refuse, front, byte, count, wordFrom, wordWithin, wordRow, markedRow, userRow, permissionRow}
-use Rattle.tables.specs.Reading.{sessionRow, rows, section, permissions, rights, collections, sections, rejected, taken, tablesOf}
+use Rattle.tables.specs.Reading.{sessionRow, doneRow, rows, section, permissions, rights, collections, sections, rejected, taken, tablesOf}
 use Rattle.tables.proofs.SectionsLaws.{product-few}
-use Rattle.tables.proofs.FitsLaws.{next-case, count-few, Read, accepted-read}
+use Rattle.tables.proofs.FitsLaws.{next-case, count-few, accepted-read}
 use Rattle.tables.proofs.LoadLaws.{load-stop, left-over, late-refusal}
+use Rattle.tables.proofs.EncodeLaws.{sections-decodes}
 
 -- What is read of bytes with more behind them.
 abbrev extend : {A : Type 0} → Bytes → Taken A → Taken A
@@ -136,6 +139,13 @@ local-session users roles =
     local-next Any 9 0 (λ s a t q. tt) (local-front 9)
     (λ b u. local-refuse _ NoSuchItem 0 (omega arith) (λ c. local-next Any 0 0 (λ s a t q. tt) (local-within roles (drop 1 b)) (λ w v. local-give _)))
 
+local-done : (users operations objects : ℕ) → Local 3 (doneRow users operations objects)
+unfolding doneRow
+local-done users operations objects =
+    local-next Any 3 0 (λ s a t q. tt) (local-front 3)
+    (λ b u. local-refuse _ NoSuchItem 0 (omega arith)
+    (λ c. local-refuse _ NoSuchItem 0 (omega arith) (λ d. local-refuse _ NoSuchItem 0 (omega arith) (λ e. local-give _))))
+
 module _ {A : Type 0} (k : ℕ) (row : Reader A) (h : Local k row) where
   local-rows : (n : ℕ) → Local (k * n) (rows row n)
   unfolding rows
@@ -174,17 +184,18 @@ local-collections r u p =
     (λ x k. local-next Any 513 (513 + 0) (λ s a t q. tt) (local-section 8 (λ _. wordRow u) (λ n. local-word u))
     (λ y l. local-next Any 513 0 (λ s a t q. tt) (local-section 8 (λ _. wordRow p) (λ n. local-word p)) (λ z m. local-give _)))
 
-local-sections : Local 3785 sections
+local-sections : Local 3978 sections
 unfolding sections
 local-sections =
-    local-next Any 513 3272 (λ s a t q. tt) (local-section 8 (λ n. wordRow n) local-word)
-    (λ rs i. local-next Any 577 2695 (λ s a t q. tt) (local-section 9 (λ _. userRow (length rs)) (λ n. local-user (length rs)))
-    (λ us j. local-next Any 577 2118 (λ s a t q. tt) (local-section 9 (λ _. sessionRow (length us) (length rs)) (λ n. local-session (length us) (length rs)))
-    (λ ss k. local-next Any 579 1539 (λ s a t q. tt) (local-rights (length rs))
-    (λ q l. local-next Any 1539 0 (λ s a t q. tt) (local-collections _ _ _) (λ c m. local-give _)))))
+    local-next Any 513 3465 (λ s a t q. tt) (local-section 8 (λ n. wordRow n) local-word)
+    (λ rs i. local-next Any 577 2888 (λ s a t q. tt) (local-section 9 (λ _. userRow (length rs)) (λ n. local-user (length rs)))
+    (λ us j. local-next Any 577 2311 (λ s a t q. tt) (local-section 9 (λ _. sessionRow (length us) (length rs)) (λ n. local-session (length us) (length rs)))
+    (λ ss k. local-next Any 579 1732 (λ s a t q. tt) (local-rights (length rs))
+    (λ q l. local-next Any 1539 193 (λ s a t q. tt) (local-collections _ _ _)
+    (λ c m. local-next Any 193 0 (λ s a t q. tt) (local-section 3 (λ _. doneRow _ _ _) (λ n. local-done _ _ _)) (λ ds n. local-give _))))))
 
--- "The largest tables take 3,785 bytes": no more are accepted.
-pub accepted-short : (b : Bytes) {T : Tables} → tablesOf b ≡ taken T → length b ≤ 3785
+-- "The largest tables take 3,978 bytes": no more are accepted.
+pub accepted-short : (b : Bytes) {T : Tables} → tablesOf b ≡ taken T → length b ≤ 3978
 accepted-short b {T} q =
     let r = accepted-read b q in
     omega (arith, local-sections .uses b T (r .rest) (r .reads), r .none)
@@ -202,9 +213,9 @@ refusal-stays s x e h l k = go (sections s) refl
         first-refusal s x e (rw d at q) l
     go (took T t) q = absurd (omega (arith, late-refusal s q h .0))
 
--- 1: "bytes end where a count or row is due, or inside a row": accepted tables that are cut anywhere are cut short.
-pub cut-anywhere : (b : Bytes) {T : Tables} → tablesOf b ≡ taken T → (n : ℕ) → n < length b → tablesOf (take n b) ≡ rejected CutShort
-cut-anywhere b {T} q n l = go (sections s) refl
+-- 1: "bytes end where a count or row is due, or inside a row": bytes that have all sections, whatever is wrong with these, are cut short where they are cut anywhere;
+pub cut-sections : (b : Bytes) {T : Tables} → sections b ≡ took T [] → (n : ℕ) → n < length b → tablesOf (take n b) ≡ rejected CutShort
+cut-sections b {T} q n l = go (sections s) refl
   where
     s : Bytes
     s = take n b
@@ -215,14 +226,11 @@ cut-anywhere b {T} q n l = go (sections s) refl
     again : s ++ x ≡ b
     again = take-append-drop n b
 
-    read : Read b T
-    read = accepted-read b q
-
     go : (r : Taken Tables) → sections s ≡ r → tablesOf s ≡ rejected CutShort
     go (took U t) p =
         let e = local-sections .same s x (λ z. not-cut (sym p ∙ z)) ∙ ap (extend x) p in
-        let d : t ++ x ≡ read .rest = cc (rw again at e, read .reads) in
-        absurd (omega (arith, length-append t x, length-drop n b, ap length d, read .none))
+        let d : t ++ x ≡ [] = cc (rw again at e, q) in
+        absurd (omega (arith, length-append t x, length-drop n b, ap length d))
     go (stop e) p = cases (ltb 1 (numberOf e)) refl
       where
         cases : (c : Bool) → ltb 1 (numberOf e) ≡ c → tablesOf s ≡ rejected CutShort
@@ -230,12 +238,44 @@ cut-anywhere b {T} q n l = go (sections s) refl
             let one : numberOf e ≡ 1 = omega (arith, ltb-false 1 (numberOf e) z, number-some e) in
             load-stop s (p ∙ ap stop (same-number e CutShort one))
         cases true z =
-            let f = sym (first-refusal s x e p (ltb-true 1 (numberOf e) z)) ∙ ap tablesOf again ∙ q in
-            let o : _≡_ {A = ℕ} 0 1 = cc in
+            let f = local-sections .same s x (λ y. told (ltb-true 1 (numberOf e) z) (sym p ∙ y)) ∙ ap (extend x) p in
+            let o : _≡_ {A = ℕ} 0 1 = cc (rw again at f, q) in
             absurd (omega arith)
 
--- Any first 3,786 bytes or more suffice.
-pub more-behind : (s x : Bytes) → 3785 < length s → tablesOf (s ++ x) ≡ tablesOf s
+-- so are accepted tables,
+pub cut-anywhere : (b : Bytes) {T : Tables} → tablesOf b ≡ taken T → (n : ℕ) → n < length b → tablesOf (take n b) ≡ rejected CutShort
+cut-anywhere b {T} q n l =
+    let r = accepted-read b q in
+    cut-sections b (r .reads ∙ ap (took T) (none-left (r .rest) (r .none))) n l
+  where
+    none-left : (t : Bytes) → length t ≤ 0 → t ≡ []
+    none-left [] e = refl
+    none-left (x ∷ t) e = absurd (omega arith)
+
+-- (sections, one after another)
+joined-append : (xs ys : List Bytes) → joined (xs ++ ys) ≡ joined xs ++ joined ys
+unfolding joined
+joined-append [] ys = refl
+joined-append (x ∷ xs) ys = ap (λ (b : Bytes). x ++ b) (joined-append xs ys) ∙ sym (append-assoc x (joined xs) (joined ys))
+
+and-the-tenth : (T : Tables) → encode T ≡ nineBytes T ++ (counted deedBytes (T .done) ++ [])
+unfolding encode sectionBytes nineBytes joined
+and-the-tenth T = joined-append (take 9 (sectionBytes T)) (counted deedBytes (T .done) ∷ [])
+
+tenth-counts : (T : Tables) → 0 < length (counted deedBytes (T .done) ++ [])
+unfolding counted
+tenth-counts T = omega arith
+
+-- and, document 02, N8, "Tables that stop after section 9": the first nine sections of any tables whose sections can be read.
+pub nine-sections : (T : Tables) → Sound T → tablesOf (nineBytes T) ≡ rejected CutShort
+nine-sections T sound =
+    let rest : Bytes = counted deedBytes (T .done) ++ [] in
+    let n : ℕ = length (nineBytes T) in
+    let more : n < length (encode T) = omega (arith, ap length (and-the-tenth T), length-append (nineBytes T) rest, tenth-counts T) in
+    ap tablesOf (sym (take-at (nineBytes T) rest n refl) ∙ ap (take n) (sym (and-the-tenth T))) ∙ cut-sections (encode T) (sections-decodes T sound) n more
+
+-- Any first 3,979 bytes or more suffice.
+pub more-behind : (s x : Bytes) → 3978 < length s → tablesOf (s ++ x) ≡ tablesOf s
 more-behind s x l = go (sections s) refl
   where
     go : (r : Taken Tables) → sections s ≡ r → tablesOf (s ++ x) ≡ tablesOf s
@@ -244,7 +284,7 @@ more-behind s x l = go (sections s) refl
         let u = local-sections .uses s T t q in
         left-over (s ++ x) (local-sections .same s x (local-sections .enough s (omega arith)) ∙ ap (extend x) q) (omega (arith, length-append t x)) ∙ sym (left-over s q (omega arith))
 
-pub first-suffice : (n : ℕ) (b : Bytes) → 3785 < n → tablesOf (take n b) ≡ tablesOf b
+pub first-suffice : (n : ℕ) (b : Bytes) → 3978 < n → tablesOf (take n b) ≡ tablesOf b
 first-suffice n b l = go (ltb n (length b)) refl
   where
     go : (c : Bool) → ltb n (length b) ≡ c → tablesOf (take n b) ≡ tablesOf b

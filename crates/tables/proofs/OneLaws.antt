@@ -11,10 +11,10 @@ use lib.Seq.{ext-getD}
 use borrow.Author.Tests.{eq-eqb, eqb-true}
 use Rattle.words.specs.Words.{has, itemOf}
 use Rattle.words.proofs.WordsLaws.{has-item}
-use Rattle.tables.specs.Tables.{User, Session, Tables, userRows, isPresent, presentIn, sessionUsers, sessionRoles}
+use Rattle.tables.specs.Tables.{User, Session, Deed, Tables, userRows, isPresent, presentIn, sessionRoles}
 use Rattle.tables.specs.Flat.{room, counts, sections, flat}
-use Rattle.tables.specs.Accepted.{Fits, Known, Every, Sound}
-use Rattle.tables.proofs.FlatLaws.{flat-at}
+use Rattle.tables.specs.Accepted.{Fits, Known, KnownDeed, Every, Sound}
+use Rattle.tables.proofs.FlatLaws.{flat-at, numbers-long}
 use Rattle.tables.proofs.SectionsLaws.{product-few}
 use Rattle.tables.proofs.PresentLaws.{has-present}
 
@@ -60,6 +60,27 @@ sessions-one users roles (s ∷ ss) (u ∷ us) l k e f =
     let same : _≡_ {A = Session} (record { user = s .user; active = s .active }) (record { user = u .user; active = u .active }) = rw (user, active) in
     ap₂ (λ (t : Session) (ts : List Session). t ∷ ts) same (sessions-one users roles ss us l (k .1) rest rest′)
 
+-- Rows of Done are known by the words of their users, objects and operations.
+deeds-one : (users operations objects : ℕ) (ds es : List Deed) → users ≤ 64 → operations ≤ 8 → objects ≤ 8 → Every (KnownDeed users operations objects) es
+    → map itemOf (map (λ d. d .user) ds) ≡ map itemOf (map (λ d. d .user) es) → map itemOf (map (λ d. d .object) ds) ≡ map itemOf (map (λ d. d .object) es)
+    → map itemOf (map (λ d. d .operation) ds) ≡ map itemOf (map (λ d. d .operation) es) → ds ≡ es
+deeds-one users operations objects [] [] lu la lb k e f g = refl
+deeds-one users operations objects [] (y ∷ es) lu la lb k e f g = absurd (omega (arith, ap length f))
+deeds-one users operations objects (x ∷ ds) [] lu la lb k e f g = absurd (omega (arith, ap length f))
+deeds-one users operations objects (x ∷ ds) (y ∷ es) lu la lb k e f g =
+    let eu : itemOf (x .user) ≡ itemOf (y .user) = cc in
+    let eb : itemOf (x .object) ≡ itemOf (y .object) = cc in
+    let ea : itemOf (x .operation) ≡ itemOf (y .operation) = cc in
+    let user : x .user ≡ y .user = item-one (x .user) (y .user) (omega (arith, k .0 .user)) eu in
+    let object : x .object ≡ y .object = item-one (x .object) (y .object) (omega (arith, k .0 .object)) eb in
+    let operation : x .operation ≡ y .operation = item-one (x .operation) (y .operation) (omega (arith, k .0 .operation)) ea in
+    let ru : map itemOf (map (λ (d : Deed). d .user) ds) ≡ map itemOf (map (λ (d : Deed). d .user) es) = cc in
+    let rb : map itemOf (map (λ (d : Deed). d .object) ds) ≡ map itemOf (map (λ (d : Deed). d .object) es) = cc in
+    let ra : map itemOf (map (λ (d : Deed). d .operation) ds) ≡ map itemOf (map (λ (d : Deed). d .operation) es) = cc in
+    let same : _≡_ {A = Deed} (record { user = x .user; operation = x .operation; object = x .object })
+    (record { user = y .user; operation = y .operation; object = y .object }) = rw (user, operation, object) in
+    ap₂ (λ (d : Deed) (rest : List Deed). d ∷ rest) same (deeds-one users operations objects ds es lu la lb (k .1) ru rb ra)
+
 -- Tables are all of their parts.
 abbrev again : Tables → Tables
 again T = record {
@@ -72,6 +93,7 @@ again T = record {
   cr = T .cr;
   cu = T .cu;
   cp = T .cp;
+  done = T .done;
 }
 
 module _ (T U : Tables) (e : flat T ≡ flat U) where
@@ -86,16 +108,20 @@ module _ (T U : Tables) (e : flat T ≡ flat U) where
       → getD (sections T) k [] ≡ getD (sections U) k []
   list-one k l q = ext-getD 0 (getD (sections T) k []) (getD (sections U) k []) q (λ i h. word-one k i (omega arith))
 
+  -- A section of the numbers that f gives of the members of a list.
+  numbers-one : {A : Type 0} (xs ys : List A) (f : A → ℕ) (k : ℕ) → length xs ≤ room → length xs ≡ length ys
+      → getD (sections T) k [] ≡ map itemOf (map f xs) → getD (sections U) k [] ≡ map itemOf (map f ys) → map itemOf (map f xs) ≡ map itemOf (map f ys)
+  numbers-one xs ys f k l q p p′ =
+      sym p ∙ list-one k (omega (arith, ap length p, numbers-long xs f)) (ap length p ∙ numbers-long xs f ∙ q ∙ sym (ap length p′ ∙ numbers-long ys f)) ∙ p′
+
   pub tables-one : Fits T → Sound U → T ≡ U
   unfolding sections counts
   tables-one F S =
       let held : length (T .permissionRows) ≤ 64 = rw (F .permissions) (product-few (F .operations) (F .objects)) in
       let many : length (T .sessions) ≡ length (U .sessions) = count-one 3 (omega arith) in
-      let ut : length (map itemOf (sessionUsers T)) ≡ length (T .sessions) = length-map (sessionUsers T) itemOf ∙ length-map (T .sessions) (λ s. s .user) in
-      let uu : length (map itemOf (sessionUsers U)) ≡ length (U .sessions) = length-map (sessionUsers U) itemOf ∙ length-map (U .sessions) (λ s. s .user) in
       let at : length (sessionRoles T) ≡ length (T .sessions) = length-map (T .sessions) (λ s. s .active) in
       let au : length (sessionRoles U) ≡ length (U .sessions) = length-map (U .sessions) (λ s. s .active) in
-      let users : map itemOf (sessionUsers T) ≡ map itemOf (sessionUsers U) = list-one 3 (omega (arith, F .sessions)) (omega arith) in
+      let users = numbers-one (T .sessions) (U .sessions) (λ s. s .user) 3 (F .sessions) many refl refl in
       let actives : sessionRoles T ≡ sessionRoles U = list-one 4 (omega (arith, F .sessions)) (omega arith) in
       let roleRows : T .roleRows ≡ U .roleRows = list-one 1 (F .roles) (count-one 0 (omega arith)) in
       let many-users : length (T .users) ≡ length (U .users) = count-one 1 (omega arith) in
@@ -110,5 +136,11 @@ module _ (T U : Tables) (e : flat T ≡ flat U) where
       let crs : T .cr ≡ U .cr = list-one 6 (F .crs) (count-one 7 (omega arith)) in
       let cus : T .cu ≡ U .cu = list-one 7 (F .cus) (count-one 8 (omega arith)) in
       let cps : T .cp ≡ U .cp = list-one 8 (F .cps) (count-one 9 (omega arith)) in
-      let same : again T ≡ again U = rw (roleRows, people, sessions, operations, objects, permissions, crs, cus, cps) in
+      let rows-done : length (T .done) ≡ length (U .done) = count-one 10 (omega arith) in
+      let eu = numbers-one (T .done) (U .done) (λ d. d .user) 11 (F .done) rows-done refl refl in
+      let eb = numbers-one (T .done) (U .done) (λ d. d .object) 12 (F .done) rows-done refl refl in
+      let ea = numbers-one (T .done) (U .done) (λ d. d .operation) 13 (F .done) rows-done refl refl in
+      let deeds : T .done ≡ U .done =
+      deeds-one (length (U .users)) (U .operationCount) (U .objectCount) (T .done) (U .done) (S .fits .users) (S .fits .operations) (S .fits .objects) (S .bounded .done) eu eb ea in
+      let same : again T ≡ again U = rw (roleRows, people, sessions, operations, objects, permissions, crs, cus, cps, deeds) in
       same

@@ -14,9 +14,9 @@ use Rattle.words.specs.Words.{has, anyTo}
 use Rattle.words.proofs.WordsLaws.{has-out, word-self, word-more, any-here, any-witness, both, and-true, and-both, word-lt}
 use Rattle.tables.specs.Tables.{User, Tables}
 use Rattle.tables.specs.Checks.{allTo, withdrawn, leaversGone, reflexive, transitive, antisymmetric, rankSteps, failingFrom, rankStep, ranked, inReach, apart, lateChecks, firstFailing}
-use Rattle.tables.specs.Reading.{Bytes, stop, took, rejected, taken, tablesOf, next, refuse, front, byte, count, wordFrom, wordWithin, wordRow, MarkedRow, markedRow, userRow, permissionRow, sessionRow, entered, left}
+use Rattle.tables.specs.Reading.{Bytes, stop, took, rejected, taken, tablesOf, next, refuse, front, byte, count, wordFrom, wordWithin, wordRow, MarkedRow, markedRow, userRow, permissionRow, sessionRow, doneRow, entered, left}
 use Rattle.tables.specs.Reading.{rows, section, permissions, rights, collections, sections, nothingLeft, settle, whole}
-use Rattle.tables.proofs.ReadLaws.{nine, word-row-cut, marked-cut, session-cut, word-row, marked-none, marked-bad, session-none, within-over, within-took}
+use Rattle.tables.proofs.ReadLaws.{nine, word-row-cut, marked-cut, session-cut, done-cut, done-no-user, done-no-operation, done-no-object, done-took, word-row, marked-none, marked-bad, session-none, within-over, within-took}
 
 -- "bit i stands for item i"; "bit .. at or above its count": a word of 64 bits is 2 ^ n or more exactly where it has a bit at or above n.
 pub outside-bits : (n w : ℕ) → n ≤ 64 → w < 2 ^ 64 → leb (2 ^ n) w ≡ anyTo 64 (λ i. leb n i && has w i)
@@ -65,11 +65,12 @@ small rs us =
       cr = [];
       cu = [];
       cp = [];
+      done = [];
     }
 
 -- Their bytes, with one role and one user whose mark and word's lowest byte are given.
 abbrev oneUser : ℕ → ℕ → Bytes
-oneUser mark low = 1 ∷ 1 ∷ replicate 7 0 ++ 1 ∷ mark ∷ low ∷ replicate 7 0 ++ replicate 7 0
+oneUser mark low = 1 ∷ 1 ∷ replicate 7 0 ++ 1 ∷ mark ∷ low ∷ replicate 7 0 ++ replicate 8 0
 
 -- Open the definitions of the checks, and all of reading.
 checking : Unit {0}
@@ -80,8 +81,12 @@ everything : Unit {0}
 unfolding checking tablesOf whole settle sections section rows next refuse front byte count wordFrom wordWithin wordRow markedRow userRow permissionRow permissions rights collections
 everything = tt
 
--- "nine zero bytes are accepted"; "An entered empty word is a person without roles; a mark 0 never is."
-pub nine-zeros : tablesOf (replicate 9 0) ≡ taken (small [] [])
+-- Document 02, N8: "ten zero bytes are the smallest tables", "Tables that stop after section 9 are cut short". Document 01: "An entered empty word is a person without roles; a mark 0 never is."
+pub ten-zeros : tablesOf (replicate 10 0) ≡ taken (small [] [])
+unfolding everything
+ten-zeros = refl
+
+pub nine-zeros : tablesOf (replicate 9 0) ≡ rejected CutShort
 unfolding everything
 nine-zeros = refl
 
@@ -134,6 +139,24 @@ module _ (s : Bytes) where
 
   pub cut-session-row : (users n : ℕ) → length s < 9 → sessionRow users n s ≡ stop CutShort
   cut-session-row users n h = session-cut s 0 users n (omega arith)
+
+  pub cut-done-row : (users operations objects : ℕ) → length s < 3 → doneRow users operations objects s ≡ stop CutShort
+  cut-done-row users operations objects h = done-cut s 0 users operations objects (omega arith)
+
+-- Document 02, N8, "rows of user, operation and object, a byte each. .. Numbers at or above their counts are 5": of a complete row, in that sequence.
+module _ (s : Bytes) (whole : 3 ≤ length s) (users operations objects : ℕ) where
+  pub doer-above : users ≤ getD s 0 0 → doneRow users operations objects s ≡ stop NoSuchItem
+  doer-above = done-no-user s 0 users operations objects whole
+
+  pub operation-above : getD s 0 0 < users → operations ≤ getD s 1 0 → doneRow users operations objects s ≡ stop NoSuchItem
+  operation-above = done-no-operation s 0 users operations objects whole
+
+  pub object-above : getD s 0 0 < users → getD s 1 0 < operations → objects ≤ getD s 2 0 → doneRow users operations objects s ≡ stop NoSuchItem
+  object-above = done-no-object s 0 users operations objects whole
+
+  pub done-taken : getD s 0 0 < users → getD s 1 0 < operations → getD s 2 0 < objects
+      → doneRow users operations objects s ≡ took (record { user = getD s 0 0; operation = getD s 1 0; object = getD s 2 0 }) (drop 3 s)
+  done-taken = done-took s 0 users operations objects whole
 
 -- "mark, then user number, then word": of a complete row, whatever its later bytes are.
 module _ (s : Bytes) (whole : 9 ≤ length s) where

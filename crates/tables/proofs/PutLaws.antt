@@ -5,8 +5,8 @@ use mathlib.Core.List.{List, [], _∷_, _++_, map}
 use Prim.Native.Nat.{ℕ, zero, suc, _+_, _/_, _%_, _<_}
 use native.Mathlib.Omega.{arith}
 use native.Mathlib.Numerals.{add-one}
-use lib.ListN.{length, set, length-set}
-use lib.Seq.{set-comm}
+use lib.ListN.{length, getD, set, length-set}
+use lib.Seq.{set-comm, getD-set-other}
 use Rattle.words.specs.Words.{itemOf}
 use Rattle.tables.specs.code.Reads.{put, withNames}
 use Rattle.tables.specs.code.Layout.{objectRowsAt, operationRowsAt}
@@ -44,6 +44,24 @@ put-both ws a b i xs ys x y p q l =
     let e : set (put (put ws a xs) b ys) (a + i) x ≡ put (put ws a (xs ++ (x ∷ []))) b ys =
     put-below (put ws a xs) b (a + i) ys x l ∙ ap (λ (v : List ℕ). put v b ys) (rw (← p) (put-more ws a xs x)) in
     rw e (rw (← q) (put-more (put ws a (xs ++ (x ∷ []))) b ys y))
+
+-- Three, each below the next.
+pub put-three : (ws : List ℕ) (a b c i : ℕ) (xs ys zs : List ℕ) (x y z : ℕ) → length xs ≡ i → length ys ≡ i → length zs ≡ i → a + i < b → b + i < c
+    → set (set (set (put (put (put ws a xs) b ys) c zs) (a + i) x) (b + i) y) (c + i) z
+    ≡ put (put (put ws a (xs ++ (x ∷ []))) b (ys ++ (y ∷ []))) c (zs ++ (z ∷ []))
+put-three ws a b c i xs ys zs x y z p q r l m =
+    let w = put (put ws a xs) b ys in
+    let v = put (put ws a (xs ++ (x ∷ []))) b (ys ++ (y ∷ [])) in
+    let e : set (set (put w c zs) (a + i) x) (b + i) y ≡ put v c zs =
+    ap (λ (t : List ℕ). set t (b + i) y) (put-below w c (a + i) zs x (omega arith)) ∙ put-below (set w (a + i) x) c (b + i) zs y m
+    ∙ ap (λ (t : List ℕ). put t c zs) (put-both ws a b i xs ys x y p q l) in
+    rw e (rw (← r) (put-more v c zs z))
+
+-- A list that is written leaves the words below it.
+pub put-keeps : (ws : List ℕ) (k j : ℕ) (xs : List ℕ) → j < k → getD (put ws k xs) j 0 ≡ getD ws j 0
+unfolding put
+put-keeps ws k j [] l = refl
+put-keeps ws k j (x ∷ xs) l = put-keeps (set ws k x) (suc k) j xs (omega arith) ∙ getD-set-other ws k j x 0 (λ e. absurd (omega arith))
 
 pub tabulate-more : (n : ℕ) (f : ℕ → ℕ) → tabulate (suc n) f ≡ tabulate n f ++ (f n ∷ [])
 unfolding tabulate

@@ -10,7 +10,7 @@ use borrow.Author.Tests.{eq-eqb, ne-eqb}
 use Rattle.words.specs.Words.{has, itemOf, joinOf, lessOf, imageOf}
 use Rattle.words.proofs.WordsLaws.{word-ext, word-none, word-self, has-zero, has-in, has-join, has-less, and-true, and-both, any-here, any-witness}
 use Rattle.words.proofs.LoopLaws.{image-turn, image-begin, image-end}
-use Rattle.words.proofs.RelationLaws.{reach, image-image, has-image}
+use Rattle.words.proofs.RelationLaws.{some-item, image-image, has-image}
 use Rattle.tables.specs.Tables.{Tables, userRows, sessionUsers, sessionRoles}
 use Rattle.tables.specs.Functions.{dominates, assigned, active, juniorsOfUsers}
 use Rattle.tables.specs.Checks.{implies, reflexive, ranked, inReach}
@@ -19,7 +19,7 @@ use Rattle.tables.specs.code.Reads.{coveredBy, reachAt, reaching}
 use Rattle.tables.proofs.FlatLaws.{map-at}
 use Rattle.tables.proofs.FitsLaws.{active-below, users-below}
 use Rattle.tables.proofs.AllLaws.{all-every, all-at, all-ext}
-use Rattle.tables.proofs.CheckLaws.{less-zero, some-item}
+use Rattle.tables.proofs.CheckLaws.{less-zero}
 use Rattle.tables.proofs.RankLaws.{ranked-self}
 
 -- ---- the loop: what one role dominates is taken from the rest
@@ -77,7 +77,7 @@ reach-found rows assigned users active s {own} qo qv qb =
 
 -- `roles*` of users is two steps forth.
 pub juniors-words : (T : Tables) (w : ℕ) → imageOf (T .roleRows) (imageOf (userRows T) w) ≡ juniorsOfUsers T w
-unfolding juniorsOfUsers reach
+unfolding juniorsOfUsers
 juniors-words T w = image-image (userRows T) (T .roleRows) w
 
 -- What a user has been assigned is among what these roles dominate, since a role dominates itself.

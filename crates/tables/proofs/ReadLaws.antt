@@ -1,8 +1,8 @@
 -- Laws of the readers of specs/Reading, one for each way a count or a row is refused or taken.
 -- Assumes nothing.
-use mathlib.Core.Path.{_≡_, refl}
+use mathlib.Core.Path.{_≡_, refl, ap, _∙_}
 use mathlib.Core.Bool.{Bool, true, false}
-use mathlib.Core.List.{_∷_}
+use mathlib.Core.List.{[], _∷_}
 use Prim.Native.Nat.{ℕ, suc, _+_, _*_, _-_, _/_, _^_, _≤_, _<_}
 use native.Mathlib.Omega.{arith}
 use native.Mathlib.Numerals.{add-one}
@@ -17,8 +17,8 @@ use Rattle.answers.specs.declared.Refusal.the-variants.{CutShort, Overfull, Not
 use Rattle.tables.specs.declared.Step.{Step}
 use Rattle.tables.specs.declared.Step.the-variants.{Stopped, Took}
 use Rattle.tables.specs.Reading.{Bytes, Taken, stop, took, next, refuse, front, byte, count, wordFrom, wordWithin}
-use Rattle.tables.specs.Reading.{wordRow, markedRow, sessionRow}
-use Rattle.tables.specs.code.Reads.{Reads, stops, takes, Is, IsMarked, IsSession}
+use Rattle.tables.specs.Reading.{wordRow, markedRow, sessionRow, doneRow}
+use Rattle.tables.specs.code.Reads.{Reads, stops, takes, Is, IsMarked, IsSession, deedAt, IsDeed}
 
 -- What the code took.
 pub record Got {A : Type 0} (s : Bytes) (Holds : A → ℕ → Type 0) (v n : ℕ) (r : Taken A) : Type 0 where
@@ -229,3 +229,48 @@ module _ (s : Bytes) (at : ℕ) where
       let f : sessionRow users n (drop at s) ≡ took (record { user = getD s at 0; active = a }) (drop m s) =
       rw (nine h, lt-leb users (getD s at 0) l, q) in
       takes f w (record { user = refl; known = l; active = e; complete = omega arith })
+
+  -- A row of three bytes.
+  three : at + 3 ≤ length s → front 3 (drop at s) ≡ took (getD s at 0 ∷ getD s (at + 1) 0 ∷ getD s (at + 2) 0 ∷ []) (drop (at + 3) s)
+  three h =
+      let p : suc at ≡ at + 1 = omega arith in
+      let q : suc (at + 1) ≡ at + 2 = omega arith in
+      let l : at < length s = omega arith in
+      let m : at + 1 < length s = omega arith in
+      let n : at + 2 < length s = omega arith in
+      let c : drop at s ≡ getD s at 0 ∷ drop (at + 1) s = rw p at (drop-cons s at 0 l) in
+      let d : drop (at + 1) s ≡ getD s (at + 1) 0 ∷ drop (at + 2) s = rw q at (drop-cons s (at + 1) 0 m) in
+      let e = drop-cons s (at + 2) 0 n in
+      let f : take 3 (drop at s) ≡ getD s at 0 ∷ getD s (at + 1) 0 ∷ getD s (at + 2) 0 ∷ [] = rw (c, d, e) in
+      front-took s at 3 h ∙ ap (λ (b : Bytes). took b (drop (at + 3) s)) f
+
+  module _ (users operations objects : ℕ) where
+    pub done-cut : length s - at < 3 → doneRow users operations objects (drop at s) ≡ stop CutShort
+    unfolding doneRow next
+    done-cut h = rw (front-cut s at 3 h)
+
+    module _ (h : at + 3 ≤ length s) where
+      pub done-no-user : users ≤ getD s at 0 → doneRow users operations objects (drop at s) ≡ stop NoSuchItem
+      unfolding doneRow next refuse
+      done-no-user l = rw (three h, le-leb users (getD s at 0) l)
+
+      module _ (u : getD s at 0 < users) where
+        pub done-no-operation : operations ≤ getD s (at + 1) 0 → doneRow users operations objects (drop at s) ≡ stop NoSuchItem
+        unfolding doneRow next refuse
+        done-no-operation l = rw (three h, lt-leb users (getD s at 0) u, le-leb operations (getD s (at + 1) 0) l)
+
+        module _ (a : getD s (at + 1) 0 < operations) where
+          pub done-no-object : objects ≤ getD s (at + 2) 0 → doneRow users operations objects (drop at s) ≡ stop NoSuchItem
+          unfolding doneRow next refuse
+          done-no-object l =
+              rw (three h, lt-leb users (getD s at 0) u, lt-leb operations (getD s (at + 1) 0) a, le-leb objects (getD s (at + 2) 0) l)
+
+          module _ (b : getD s (at + 2) 0 < objects) where
+            pub done-took : doneRow users operations objects (drop at s)
+                ≡ took (record { user = getD s at 0; operation = getD s (at + 1) 0; object = getD s (at + 2) 0 }) (drop (at + 3) s)
+            unfolding doneRow next refuse
+            done-took = rw (three h, lt-leb users (getD s at 0) u, lt-leb operations (getD s (at + 1) 0) a, lt-leb objects (getD s (at + 2) 0) b)
+
+            pub done-row : {v : ℕ} → Reads s (IsDeed s at) (Took v (at + 3)) (doneRow users operations objects (drop at s))
+            unfolding deedAt
+            done-row = takes done-took h (record { is = refl; complete = h })

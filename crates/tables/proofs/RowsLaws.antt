@@ -11,12 +11,13 @@ use Rattle.answers.specs.declared.Refusal.{Refusal}
 use Rattle.words.specs.Words.{itemOf, joinOf}
 use Rattle.tables.specs.declared.Step.the-variants.{Took}
 use Rattle.tables.specs.Flat.{room}
-use Rattle.tables.specs.Tables.{User, Session, presentIn}
+use Rattle.tables.specs.Tables.{User, Session, Deed, presentIn}
 use Rattle.tables.specs.Reading.{Bytes, Taken, Reader, stop, took, next, markedRow, userRow, rows, entered, left}
-use Rattle.tables.specs.code.Reads.{Reads, takes, Is, IsMarked, IsSession, put, rowsFrom, putAssigned, putUsers, putSessions, RowsAt}
-use Rattle.tables.specs.code.Layout.{userRowsAt, presentAt, sessionUsersAt, sessionRolesAt}
+use Rattle.tables.specs.code.Reads.{Reads, takes, Is, IsMarked, IsSession, deedAt, IsDeed, put, rowsFrom, putAssigned, putUsers, putSessions, withDeed, putDeeds, RowsAt}
+use Rattle.tables.specs.code.Layout.{userRowsAt, presentAt, sessionUsersAt, sessionRolesAt, doneUsersAt, doneObjectsAt, doneOperationsAt}
 use Rattle.tables.proofs.ReadLaws.{Got}
-use Rattle.tables.proofs.PutLaws.{map-more, length-put, put-more, put-both}
+use Rattle.tables.proofs.FlatLaws.{numbers-long}
+use Rattle.tables.proofs.PutLaws.{map-more, length-put, put-more, put-both, put-three}
 use Rattle.tables.proofs.PresentLaws.{present-none, present-more, present-same}
 
 -- Rows read before others.
@@ -199,3 +200,32 @@ module _ (row : Reader Session) (n : ℕ) where
       let ev : map (λ s. s .active) (d ++ (x ∷ [])) ≡ vs ++ (v ∷ []) = rw (map-more (λ s. s .active) d x, r .holds .active) in
       storing-more row n g l (r .reads) (r .within) (rw (eu, ev) e)
       (ap length e ∙ length-put (put old sessionUsersAt (us ++ (u ∷ []))) sessionRolesAt (vs ++ (v ∷ [])) ∙ length-put old sessionUsersAt (us ++ (u ∷ [])))
+
+-- Rows of Done, in three lists: one row more, behind those written.
+more-numbers : {A : Type 0} (f : A → ℕ) (xs : List A) (x : A) → map itemOf (map f (xs ++ (x ∷ []))) ≡ map itemOf (map f xs) ++ (itemOf (f x) ∷ [])
+more-numbers f xs x = rw (map-more f xs x, map-more itemOf (map f xs) (f x))
+
+deeds-put : (ws : List ℕ) (i : ℕ) (ds : List Deed) (d : Deed) → length ds ≡ i → i < room → withDeed (putDeeds ws ds) i d ≡ putDeeds ws (ds ++ (d ∷ []))
+unfolding putDeeds withDeed
+deeds-put ws i ds d q l =
+    rw (more-numbers (λ (e : Deed). e .user) ds d, more-numbers (λ (e : Deed). e .object) ds d, more-numbers (λ (e : Deed). e .operation) ds d)
+    (put-three ws doneUsersAt doneObjectsAt doneOperationsAt i _ _ _ (itemOf (d .user)) (itemOf (d .object)) (itemOf (d .operation))
+    (numbers-long ds (λ e. e .user) ∙ q) (numbers-long ds (λ e. e .object) ∙ q) (numbers-long ds (λ e. e .operation) ∙ q) (omega arith) (omega arith))
+
+deeds-long : (ws : List ℕ) (ds : List Deed) → length (putDeeds ws ds) ≡ length ws
+unfolding putDeeds
+deeds-long ws ds = length-put _ doneOperationsAt _ ∙ length-put _ doneObjectsAt _ ∙ length-put ws doneUsersAt _
+
+module _ (row : Reader Deed) (n : ℕ) where
+  pub deeds-none : (s : Bytes) (at : ℕ) (old : List ℕ) → at ≤ length s → Storing row n (drop at s) s putDeeds old old at 0
+  unfolding putDeeds put
+  deeds-none s at old h = storing-none row n s at putDeeds old refl h
+
+  pub deeds-more : {b s : Bytes} {old new : List ℕ} {from i v m : ℕ} → Storing row n b s putDeeds old new from i → i < n → n ≤ room
+      → Got s (IsDeed s from) v m (row (drop from s)) → Storing row n b s putDeeds old (withDeed new i (deedAt s from)) m (i + 1)
+  deeds-more {s = s} {old} {new} {from = from} {i} g l h r =
+      let ds = g .along .done in
+      let e : withDeed new i (deedAt s from) ≡ putDeeds old (ds ++ (deedAt s from ∷ [])) =
+      ap (λ (ws : List ℕ). withDeed ws i (deedAt s from)) (g .words) ∙ deeds-put old i ds (deedAt s from) (g .along .size) (omega arith) in
+      storing-more row n g l (r .reads) (r .within) (e ∙ ap (λ (d : Deed). putDeeds old (ds ++ (d ∷ []))) (sym (r .holds .is)))
+      (ap length e ∙ deeds-long old (ds ++ (deedAt s from ∷ [])))

@@ -2,19 +2,22 @@
 -- Assumes nothing.
 use mathlib.Core.Path.{_≡_, _∙_}
 use mathlib.Core.List.{List}
-use Prim.Native.Nat.{ℕ, _*_, _≤_}
+use Prim.Native.Nat.{ℕ, _*_, _≤_, _<_}
 use native.Mathlib.Nat.{mul-le-mul}
-use lib.ListN.{drop, set}
+use lib.ListN.{length, getD, drop, set, length-set}
+use lib.Seq.{getD-set-same, getD-set-other}
+use native.Mathlib.Omega.{arith}
 use Rattle.answers.specs.declared.Refusal.{Refusal}
 use Rattle.tables.specs.declared.Step.{Step}
 use Rattle.tables.specs.declared.Step.the-variants.{Took}
 use Rattle.tables.specs.Reading.{Bytes, stop, took, next, count, section, permissions, Rights, rights, Collections, collections}
-use Rattle.tables.specs.Reading.{wordRow, userRow, sessionRow, sections, assembled}
+use Rattle.tables.specs.Reading.{wordRow, userRow, sessionRow, doneRow, sections, assembled}
 use Rattle.tables.specs.code.Reads.{Reads, stops, takes, IsCount, SectionAt, PermissionsAt, RightsAt, CollectionsAt, Filled}
-use Rattle.tables.specs.code.Reads.{withNames, rowsFrom, putUsers, putSessions, withRights, withCollections}
+use Rattle.tables.specs.code.Reads.{withNames, rowsFrom, putUsers, putSessions, putDeeds, withCount, withSection, withRights, withCollections}
 use Rattle.tables.specs.code.Layout.{roleCountAt, userCountAt, sessionCountAt, operationCountAt, objectCountAt, crCountAt, cuCountAt}
-use Rattle.tables.specs.code.Layout.{cpCountAt, roleRowsAt, crAt, cuAt, cpAt}
+use Rattle.tables.specs.code.Layout.{Whole, cpCountAt, doneCountAt, permissionCountAt, roleRowsAt, permissionRowsAt, crAt, cuAt, cpAt, objectRowsAt, operationRowsAt}
 use Rattle.tables.proofs.ReadLaws.{Got}
+use Rattle.tables.proofs.PutLaws.{put-keeps}
 
 pub product-few : {a b : ℕ} → a ≤ 8 → b ≤ 8 → a * b ≤ 64
 product-few h k = mul-le-mul h k
@@ -68,6 +71,35 @@ module _ (s : Bytes) (at r u p : ℕ) where
           let y : new ≡ withCollections old x = h .words ∙ rw (g .holds .words, f .holds .words) in
           takes k w (record { words = y })
 
+-- What is stored behind the counts of operations and objects leaves them.
+section-keeps : (ws : List ℕ) (place to j : ℕ) (xs : List ℕ) → j < place → j < to → getD (withSection ws place to xs) j 0 ≡ getD ws j 0
+unfolding withCount
+section-keeps ws place to j xs l m = put-keeps (set ws place (length xs)) to j xs m ∙ getD-set-other ws place j (length xs) 0 (λ e. absurd (omega arith))
+
+module _ (ws : List ℕ) (q : Rights) (c : Collections) where
+  stored-keeps : (j : ℕ) → j < permissionCountAt
+      → getD (withCollections (withRights ws q) c) j 0 ≡ getD (set (set ws operationCountAt (q .operationCount)) objectCountAt (q .objectCount)) j 0
+  unfolding withCollections withRights withNames
+  stored-keeps j l =
+      section-keeps _ cpCountAt cpAt j (c .cp) (omega arith) (omega arith)
+      ∙ section-keeps _ cuCountAt cuAt j (c .cu) (omega arith) (omega arith)
+      ∙ section-keeps _ crCountAt crAt j (c .cr) (omega arith) (omega arith)
+      ∙ put-keeps _ operationRowsAt j _ (omega arith)
+      ∙ put-keeps _ objectRowsAt j _ (omega arith)
+      ∙ section-keeps _ permissionCountAt permissionRowsAt j (q .permissionRows) (omega arith) (omega arith)
+
+  pub operations-stored : Whole ws → getD (withCollections (withRights ws q) c) operationCountAt 0 ≡ q .operationCount
+  operations-stored w =
+      stored-keeps operationCountAt (omega arith)
+      ∙ getD-set-other (set ws operationCountAt (q .operationCount)) objectCountAt operationCountAt (q .objectCount) 0 (λ e. absurd (omega arith))
+      ∙ getD-set-same ws operationCountAt (q .operationCount) 0 (omega arith)
+
+  pub objects-stored : Whole ws → getD (withCollections (withRights ws q) c) objectCountAt 0 ≡ q .objectCount
+  objects-stored w =
+      stored-keeps objectCountAt (omega arith)
+      ∙ getD-set-same (set ws operationCountAt (q .operationCount)) objectCountAt (q .objectCount) 0
+      (omega (arith, length-set ws operationCountAt (q .operationCount)))
+
 module _ (s : Bytes) where
   pub sections-stop : {e : Refusal} → section (λ n. wordRow n) s ≡ stop e → sections s ≡ stop e
   unfolding sections next
@@ -89,15 +121,30 @@ module _ (s : Bytes) where
         sections-stop-4 q = rw (f .reads, ← f .holds .count, g .reads, ← g .holds .count, h .reads, q)
 
         module _ {w₄ : List ℕ} {p l : ℕ} (t : Got s (RightsAt w₃ w₄) p l (rights r (drop k s))) where
-          pub sections-all : {new : List ℕ} {c : Step} → Reads s (CollectionsAt w₄ new) c (collections r u p (drop l s))
-              → Reads s (Filled old new) c (sections s)
+          pub sections-stop-5 : {e : Refusal} → collections r u p (drop l s) ≡ stop e → sections s ≡ stop e
           unfolding sections next
-          sections-all (stops {e = e} q) =
-              let x : sections s ≡ stop e =
-              rw (f .reads, ← f .holds .count, g .reads, ← g .holds .count, h .reads, t .reads, ← t .holds .count, q) in
-              stops x
-          sections-all {new} (takes {n = n} {a = a} q w y) =
-              let x : sections s ≡ took (assembled (f .value) (g .value) (h .value) (t .value) a) (drop n s) =
-              rw (f .reads, ← f .holds .count, g .reads, ← g .holds .count, h .reads, t .reads, ← t .holds .count, q) in
-              takes x w
-              (record { words = y .words ∙ rw (t .holds .words, h .holds .words, g .holds .words, f .holds .words) })
+          sections-stop-5 q = rw (f .reads, ← f .holds .count, g .reads, ← g .holds .count, h .reads, t .reads, ← t .holds .count, q)
+
+          module _ {w₅ : List ℕ} {v′ m : ℕ} (z : Got s (CollectionsAt w₄ w₅) v′ m (collections r u p (drop l s))) (whole : Whole w₃) where
+            stored : w₅ ≡ withCollections (withRights w₃ (t .value)) (z .value)
+            stored = z .holds .words ∙ rw (t .holds .words)
+
+            operations-are : getD w₅ operationCountAt 0 ≡ t .value .operationCount
+            operations-are = rw stored (operations-stored w₃ (t .value) (z .value) whole)
+
+            objects-are : getD w₅ objectCountAt 0 ≡ t .value .objectCount
+            objects-are = rw stored (objects-stored w₃ (t .value) (z .value) whole)
+
+            pub sections-all : {new : List ℕ} {c : Step}
+                → Reads s (SectionAt putDeeds doneCountAt w₅ new) c (section (λ _. doneRow u (getD w₅ operationCountAt 0) (getD w₅ objectCountAt 0)) (drop m s))
+                → Reads s (Filled old new) c (sections s)
+            unfolding sections next
+            sections-all (stops {e = e} q) =
+                let x : sections s ≡ stop e =
+                rw (f .reads, ← f .holds .count, g .reads, ← g .holds .count, h .reads, t .reads, ← t .holds .count, z .reads, ← operations-are, ← objects-are, q) in
+                stops x
+            sections-all {new} (takes {n = n} {a = a} q w y) =
+                let x : sections s ≡ took (assembled (f .value) (g .value) (h .value) (t .value) (z .value) a) (drop n s) =
+                rw (f .reads, ← f .holds .count, g .reads, ← g .holds .count, h .reads, t .reads, ← t .holds .count, z .reads, ← operations-are, ← objects-are, q) in
+                takes x w
+                (record { words = y .words ∙ rw (z .holds .words, t .holds .words, h .holds .words, g .holds .words, f .holds .words) })

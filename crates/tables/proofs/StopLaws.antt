@@ -15,7 +15,7 @@ use Rattle.answers.specs.declared.Refusal.the-variants.{CutShort, Rank, Overrea
 use Rattle.answers.proofs.AnswerLaws.{same-number}
 use Rattle.tables.specs.Tables.{Tables}
 use Rattle.tables.specs.Checks.{leaversGone, rankStep, ranked, inReach, noTwin, lateChecks, firstFailing, late}
-use Rattle.tables.specs.Reading.{Bytes, Taken, stop, took, Reader, next, refuse, front, byte, count, wordWithin, wordRow, markedRow, userRow, permissionRow, sessionRow, rows, section}
+use Rattle.tables.specs.Reading.{Bytes, Taken, stop, took, Reader, next, refuse, front, byte, count, wordWithin, wordRow, markedRow, userRow, permissionRow, sessionRow, doneRow, rows, section}
 use Rattle.tables.specs.Reading.{roles, permissions, rights, collections, sections, nothingLeft, settle, whole, Reading, rejected, taken, tablesOf}
 use Rattle.tables.specs.Reading.{assembled, readingNumber, rowsRead, rankStepOf}
 use Rattle.tables.specs.declared.Outcome.{Outcome}
@@ -85,6 +85,12 @@ low-session : (users roles : ℕ) → Low (sessionRow users roles)
 unfolding sessionRow
 low-session users roles = low-next (low-front 9) (λ b. low-next (low-refuse _ _ (lit≤ tt)) (λ _. low-next (low-within roles (drop 1 b)) (λ w. low-give _)))
 
+low-done : (users operations objects : ℕ) → Low (doneRow users operations objects)
+unfolding doneRow
+low-done users operations objects =
+    low-next (low-front 3) (λ b.
+    low-next (low-refuse _ _ (lit≤ tt)) (λ _. low-next (low-refuse _ _ (lit≤ tt)) (λ _. low-next (low-refuse _ _ (lit≤ tt)) (λ _. low-give _))))
+
 low-rows : {A : Type 0} {row : Reader A} → Low row → (n : ℕ) → Low (rows row n)
 unfolding rows
 low-rows h zero = low-give _
@@ -114,7 +120,8 @@ low-sections =
     low-next (low-section (λ _. low-user _)) (λ us.
     low-next (low-section (λ _. low-session _ _)) (λ ss.
     low-next (low-rights _) (λ q.
-    low-next (low-collections _ _ _) (λ c. low-give _)))))
+    low-next (low-collections _ _ _) (λ c.
+    low-next (low-section (λ _. low-done _ _ _)) (λ ds. low-give _))))))
 
 pub tables-refusal : (b : Bytes) (e : Refusal) → tablesOf b ≡ rejected e → OfTables e
 tables-refusal b e q = go (sections b) refl
@@ -190,8 +197,9 @@ roles-read b {T} {t} e =
     λ us s₂ e₂ k₂. next-case (section (λ _. sessionRow (length us) (length rs)) s₂) _ k₂
     λ ss s₃ e₃ k₃. next-case (rights (length rs) s₃) _ k₃
     λ q s₄ e₄ k₄. next-case (collections (length rs) (length us) (length (q .permissionRows)) s₄) _ k₄
-    λ c s₅ e₅ k₅.
-    let d : assembled rs us ss q c ≡ T = cc in
+    λ c s₅ e₅ k₅. next-case (section (λ _. doneRow (length us) (q .operationCount) (q .objectCount)) s₅) _ k₅
+    λ ds s₆ e₆ k₆.
+    let d : assembled rs us ss q c ds ≡ T = cc in
     rw e₁ (ap (λ (T : Tables). T .roleRows) d)
 
 pub rank-step : (b : Bytes) {T : Tables} → tablesOf b ≡ rejected Rank → sections b ≡ took T [] → rankStepOf b ≡ rankStep (T .roleRows)

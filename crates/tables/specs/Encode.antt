@@ -3,8 +3,8 @@
 use mathlib.Core.Bool.{Bool, true, false}
 use mathlib.Core.List.{List, [], _∷_, _++_, map}
 use Prim.Native.Nat.{ℕ, _+_, _*_}
-use lib.ListN.{length}
-use Rattle.tables.specs.Tables.{User, Session, Tables}
+use lib.ListN.{length, take}
+use Rattle.tables.specs.Tables.{User, Session, Deed, Tables}
 use Rattle.tables.specs.Bytes.{Bytes, lowestFirst, entered, left}
 
 -- "A row is a word"; "A row is a mark byte (1 entered ..), then a word", and of a user "Mark 2 .. means left" (document 02, N6);
@@ -24,6 +24,10 @@ permissionBytes w = entered ∷ lowestFirst 8 w
 
 unfoldable pub sessionBytes : Session → Bytes
 sessionBytes s = s .user ∷ lowestFirst 8 (s .active)
+
+-- Document 02, N8: "rows of user, operation and object, a byte each".
+unfoldable pub deedBytes : Deed → Bytes
+deedBytes d = d .user ∷ d .operation ∷ d .object ∷ []
 
 -- One after another.
 unfoldable pub joined : List Bytes → Bytes
@@ -49,13 +53,18 @@ sectionBytes T =
     ∷ counted wordBytes (T .cr)
     ∷ counted wordBytes (T .cu)
     ∷ counted wordBytes (T .cp)
+    ∷ counted deedBytes (T .done)
     ∷ []
 
 unfoldable pub encode : Tables → Bytes
 encode T = joined (sectionBytes T)
 
--- How many bytes: nine counts, rows of eight bytes, and rows of nine.
+-- Document 02, N8: "Tables that stop after section 9".
+unfoldable pub nineBytes : Tables → Bytes
+nineBytes T = joined (take 9 (sectionBytes T))
+
+-- How many bytes: ten counts, rows of eight bytes, of nine, and of three.
 abbrev pub bytesOf : Tables → ℕ
 bytesOf T =
-    9 + 8 * (length (T .roleRows) + length (T .cr) + length (T .cu) + length (T .cp))
-    + 9 * (length (T .users) + length (T .sessions) + length (T .permissionRows))
+    10 + 8 * (length (T .roleRows) + length (T .cr) + length (T .cu) + length (T .cp))
+    + 9 * (length (T .users) + length (T .sessions) + length (T .permissionRows)) + 3 * length (T .done)

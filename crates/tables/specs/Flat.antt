@@ -4,14 +4,14 @@ use mathlib.Core.List.{List, [], _∷_, _++_, map}
 use Prim.Native.Nat.{ℕ, zero, suc, _/_, _%_}
 use lib.ListN.{length}
 use Rattle.words.specs.Words.{itemOf}
-use Rattle.tables.specs.Tables.{Tables, userRows, presentUsers, sessionUsers, sessionRoles}
+use Rattle.tables.specs.Tables.{Tables, userRows, presentUsers, sessionUsers, sessionRoles, doneUsers, doneObjects, doneOperations}
 
--- Eleven sections of 64 words each: the words of a section, and of all.
+-- Fourteen sections of 64 words each: the words of a section, and of all.
 abbrev pub room : ℕ
 room = 64
 
 abbrev pub wholeLength : ℕ
-wholeLength = 704
+wholeLength = 896
 
 -- The first n of the words and of zeros after them.
 unfoldable pub padded : ℕ → List ℕ → List ℕ
@@ -24,11 +24,11 @@ unfoldable pub tabulate : ℕ → (ℕ → ℕ) → List ℕ
 tabulate zero f = []
 tabulate (suc n) f = f 0 ∷ tabulate n (λ i. f (suc i))
 
--- Section 0: how many roles and users, which users are present, how many sessions, operations, objects, permissions, and words of CR, CU, CP.
+-- Section 0: how many roles and users, which users are present, how many sessions, operations, objects, permissions, words of CR, CU, CP, and rows of Done.
 unfoldable pub counts : Tables → List ℕ
 counts T =
     length (T .roleRows) ∷ length (T .users) ∷ presentUsers T ∷ length (T .sessions) ∷ T .operationCount ∷ T .objectCount
-    ∷ length (T .permissionRows) ∷ length (T .cr) ∷ length (T .cu) ∷ length (T .cp) ∷ []
+    ∷ length (T .permissionRows) ∷ length (T .cr) ∷ length (T .cu) ∷ length (T .cp) ∷ length (T .done) ∷ []
 
 -- Sections 9 and 10: of each permission its object and its operation, as words of one item:
 -- "Permission number = operation × object count + object".
@@ -38,11 +38,13 @@ objectRows T = tabulate (length (T .permissionRows)) (λ p. itemOf (p % T .objec
 unfoldable pub operationRows : Tables → List ℕ
 operationRows T = tabulate (length (T .permissionRows)) (λ p. itemOf (p / T .objectCount))
 
--- The sections in their order; section k starts at word room × k. Section 3 has of each session its user, as a word of one item.
+-- The sections in their order; section k starts at word room × k. Section 3 has of each session its user, as a word of one item;
+-- 11, 12 and 13 have of each row of Done its user, its object and its operation, as words of one item.
 unfoldable pub sections : Tables → List (List ℕ)
 sections T =
     counts T ∷ T .roleRows ∷ userRows T ∷ map itemOf (sessionUsers T) ∷ sessionRoles T ∷ T .permissionRows
-    ∷ T .cr ∷ T .cu ∷ T .cp ∷ objectRows T ∷ operationRows T ∷ []
+    ∷ T .cr ∷ T .cu ∷ T .cp ∷ objectRows T ∷ operationRows T
+    ∷ map itemOf (doneUsers T) ∷ map itemOf (doneObjects T) ∷ map itemOf (doneOperations T) ∷ []
 
 -- Sections one after another, each with room for 64 words.
 unfoldable pub laid : List (List ℕ) → List ℕ

@@ -10,7 +10,7 @@ use Rattle.answers.specs.declared.Refusal.{Refusal}
 use Rattle.answers.specs.declared.Refusal.the-variants.{CutShort, Overfull, NotEntered, BadMark, NoSuchItem, Miscounted, Rank, LeftOver}
 use Rattle.tables.specs.declared.Outcome.{Outcome}
 use Rattle.tables.specs.declared.Outcome.the-variants.{Refused, Accepted}
-use Rattle.tables.specs.Tables.{User, Session, Tables}
+use Rattle.tables.specs.Tables.{User, Session, Deed, Tables}
 use Rattle.tables.specs.Checks.{rankStep, late}
 use Rattle.tables.specs.Flat.{wholeLength, flat}
 unfoldable pub use Rattle.tables.specs.Bytes.{Bytes, wordFrom, entered, left}
@@ -105,6 +105,15 @@ sessionRow users roles = do
   w ← wordWithin roles (drop 1 b)
   give (record { user = getD b 0 0; active = w })
 
+-- Document 02, N8: "rows of user, operation and object, a byte each"; "Numbers at or above their counts are 5".
+unfoldable pub doneRow : ℕ → ℕ → ℕ → Reader Deed
+doneRow users operations objects = do
+  b ← front 3
+  refuse (leb users (getD b 0 0)) NoSuchItem
+  refuse (leb operations (getD b 1 0)) NoSuchItem
+  refuse (leb objects (getD b 2 0)) NoSuchItem
+  give (record { user = getD b 0 0; operation = getD b 1 0; object = getD b 2 0 })
+
 -- n rows, one after another.
 unfoldable pub rows : {A : Type 0} → Reader A → ℕ → Reader (List A)
 rows row zero = give []
@@ -157,9 +166,9 @@ collections roles users permissions = do
   p ← section (λ _. wordRow permissions)
   give (record { cr = r; cu = u; cp = p })
 
--- The nine sections.
-abbrev pub assembled : List ℕ → List User → List Session → Rights → Collections → Tables
-assembled rs us ss q c =
+-- The ten sections.
+abbrev pub assembled : List ℕ → List User → List Session → Rights → Collections → List Deed → Tables
+assembled rs us ss q c ds =
     record {
       roleRows = rs;
       users = us;
@@ -170,6 +179,7 @@ assembled rs us ss q c =
       cr = c .cr;
       cu = c .cu;
       cp = c .cp;
+      done = ds;
     }
 
 unfoldable pub sections : Reader Tables
@@ -179,9 +189,10 @@ sections = do
   ss ← section (λ _. sessionRow (length us) (length rs))
   q ← rights (length rs)
   c ← collections (length rs) (length us) (length (q .permissionRows))
-  give (assembled rs us ss q c)
+  ds ← section (λ _. doneRow (length us) (q .operationCount) (q .objectCount))
+  give (assembled rs us ss q c ds)
 
--- 10: "bytes after section 9".
+-- 10: "bytes after section 9"; document 02, N8: "left over now looks after section 10".
 unfoldable pub nothingLeft : Reader (Unit {0})
 nothingLeft s = refuse (ltb 0 (length s)) LeftOver s
 

@@ -16,6 +16,12 @@ pub record Session : Type 0 where
   pub user : ℕ
   pub active : ℕ
 
+-- Document 02, N8: what a user did: "rows of user, operation and object".
+pub record Deed : Type 0 where
+  pub user : ℕ
+  pub operation : ℕ
+  pub object : ℕ
+
 pub record Tables : Type 0 where
   pub roleRows : List ℕ  -- 1: for each role the roles dominated, itself included
   pub users : List User  -- 2: a row for each user number, leavers' rows included
@@ -26,6 +32,7 @@ pub record Tables : Type 0 where
   pub cr : List ℕ  -- 7: words of roles
   pub cu : List ℕ  -- 8: words of users
   pub cp : List ℕ  -- 9: words of permissions
+  pub done : List Deed  -- 10: who already did what, row by row (document 02, N8)
 
 -- Of each user number the assigned roles.
 abbrev pub userRows : Tables → List ℕ
@@ -52,3 +59,13 @@ sessionUsers T = map (λ s. s .user) (T .sessions)
 
 abbrev pub sessionRoles : Tables → List ℕ
 sessionRoles T = map (λ s. s .active) (T .sessions)
+
+-- Of each row of Done its user, its object and its operation.
+abbrev pub doneUsers : Tables → List ℕ
+doneUsers T = map (λ d. d .user) (T .done)
+
+abbrev pub doneObjects : Tables → List ℕ
+doneObjects T = map (λ d. d .object) (T .done)
+
+abbrev pub doneOperations : Tables → List ℕ
+doneOperations T = map (λ d. d .operation) (T .done)

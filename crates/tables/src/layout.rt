@@ -1,9 +1,9 @@
-// The layout of the flat tables: eleven sections of 64 words each. Nothing else spells one of these numbers.
+// The layout of the flat tables: fourteen sections of 64 words each. Nothing else spells one of these numbers.
 
 // The words of a section, and of all.
 pub const ROOM: usize = 64;
 
-pub const WHOLE: usize = ROOM * 11;
+pub const WHOLE: usize = ROOM * 14;
 
 // The first section has the counts, in the sections' order of document 01, and behind the users' the word of those present.
 pub const ROLE_COUNT: usize = 0;
@@ -26,6 +26,8 @@ pub const CU_COUNT: usize = 8;
 
 pub const CP_COUNT: usize = 9;
 
+pub const DONE_COUNT: usize = 10;
+
 // Where the others begin.
 pub const ROLE_ROWS: usize = ROOM;
 
@@ -46,3 +48,9 @@ pub const CP: usize = ROOM * 8;
 pub const OBJECT_ROWS: usize = ROOM * 9;
 
 pub const OPERATION_ROWS: usize = ROOM * 10;
+
+pub const DONE_USERS: usize = ROOM * 11;
+
+pub const DONE_OBJECTS: usize = ROOM * 12;
+
+pub const DONE_OPERATIONS: usize = ROOM * 13;

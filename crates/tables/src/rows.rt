@@ -4,8 +4,8 @@ ghost use mathlib.Core.Path.{_≡_};
 ghost use Prim.Native.Nat.{_+_, _≤_, _<_, _^_};
 ghost use lib.Dec.{leb};
 ghost use lib.ListN.{length, drop, take};
-ghost use Rattle.tables.specs.Reading.{wordFrom, byte as byteOf, count as countOf, wordWithin, wordRow, markedRow, sessionRow};
-ghost use Rattle.tables.specs.code.Reads.{Reads, Is, IsCount, IsMarked, IsSession, rowOf, RowFits};
+ghost use Rattle.tables.specs.Reading.{wordFrom, byte as byteOf, count as countOf, wordWithin, wordRow, markedRow, sessionRow, doneRow};
+ghost use Rattle.tables.specs.code.Reads.{Reads, Is, IsCount, IsMarked, IsSession, IsDeed, rowOf, RowFits};
 use crate::Row;
 use crate::Step;
 use answers::Refusal;
@@ -143,4 +143,28 @@ pub fn session_row(bytes: &[u8], at: usize, users: u64, n: u64) -> Step
         return Step::Stopped(Refusal::NoSuchItem);
     }
     word_within(bytes, at + 1, n)
+}
+
+// A row of Done: user, operation and object are the bytes at `at`, behind it and behind that; the value is the user.
+pub fn done_row(bytes: &[u8], at: usize, users: u64, operations: u64, objects: u64) -> Step
+    requires { ⌜ at ≤ length (now bytes) ⌝ }
+    ensures { λ r. ⌜ Reads (now (bytes .entry)) (IsDeed (now (bytes .entry)) at) r (doneRow users operations objects (drop at (now (bytes .entry)))) ⌝ }
+{
+    if bytes.len() - at < 3 {
+        return Step::Stopped(Refusal::CutShort);
+    }
+    let user = wide(bytes[at]);
+    if users <= user {
+        return Step::Stopped(Refusal::NoSuchItem);
+    }
+    if operations <= wide(bytes[at + 1]) {
+        return Step::Stopped(Refusal::NoSuchItem);
+    }
+    if objects <= wide(bytes[at + 2]) {
+        return Step::Stopped(Refusal::NoSuchItem);
+    }
+    Step::Took {
+        value: user,
+        next: at + 3,
+    }
 }

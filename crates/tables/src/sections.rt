@@ -1,14 +1,15 @@
-// The nine sections, read front to back, each stored in its 64 words as it is read.
+// The ten sections, read front to back, each stored in its 64 words as it is read.
 // Where a section is stored, the layout says.
 ghost use mathlib.Core.Path.{_≡_};
 ghost use Prim.Native.Nat.{_+_, _*_, _≤_, _<_};
-ghost use lib.ListN.{length, drop};
+ghost use lib.ListN.{length, getD, drop};
 ghost use Rattle.tables.specs.Flat.{room, wholeLength};
-ghost use Rattle.tables.specs.Reading.{wordRow, userRow, sessionRow, rows as rowsOf, section as sectionOf};
+ghost use Rattle.tables.specs.Reading.{wordRow, userRow, sessionRow, doneRow, rows as rowsOf, section as sectionOf};
 ghost use Rattle.tables.specs.Reading.{permissions as permissionsOf, rights as rightsOf};
 ghost use Rattle.tables.specs.Reading.{collections as collectionsOf, sections as sectionsOf};
 ghost use Rattle.tables.specs.code.Layout.{Whole, roleCountAt, roleRowsAt, userCountAt, sessionCountAt};
-ghost use Rattle.tables.specs.code.Reads.{Reads, rowOf, RowFits, rowsFrom, putUsers, putSessions, RowsAt, SectionAt};
+ghost use Rattle.tables.specs.code.Layout.{operationCountAt, objectCountAt, doneCountAt};
+ghost use Rattle.tables.specs.code.Reads.{Reads, rowOf, RowFits, rowsFrom, putUsers, putSessions, deedAt, withDeed, putDeeds, RowsAt, SectionAt};
 ghost use Rattle.tables.specs.code.Reads.{withNames, PermissionsAt, RightsAt, CollectionsAt, Filled};
 use crate::Row;
 use crate::Step;
@@ -18,6 +19,10 @@ use crate::layout::CR;
 use crate::layout::CR_COUNT;
 use crate::layout::CU;
 use crate::layout::CU_COUNT;
+use crate::layout::DONE_COUNT;
+use crate::layout::DONE_OBJECTS;
+use crate::layout::DONE_OPERATIONS;
+use crate::layout::DONE_USERS;
 use crate::layout::OBJECT_COUNT;
 use crate::layout::OBJECT_ROWS;
 use crate::layout::OPERATION_COUNT;
@@ -36,6 +41,7 @@ use crate::rows::ENTERED;
 use crate::rows::LEFT;
 use crate::rows::byte;
 use crate::rows::count;
+use crate::rows::done_row;
 use crate::rows::marked_row;
 use crate::rows::row;
 use crate::rows::session_row;
@@ -119,6 +125,49 @@ pub fn session_rows(
         };
         words[SESSION_USERS + i] = item(bytes[from] as usize);
         words[SESSION_ROLES + i] = value;
+        from = next;
+        i += 1;
+    }
+    Step::Took {
+        value: n as u64,
+        next: from,
+    }
+}
+
+// Stores the row of Done that begins at `from` as row i: its user, object and operation as words of one item.
+pub fn store_deed(bytes: &[u8], from: usize, words: &mut [u64], i: usize)
+    requires { ⌜ from + 3 ≤ length (now bytes) ⌝ }
+    requires { ⌜ (i < room) × Whole (now words) ⌝ }
+    ensures { λ _. ⌜ now (words .exit) ≡ withDeed (now (words .entry)) i (deedAt (now (bytes .entry)) from) ⌝ }
+{
+    words[DONE_USERS + i] = item(bytes[from] as usize);
+    words[DONE_OBJECTS + i] = item(bytes[from + 2] as usize);
+    words[DONE_OPERATIONS + i] = item(bytes[from + 1] as usize);
+}
+
+// The rows of Done, each stored as it is read.
+pub fn done_rows(
+    bytes: &[u8],
+    at: usize,
+    n: usize,
+    users: u64,
+    operations: u64,
+    objects: u64,
+    words: &mut [u64],
+) -> Step
+    requires { ⌜ at ≤ length (now bytes) ⌝ }
+    requires { ⌜ n ≤ room ⌝ }
+    requires { ⌜ Whole (now words) ⌝ }
+    ensures { λ r. ⌜ Reads (now (bytes .entry)) (RowsAt putDeeds (now (words .entry)) (now (words .exit)) n) r (rowsOf (doneRow users operations objects) n (drop at (now (bytes .entry)))) ⌝ }
+{
+    let mut from = at;
+    let mut i: usize = 0;
+    while i < n {
+        let row = done_row(bytes, from, users, operations, objects);
+        let Step::Took { value: _, next } = row else {
+            return row;
+        };
+        store_deed(bytes, from, words, i);
         from = next;
         i += 1;
     }
@@ -285,7 +334,31 @@ pub fn collections(
     section(bytes, j, Row::Plain(permissions), words, CP_COUNT, CP)
 }
 
-// All nine sections.
+// Section 10, where the counts of operations and objects are stored.
+pub fn done(bytes: &[u8], at: usize, users: u64, words: &mut [u64]) -> Step
+    requires { ⌜ at ≤ length (now bytes) ⌝ }
+    requires { ⌜ Whole (now words) ⌝ }
+    ensures { λ r. ⌜ Reads (now (bytes .entry)) (SectionAt putDeeds doneCountAt (now (words .entry)) (now (words .exit))) r (sectionOf (λ n. doneRow users (getD (now (words .entry)) operationCountAt 0) (getD (now (words .entry)) objectCountAt 0)) (drop at (now (bytes .entry)))) ⌝ }
+{
+    let read = count(bytes, at, 64);
+    let Step::Took { value, next } = read else {
+        return read;
+    };
+    let operations = words[OPERATION_COUNT];
+    let objects = words[OBJECT_COUNT];
+    words[DONE_COUNT] = value;
+    done_rows(
+        bytes,
+        next,
+        value as usize,
+        users,
+        operations,
+        objects,
+        words,
+    )
+}
+
+// All ten sections.
 pub fn sections(bytes: &[u8], words: &mut [u64]) -> Step
     requires { ⌜ Whole (now words) ⌝ }
     ensures { λ r. ⌜ Reads (now (bytes .entry)) (Filled (now (words .entry)) (now (words .exit))) r (sectionsOf (now (bytes .entry))) ⌝ }
@@ -306,5 +379,9 @@ pub fn sections(bytes: &[u8], words: &mut [u64]) -> Step
     let Step::Took { value: p, next: l } = fourth else {
         return fourth;
     };
-    collections(bytes, l, r, u, p, words)
+    let fifth = collections(bytes, l, r, u, p, words);
+    let Step::Took { value: _, next: m } = fifth else {
+        return fifth;
+    };
+    done(bytes, m, u, words)
 }

@@ -2,7 +2,7 @@
 -- there are is counting among the 64 items of a word. Assumes nothing.
 use mathlib.Core.Path.{_≡_, refl, sym, ap, _∙_}
 use mathlib.Core.Bool.{Bool, true, false, _&&_, _||_, not}
-use mathlib.Core.List.{List, [], _∷_, _++_, append-assoc}
+use mathlib.Core.List.{List, [], _∷_, _++_, append-assoc, append-nil}
 use mathlib.Core.Logic.{⊎-elim}
 use mathlib.Core.Option.{Option, none, some}
 use Prim.Native.Nat.{ℕ, zero, suc, _+_, _^_, _<_, _≤_}
@@ -14,7 +14,7 @@ use lib.ListN.{length, getD, length-append}
 use lib.Seq.{getD-append-seam}
 use borrow.Author.Tests.{eqb-true}
 use Rattle.words.specs.Words.{has, allOf, itemOf, meetOf, joinOf, lessOf}
-use Rattle.words.proofs.WordsLaws.{has-in, and-true, all-lt}
+use Rattle.words.proofs.WordsLaws.{has-in, and-true, all-lt, word-holds}
 use Rattle.tables.specs.Tables.{Tables}
 use Rattle.tables.specs.Accepted.{Below, Passes}
 use Rattle.tables.proofs.PresentLaws.{present-is, present-lt, present-word}
@@ -34,24 +34,24 @@ use Rattle.values.specs.Values.{opValue, twoValue, variableOf, itemIn, o
 use Rattle.values.specs.Items.{sortItems, kindItems}
 use Rattle.values.specs.Sets.{setOf, itemsOfKind, itemsOf, inSet, TakesPresent}
 use Rattle.values.proofs.VariableLaws.{variable-digit, variable-at, variable-more}
-use Rattle.values.proofs.InsideLaws.{Among, of-those, among-all, row-inside, permissions-few, call-among, call2-among}
+use Rattle.values.proofs.InsideLaws.{Among, among-all, row-inside, permissions-few, call-among, call2-among}
 
 -- Which items a word has by its making.
 item-among : (u i : ℕ) → has u i ≡ true → Among u (itemOf i)
 unfolding itemOf
-item-among u i l x h = ap (has u) (eqb-true x i (of-those (λ j. eqb j i) x h)) ∙ l
+item-among u i l x h = ap (has u) (eqb-true x i (word-holds 64 (λ j. eqb j i) x h)) ∙ l
 
 less-among : (u v w : ℕ) → Among u v → Among u (lessOf v w)
 unfolding lessOf
-less-among u v w f x h = f x (and-true (has v x) (not (has w x)) (of-those (λ i. has v i && not (has w i)) x h) .0)
+less-among u v w f x h = f x (and-true (has v x) (not (has w x)) (word-holds 64 (λ i. has v i && not (has w i)) x h) .0)
 
 meet-among : (u v w : ℕ) → Among u v → Among u (meetOf v w)
 unfolding meetOf
-meet-among u v w f x h = f x (and-true (has v x) (has w x) (of-those (λ i. has v i && has w i) x h) .0)
+meet-among u v w f x h = f x (and-true (has v x) (has w x) (word-holds 64 (λ i. has v i && has w i) x h) .0)
 
 join-among : (u v w : ℕ) → Among u v → Among u w → Among u (joinOf v w)
 unfolding joinOf
-join-among u v w f g x h = go (has v x) refl (of-those (λ i. has v i || has w i) x h)
+join-among u v w f g x h = go (has v x) refl (word-holds 64 (λ i. has v i || has w i) x h)
   where
     go : (t : Bool) → has v x ≡ t → (t || has w x) ≡ true → has u x ≡ true
     go true e q = f x e
@@ -119,6 +119,17 @@ module _ (T : Tables) where
       go : (b : Bool) → _≡_ {A = Option Kind} (elim b [ true ↦ some (set (ρ .gives)) | false ↦ none ]) (some m) → kindItems T m ≡ sortItems T (ρ .gives)
       go true q = let p : set (ρ .gives) ≡ m = cc in rw (← p)
       go false q = let z : _≡_ {A = ℕ} 0 1 = cc in absurd (omega arith)
+
+  -- The first of the two terms of a call has items of the sort that it takes.
+  pub call2-first : (ρ : Row) (k l m : Kind) → call2Kind ρ k l ≡ some m → kindItems T k ≡ sortItems T (ρ .first)
+  unfolding call2Kind kindItems
+  call2-first ρ k l m e = go (Kind≟ (asSet k) (set (ρ .first))) e
+    where
+      go : (q : Dec (asSet k ≡ set (ρ .first)))
+          → _≡_ {A = Option Kind} (elim (holds q && holds (Kind≟ l (element (ρ .second)))) [ true ↦ some (set (ρ .gives)) | false ↦ none ]) (some m)
+          → kindItems T k ≡ sortItems T (ρ .first)
+      go (yes p) q = sym (set-items k) ∙ ap (kindItems T) p
+      go (no n) q = let z : _≡_ {A = ℕ} 0 1 = cc in absurd (omega arith)
 
 -- The words of a collection have items of their sort.
 words-among : (rows ws : List ℕ) → length rows ≤ 64 → Below (length rows) ws → (x : ℕ) → Among (allOf (length rows)) (getD ws x 0)
@@ -231,6 +242,12 @@ full-items : (T : Tables) → Passes T → (ρ : Rule) (c : List ℕ)
 full-items T pass ρ c h v l =
     all-good T pass (ruleVars [] ρ) c (full-at (inSet T (ruleVars [] ρ)) c (length (ruleVars [] ρ)) h) [] (ruleVars [] ρ) refl (rule-ordered [] ρ tt)
     (λ u m. absurd (omega arith)) v l
+
+-- So a term whose choices are all among the rule's variables is in range.
+pub full-ranged : (T : Tables) (pass : Passes T) (ρ : Rule) (c : List ℕ)
+    → fullOn (inSet T (ruleVars [] ρ)) (variables (length (ruleVars [] ρ))) c ≡ true
+    → (t : Term) → Known (ruleVars [] ρ) t → Ranged T pass (ruleVars [] ρ) c t
+full-ranged T pass ρ c h = known-ranged T pass (ruleVars [] ρ) c (ruleVars [] ρ) [] (append-nil (ruleVars [] ρ)) (full-items T pass ρ c h)
 
 -- Document 02, N6: a variable whose set is of users never takes one who left.
 pub full-present : (T : Tables) → Passes T → (ρ : Rule) (c : List ℕ)

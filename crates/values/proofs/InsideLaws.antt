@@ -11,17 +11,20 @@ use native.Mathlib.Omega.{arith}
 use lib.Dec.{eqb, ltb}
 use lib.ListN.{length, getD, List·getD-eq-default}
 use borrow.Author.Tests.{eqb-true, ltb-true, lt-ltb}
-use Rattle.words.specs.Words.{has, anyTo, allOf}
-use Rattle.words.proofs.WordsLaws.{has-out, has-zero, has-all, word-has, and-true, any-witness}
+use Rattle.words.specs.Words.{has, allOf}
+use Rattle.words.specs.Relations.{Relation, reach, back, composed}
+use Rattle.words.proofs.WordsLaws.{has-out, has-zero, has-all, and-true, any-witness}
+use Rattle.words.proofs.RelationLaws.{some-of, reached-from}
 use Rattle.tables.specs.Tables.{Tables, presentUsers, userRows, sessionUsers, sessionRoles}
 use Rattle.tables.specs.Accepted.{Fits, Below, Bounded, Passes}
-use Rattle.tables.proofs.FitsLaws.{active-below}
+use Rattle.tables.proofs.FitsLaws.{active-below, deeds-below}
 use Rattle.tables.proofs.PresentLaws.{present-word}
 use Rattle.tables.proofs.LeaverLaws.{role-present, session-present}
-use Rattle.tables.specs.Functions.{dominates, assigned, active, heldBy, sessionOf, those, someIn, isPermission, userOfSessions, userOfRoles}
-use Rattle.tables.specs.Functions.{rolesOfUsers, rolesOfSessions, rolesOfPermissions, juniorsOfUsers, juniorsOfSessions, seniorsOfPermissions}
-use Rattle.tables.specs.Functions.{sessionsOfUsers, permissionsOfRoles, permissionsOfJuniors, objectsOfPermissions, operationsOn}
-use Rattle.syntax.specs.Term.{Fn, user, roles, roles*, sessions, permissions, permissions*, object, Fn2, operations}
+use Rattle.tables.specs.Functions.{dominates, assigned, active, heldBy, sessionOf, isPermission, onObject, may, doneRowIs, did, onSome}
+use Rattle.tables.specs.Functions.{userOfSessions, userOfRoles, rolesOfUsers, rolesOfSessions, rolesOfPermissions, juniorsOfUsers, juniorsOfSessions}
+use Rattle.tables.specs.Functions.{seniorsOfPermissions, sessionsOfUsers, permissionsOfRoles, permissionsOfJuniors, objectsOfPermissions, operationsOn, doneBy}
+use Rattle.functions.proofs.DoneLaws.{row-says}
+use Rattle.syntax.specs.Term.{Fn, user, roles, roles*, sessions, permissions, permissions*, object, Fn2, operations, done}
 use Rattle.rules.specs.Kind.{Kind, sU, sR, sP, makes, row}
 use Rattle.values.specs.Values.{ofSort, if, callValue, call2Value}
 use Rattle.values.specs.Items.{sortItems}
@@ -55,19 +58,24 @@ row-there rows i x h = go (decLt i (length rows))
         let past : length rows ≤ i = omega arith in
         absurd (true≢false (sym h ∙ ap (λ (w : ℕ). has w x) (List·getD-eq-default rows 0 past) ∙ has-zero x))
 
--- What is in the word of those that have f has f; and that there is one of w with f means one.
-pub of-those : (f : ℕ → Bool) (x : ℕ) → has (those f) x ≡ true → f x ≡ true
-of-those f x h = and-true (ltb x 64) (f x) (sym (word-has 64 f x) ∙ h) .1
+-- What a relation gives is below n; then so is what is reached along it,
+abbrev Gives : ℕ → Relation → Type 0
+Gives n R = (i x : ℕ) → R i x ≡ true → x < n
 
-pub record Witness (f : ℕ → Bool) : Type 0 where
-  pub item : ℕ
-  pub has-it : f item ≡ true
+inside : (n : ℕ) (R : Relation) (w : ℕ) → Gives n R → Inside n (reach R w)
+inside n R w g x h = let (i, _, r) = reached-from R w x h in g i x r
 
-one-in : (w : ℕ) (f : ℕ → Bool) → someIn w f ≡ true → Witness f
-one-in w f h = let q = any-witness 64 (λ i. has w i && f i) h in record { item = q .0; has-it = and-true (has w (q .0)) (f (q .0)) (q .2) .1 }
+-- what is given behind another relation,
+composed-gives : (n : ℕ) (R Q : Relation) → Gives n Q → Gives n (composed R Q)
+composed-gives n R Q g i x h = let (j, _, q) = any-witness 64 (λ j. R i j && Q j x) h in g j x (and-true (R i j) (Q j x) q .1)
 
-one-of : (f : ℕ → Bool) → anyTo 64 f ≡ true → Witness f
-one-of f h = let q = any-witness 64 f h in record { item = q .0; has-it = q .2 }
+-- and what is done on some object.
+some-gives : (n o : ℕ) (does : ℕ → ℕ → ℕ → Bool) → ((i a b : ℕ) → does i a b ≡ true → a < n) → Gives n (onSome o does)
+some-gives n o does g i a h = let (b, _, d) = some-of o (does i a) h in g i a b d
+
+-- Rows give items that are there, forth where they are held to n items, and back.
+back-gives : (rows : List ℕ) → Gives (length rows) (λ x i. has (getD rows i 0) x)
+back-gives rows x i h = row-there rows i x h
 
 module _ (T : Tables) (pass : Passes T) (w : ℕ) where
   fits : Fits T
@@ -76,76 +84,65 @@ module _ (T : Tables) (pass : Passes T) (w : ℕ) where
   b : Bounded T
   b = pass .sound .bounded
 
+  abbrev roleCount : ℕ
+  roleCount = length (T .roleRows)
+
   -- A function that gives users gives none who left.
   pub users-of-sessions : Among (presentUsers T) (userOfSessions T w)
   unfolding userOfSessions
   users-of-sessions u h =
-      let q = one-in w (λ s. sessionOf T s u) (of-those (λ u. someIn w (λ s. sessionOf T s u)) u h) in
-      present-word (T .users) u (fits .users) (session-present T pass u (q .item) (q .has-it))
+      let (s, _, q) = reached-from (sessionOf T) w u h in
+      present-word (T .users) u (fits .users) (session-present T pass u s q)
 
   pub users-of-roles : Among (presentUsers T) (userOfRoles T w)
   unfolding userOfRoles
   users-of-roles u h =
-      let q = one-in w (λ r. assigned T u r) (of-those (λ u. someIn w (λ r. assigned T u r)) u h) in
-      present-word (T .users) u (fits .users) (role-present T pass u (q .item) (q .has-it))
+      let (r, _, q) = reached-from (back (assigned T)) w u h in
+      present-word (T .users) u (fits .users) (role-present T pass u r q)
 
-  roles-of-users : Inside (length (T .roleRows)) (rolesOfUsers T w)
+  juniors-give : (R : Relation) → Gives roleCount (composed R (dominates (T .roleRows)))
+  juniors-give R = composed-gives roleCount R (dominates (T .roleRows)) (row-inside roleCount (T .roleRows) (b .roles))
+
+  roles-of-users : Inside roleCount (rolesOfUsers T w)
   unfolding rolesOfUsers
-  roles-of-users r h =
-      let q = one-in w (λ u. assigned T u r) (of-those (λ r. someIn w (λ u. assigned T u r)) r h) in
-      row-inside (length (T .roleRows)) (userRows T) (b .users) (q .item) r (q .has-it)
+  roles-of-users = inside roleCount (assigned T) w (row-inside roleCount (userRows T) (b .users))
 
-  roles-of-sessions : Inside (length (T .roleRows)) (rolesOfSessions T w)
+  roles-of-sessions : Inside roleCount (rolesOfSessions T w)
   unfolding rolesOfSessions
-  roles-of-sessions r h =
-      let q = one-in w (λ s. active T s r) (of-those (λ r. someIn w (λ s. active T s r)) r h) in
-      row-inside (length (T .roleRows)) (sessionRoles T) (active-below _ _ (T .sessions) (b .sessions)) (q .item) r (q .has-it)
+  roles-of-sessions = inside roleCount (active T) w (row-inside roleCount (sessionRoles T) (active-below _ _ (T .sessions) (b .sessions)))
 
-  roles-of-permissions : Inside (length (T .roleRows)) (rolesOfPermissions T w)
+  roles-of-permissions : Inside roleCount (rolesOfPermissions T w)
   unfolding rolesOfPermissions
-  roles-of-permissions r h =
-      let q = one-in w (λ p. heldBy T p r) (of-those (λ r. someIn w (λ p. heldBy T p r)) r h) in
-      row-inside (length (T .roleRows)) (T .permissionRows) (b .permissions) (q .item) r (q .has-it)
+  roles-of-permissions = inside roleCount (heldBy T) w (row-inside roleCount (T .permissionRows) (b .permissions))
 
-  juniors-of-users : Inside (length (T .roleRows)) (juniorsOfUsers T w)
+  juniors-of-users : Inside roleCount (juniorsOfUsers T w)
   unfolding juniorsOfUsers
-  juniors-of-users r h =
-      let q = one-in w (λ u. anyTo 64 (λ q. assigned T u q && dominates (T .roleRows) q r)) (of-those (λ r. someIn w (λ u. anyTo 64 (λ q. assigned T u q && dominates (T .roleRows) q r))) r h) in
-      let p = one-of (λ k. assigned T (q .item) k && dominates (T .roleRows) k r) (q .has-it) in
-      row-inside (length (T .roleRows)) (T .roleRows) (b .roles) (p .item) r (and-true (assigned T (q .item) (p .item)) (dominates (T .roleRows) (p .item) r) (p .has-it) .1)
+  juniors-of-users = inside roleCount _ w (juniors-give (assigned T))
 
-  juniors-of-sessions : Inside (length (T .roleRows)) (juniorsOfSessions T w)
+  juniors-of-sessions : Inside roleCount (juniorsOfSessions T w)
   unfolding juniorsOfSessions
-  juniors-of-sessions r h =
-      let q = one-in w (λ s. anyTo 64 (λ q. active T s q && dominates (T .roleRows) q r)) (of-those (λ r. someIn w (λ s. anyTo 64 (λ q. active T s q && dominates (T .roleRows) q r))) r h) in
-      let p = one-of (λ k. active T (q .item) k && dominates (T .roleRows) k r) (q .has-it) in
-      row-inside (length (T .roleRows)) (T .roleRows) (b .roles) (p .item) r (and-true (active T (q .item) (p .item)) (dominates (T .roleRows) (p .item) r) (p .has-it) .1)
+  juniors-of-sessions = inside roleCount _ w (juniors-give (active T))
 
-  seniors-of-permissions : Inside (length (T .roleRows)) (seniorsOfPermissions T w)
+  seniors-of-permissions : Inside roleCount (seniorsOfPermissions T w)
   unfolding seniorsOfPermissions
-  seniors-of-permissions r h =
-      let q = one-in w (λ p. anyTo 64 (λ k. heldBy T p k && dominates (T .roleRows) r k)) (of-those (λ r. someIn w (λ p. anyTo 64 (λ k. heldBy T p k && dominates (T .roleRows) r k))) r h) in
-      let p = one-of (λ k. heldBy T (q .item) k && dominates (T .roleRows) r k) (q .has-it) in
-      row-there (T .roleRows) r (p .item) (and-true (heldBy T (q .item) (p .item)) (dominates (T .roleRows) r (p .item)) (p .has-it) .1)
+  seniors-of-permissions =
+      inside roleCount _ w (composed-gives roleCount (heldBy T) (back (dominates (T .roleRows))) (back-gives (T .roleRows)))
 
   sessions-of-users : Inside (length (T .sessions)) (sessionsOfUsers T w)
   unfolding sessionsOfUsers
-  sessions-of-users s h =
-      let q = one-in w (λ u. sessionOf T s u) (of-those (λ s. someIn w (λ u. sessionOf T s u)) s h) in
-      ltb-true s (length (T .sessions)) (and-true (ltb s (length (T .sessions))) (eqb (getD (sessionUsers T) s 0) (q .item)) (q .has-it) .0)
+  sessions-of-users =
+      inside (length (T .sessions)) (back (sessionOf T)) w (λ u s h.
+      ltb-true s (length (T .sessions)) (and-true (ltb s (length (T .sessions))) (eqb (getD (sessionUsers T) s 0) u) h .0))
 
   permissions-of-roles : Inside (length (T .permissionRows)) (permissionsOfRoles T w)
   unfolding permissionsOfRoles
-  permissions-of-roles p h =
-      let q = one-in w (λ r. heldBy T p r) (of-those (λ p. someIn w (λ r. heldBy T p r)) p h) in
-      row-there (T .permissionRows) p (q .item) (q .has-it)
+  permissions-of-roles = inside (length (T .permissionRows)) (back (heldBy T)) w (back-gives (T .permissionRows))
 
   permissions-of-juniors : Inside (length (T .permissionRows)) (permissionsOfJuniors T w)
   unfolding permissionsOfJuniors
-  permissions-of-juniors p h =
-      let q = one-in w (λ r. anyTo 64 (λ k. dominates (T .roleRows) r k && heldBy T p k)) (of-those (λ p. someIn w (λ r. anyTo 64 (λ k. dominates (T .roleRows) r k && heldBy T p k))) p h) in
-      let k = one-of (λ k. dominates (T .roleRows) (q .item) k && heldBy T p k) (q .has-it) in
-      row-there (T .permissionRows) p (k .item) (and-true (dominates (T .roleRows) (q .item) (k .item)) (heldBy T p (k .item)) (k .has-it) .1)
+  permissions-of-juniors =
+      inside (length (T .permissionRows)) _ w
+      (composed-gives (length (T .permissionRows)) (dominates (T .roleRows)) (back (heldBy T)) (back-gives (T .permissionRows)))
 
   -- What a permission is: its number is there, and so is its object.
   abbrev Parts : ℕ → ℕ → ℕ → Type 0
@@ -159,29 +156,34 @@ module _ (T : Tables) (pass : Passes T) (w : ℕ) where
 
   objects-of-permissions : Inside (T .objectCount) (objectsOfPermissions T w)
   unfolding objectsOfPermissions
-  objects-of-permissions o h =
-      let q = one-in w (λ p. anyTo 64 (λ a. isPermission T p a o)) (of-those (λ o. someIn w (λ p. anyTo 64 (λ a. isPermission T p a o))) o h) in
-      let p = one-of (λ a. isPermission T (q .item) a o) (q .has-it) in
-      parts (q .item) (p .item) o (p .has-it) .1
+  objects-of-permissions =
+      inside (T .objectCount) (onObject T) w (λ p o h. let (a, _, q) = any-witness 64 (λ a. isPermission T p a o) h in parts p a o q .1)
+
+  operation-there : (p a o : ℕ) → Parts p a o → Dec (a < T .operationCount) → a < T .operationCount
+  operation-there p a o e (yes l) = l
+  operation-there p a o e (no l) =
+      let more : T .operationCount * T .objectCount ≤ a * T .objectCount = mul-le-mul-right (T .objectCount) (omega arith) in
+      absurd (omega (arith, e .0, e .2, fits .permissions, more))
 
   operations-on : (v : ℕ) → Inside (T .operationCount) (operationsOn T w v)
   unfolding operationsOn
-  operations-on v a h =
-      let q = one-in w (λ r. someIn v (λ o. anyTo 64 (λ p. isPermission T p a o && heldBy T p r)))
-      (of-those (λ a. someIn w (λ r. someIn v (λ o. anyTo 64 (λ p. isPermission T p a o && heldBy T p r)))) a h) in
-      let o = one-in v (λ o. anyTo 64 (λ p. isPermission T p a o && heldBy T p (q .item))) (q .has-it) in
-      let p = one-of (λ p. isPermission T p a (o .item) && heldBy T p (q .item)) (o .has-it) in
-      go (p .item) (o .item) (parts (p .item) a (o .item) (and-true (isPermission T (p .item) a (o .item)) (heldBy T (p .item) (q .item)) (p .has-it) .0)) (decLt a (T .operationCount))
-    where
-      go : (p o : ℕ) → Parts p a o → Dec (a < T .operationCount) → a < T .operationCount
-      go p o e (yes l) = l
-      go p o e (no l) =
-          let more : T .operationCount * T .objectCount ≤ a * T .objectCount = mul-le-mul-right (T .objectCount) (omega arith) in
-          absurd (omega (arith, e .0, e .2, fits .permissions, more))
+  operations-on v =
+      inside (T .operationCount) _ w (some-gives (T .operationCount) v (may T) (λ r a o h.
+      let (p, _, q) = any-witness 64 (λ p. isPermission T p a o && heldBy T p r) h in
+      operation-there p a o (parts p a o (and-true (isPermission T p a o) (heldBy T p r) q .0)) (decLt a (T .operationCount))))
+
+  done-by : (v : ℕ) → Inside (T .operationCount) (doneBy T w v)
+  unfolding doneBy
+  done-by v =
+      inside (T .operationCount) _ w (some-gives (T .operationCount) v (did T) (λ u a o h.
+      let (k, _, q) = any-witness 64 (λ k. doneRowIs T k u a o) h in
+      let (row, _, what, _) = row-says T k u a o q in
+      rw what at (deeds-below _ _ _ (T .done) (b .done) k row)))
 
   pub call2-among : (f : Fn2) (v : ℕ) → Among (sortItems T (row f .gives)) (call2Value T f w v)
   unfolding sortItems row call2Value
   call2-among operations v = among-all (T .operationCount) (operationsOn T w v) (omega (arith, fits .operations)) (operations-on v)
+  call2-among done v = among-all (T .operationCount) (doneBy T w v) (omega (arith, fits .operations)) (done-by v)
 
   pub permissions-few : length (T .permissionRows) ≤ 64
   permissions-few = omega (arith, fits .permissions, mul-le-mul (fits .operations) (fits .objects))

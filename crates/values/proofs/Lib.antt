@@ -7,8 +7,11 @@ pub mod ValueLaws
 pub mod TruthLaws
 pub mod ClausesLaws
 pub mod ScopeLaws
+pub mod CallLaws
 pub mod InsideLaws
 pub mod BoundLaws
+pub mod AlikeLaws
+pub mod DoneLaws
 pub mod NamesLaws
 pub mod ItemLaws
 pub mod CeilingLaws

@@ -12,7 +12,7 @@ use lib.ListN.{length, getD, length-append}
 use borrow.Author.Tests.{eq-eqb, ne-eqb}
 use Rattle.syntax.specs.Bytes.{Bytes, ascii, isGot, onlyIf, skip, begins}
 use Rattle.syntax.specs.Term.{Base, bU, bR, bOP, bOBJ, bP, bS, bCR, bCP, bCU, Fn, user, roles, roles*, sessions, permissions, permissions*}
-use Rattle.syntax.specs.Term.{object, operations, meet, join, calls, joins, Term, base, call, oe, ao, two, Term≟, Choices, digitFrom, digit}
+use Rattle.syntax.specs.Term.{object, operations, done, meet, join, calls, joins, Term, base, call, oe, ao, two, Term≟, Choices, digitFrom, digit}
 use Rattle.syntax.specs.Term.{isBase, isCall, isCall2, isBracket, spell, spellMiddle, opening, parting, text, oeText, aoText}
 use Rattle.syntax.specs.Rule.{Rule, ruleVars}
 use Rattle.syntax.proofs.Closed.{In, Known, Ordered, text-more, rule-ordered}
@@ -134,6 +134,7 @@ module _ (σ ys : Choices) (few : length σ ≤ choicesLimit) (u : ℕ) where
   written (oe a) k r = let n = numbered a (k .0) in one a (digit σ a) (n .0) (n .1) r
   written (ao a) k r = let n = numbered a (k .0) in others a (written a (k .1)) (digit σ a) (n .0) (n .1) r
   written (two (calls operations) a b) k r = pair (spell (isCall2 operations)) 44 a b (λ s. refl) (λ s. refl) (written a (k .0)) (written b (k .1)) r
+  written (two (calls done) a b) k r = pair (spell (isCall2 done)) 44 a b (λ s. refl) (λ s. refl) (written a (k .0)) (written b (k .1)) r
   written (two (joins meet) a b) k r = pair (spell isBracket) 38 a b (λ s. refl) (λ s. refl) (written a (k .0)) (written b (k .1)) r
   written (two (joins join) a b) k r = pair (spell isBracket) 43 a b (λ s. refl) (λ s. refl) (written a (k .0)) (written b (k .1)) r
 

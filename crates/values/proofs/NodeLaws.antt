@@ -10,7 +10,7 @@ use lib.Dec.{eqb}
 use lib.ListN.{length, getD}
 use borrow.Author.Tests.{eq-eqb, ne-eqb}
 use Rattle.syntax.specs.Term.{Base, bU, bR, bOP, bOBJ, bP, bS, bCR, bCP, bCU, Fn, user, roles, roles*, sessions, permissions}
-use Rattle.syntax.specs.Term.{permissions*, object, operations, meet, join, Term, base, call, oe, ao, two, Term≟, Choices, Pair, calls, joins}
+use Rattle.syntax.specs.Term.{permissions*, object, operations, done, meet, join, Term, base, call, oe, ao, two, Term≟, Choices, Pair, calls, joins}
 use Rattle.syntax.specs.code.Arena.{baseOp, fnOp, twoOp, Holds, HoldsAll, Tidy}
 use Rattle.syntax.specs.code.Nodes.{firstCall, oeOp, aoOp, firstPair, memberOp, firstEmpty, firstCounted, opAt, leftAt, rightAt}
 use Rattle.values.specs.Values.{variableOf}
@@ -45,6 +45,7 @@ fn-at object = refl
 pair-at : (o : Pair) → pairAt (twoOp o) ≡ o
 unfolding pairAt twoOp
 pair-at (calls operations) = refl
+pair-at (calls done) = refl
 pair-at (joins meet) = refl
 pair-at (joins join) = refl
 

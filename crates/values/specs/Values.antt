@@ -9,8 +9,8 @@ use Rattle.words.specs.Words.{itemOf, meetOf, joinOf, lessOf}
 use Rattle.tables.specs.Tables.{Tables}
 use Rattle.tables.specs.Functions.{userOfSessions, userOfRoles, rolesOfUsers, rolesOfSessions, rolesOfPermissions, juniorsOfUsers}
 use Rattle.tables.specs.Functions.{juniorsOfSessions, seniorsOfPermissions, sessionsOfUsers, permissionsOfRoles, permissionsOfJuniors}
-use Rattle.tables.specs.Functions.{objectsOfPermissions, operationsOn}
-use Rattle.syntax.specs.Term.{Fn, user, roles, roles*, sessions, permissions, permissions*, object, Fn2, operations, Op, meet, join, Pair, calls, joins, Term, base, call, oe, ao, two, Term≟, Choices}
+use Rattle.tables.specs.Functions.{objectsOfPermissions, operationsOn, doneBy}
+use Rattle.syntax.specs.Term.{Fn, user, roles, roles*, sessions, permissions, permissions*, object, Fn2, operations, done, Op, meet, join, Pair, calls, joins, Term, base, call, oe, ao, two, Term≟, Choices}
 use Rattle.rules.specs.Kind.{Sort, Sort≟, sU, sR, sOP, sOBJ, sP, sS, CR, CP, CU, Kind, element, set, collection, holds, baseKind, kind}
 use Rattle.values.specs.Items.{kindItems}
 
@@ -38,6 +38,7 @@ callValue T object k w = objectsOfPermissions T w
 
 unfoldable pub call2Value : Tables → Fn2 → ℕ → ℕ → ℕ
 call2Value T operations v w = operationsOn T v w
+call2Value T done v w = doneBy T v w
 
 -- "`(term&term)` (intersection), `(term+term)` (union)"
 unfoldable pub opValue : Op → ℕ → ℕ → ℕ

@@ -1,6 +1,7 @@
 // The functions of Figure 2 by the number of their operation and the kind of their argument.
 use crate::items;
 use rules::kinds;
+use syntax::nodes::DONE;
 use syntax::nodes::MEET;
 use syntax::nodes::OPERATIONS;
 use syntax::nodes::PERMISSIONS;
@@ -92,6 +93,9 @@ pub fn two(t: &[u64], op: u32, v: u64, w: u64) -> u64
 {
     if op == OPERATIONS {
         return functions::operations_on(t, v, w);
+    }
+    if op == DONE {
+        return functions::done_by(t, v, w);
     }
     if op == MEET {
         return words::meet(v, w);

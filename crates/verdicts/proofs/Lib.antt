@@ -10,3 +10,4 @@ pub mod TurnLaws
 pub mod CountedLaws
 pub mod JudgedLaws
 pub mod ReportLaws
+pub mod AlikeLaws

@@ -12,6 +12,7 @@ use lib.Seq.{getD-set-other, getD-drop}
 use borrow.Author.Tests.{ltb-true, ltb-false, lt-ltb, le-ltb, leb-true, leb-false, le-leb, lt-leb, eqb-true, eqb-false}
 use Rattle.words.specs.Words.{gate, anyTo}
 use Rattle.words.proofs.WordsLaws.{any-ext, any-none}
+use Rattle.words.proofs.RelationLaws.{any-or, or-and}
 use Rattle.walks.specs.Choices.{Sets, each, ifBreaks}
 use Rattle.walks.specs.Walk.{walk}
 use Rattle.walks.specs.Meaning.{Every}
@@ -43,22 +44,6 @@ or-assoc false b c = refl
 or-not : (a b : Bool) → (not a || not b) ≡ not (a && b)
 or-not true b = refl
 or-not false b = refl
-
-or-and : (a b c : Bool) → ((a || b) && c) ≡ ((a && c) || (b && c))
-or-and true true true = refl
-or-and true true false = refl
-or-and true false c = sym (or-false c)
-or-and false b c = refl
-
-or-four : (a b c d : Bool) → ((a || b) || (c || d)) ≡ ((a || c) || (b || d))
-or-four true b c d = refl
-or-four false b true d = or-true b
-or-four false b false d = refl
-
-any-or : (n : ℕ) (f g : ℕ → Bool) → anyTo n (λ i. f i || g i) ≡ (anyTo n f || anyTo n g)
-unfolding anyTo
-any-or zero f g = refl
-any-or (suc n) f g = ap (λ (t : Bool). t || (f n || g n)) (any-or n f g) ∙ or-four (anyTo n f) (anyTo n g) (f n) (g n)
 
 -- the first number and those after it: clauses are counted from the front of a rule
 pub any-front : (n : ℕ) (f : ℕ → Bool) → anyTo (suc n) f ≡ (f 0 || anyTo n (λ i. f (suc i)))

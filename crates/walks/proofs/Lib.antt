@@ -4,6 +4,7 @@ pub mod PermLaws
 pub mod OnceLaws
 pub mod PruneLaws
 pub mod AmongLaws
+pub mod AlikeLaws
 pub mod FirstLaws
 pub mod OrderLaws
 pub mod TurnLaws

@@ -1,28 +1,95 @@
--- Laws of going from a set along a relation: image and preimage are two cases, and going twice is going along the composed relation.
+-- Laws of going from a set along a relation: it is the union over the members, image and preimage are two cases, and going twice is going along the composed relation.
 -- Assumes nothing.
-use mathlib.Core.Path.{_≡_, refl, sym, ap, _∙_}
-use mathlib.Core.Bool.{Bool, true, _&&_}
+use mathlib.Core.Path.{_≡_, refl, sym, ap, ap₂, _∙_}
+use mathlib.Core.Bool.{Bool, true, false, _&&_, _||_}
 use mathlib.Core.List.{List}
-use Prim.Native.Nat.{ℕ, _<_, _^_}
+use Prim.Native.Nat.{ℕ, zero, suc, _<_, _^_}
+use borrow.Author.Tests.{eqb-true, eq-eqb}
 use lib.ListN.{getD}
-use Rattle.words.specs.Words.{has, wordOf, anyTo, imageOf, preimageOf}
-use Rattle.words.proofs.WordsLaws.{word-ext, word-in, word-lt, both, and-true, and-both, and-comm, any-here, any-witness, any-ext}
+use Rattle.words.specs.Words.{has, wordOf, anyTo, itemOf, joinOf, imageOf, preimageOf}
+use Rattle.words.specs.Relations.{Relation, someIn, reach, composed, Unites}
+use Rattle.words.proofs.WordsLaws.{word-ext, word-in, word-holds, word-lt, both, and-true, and-both, and-comm, any-here, any-witness, any-ext, has-item, has-join}
 
--- The items below 64 that some item of w is related to.
-unfoldable pub reach : (ℕ → ℕ → Bool) → ℕ → ℕ
-reach R w = wordOf 64 (λ x. anyTo 64 (λ i. has w i && R i x))
+-- ---- some item of a word
 
-pub reach-ext : (R Q : ℕ → ℕ → Bool) (w : ℕ) → ((i x : ℕ) → i < 64 → x < 64 → R i x ≡ Q i x) → reach R w ≡ reach Q w
+-- Of the one item of a word.
+pub some-item : (i : ℕ) (g : ℕ → Bool) → i < 64 → someIn (itemOf i) g ≡ g i
+some-item i g l = both (someIn (itemOf i) g) (g i) there back
+  where
+    there : someIn (itemOf i) g ≡ true → g i ≡ true
+    there e =
+        let (j, lj, h) = any-witness 64 (λ j. has (itemOf i) j && g j) e in
+        let (p, q) = and-true (has (itemOf i) j) (g j) h in
+        rw (eqb-true j i (sym (has-item i j lj) ∙ p)) at q
+
+    back : g i ≡ true → someIn (itemOf i) g ≡ true
+    back e = any-here 64 (λ j. has (itemOf i) j && g j) i l (and-both (has-item i i l ∙ eq-eqb i i refl) e)
+
+-- Of a union: of the one or of the other.
+or-swap : (a b c d : Bool) → ((a || b) || (c || d)) ≡ ((a || c) || (b || d))
+or-swap true b c d = refl
+or-swap false true true d = refl
+or-swap false true false d = refl
+or-swap false false c d = refl
+
+pub any-or : (n : ℕ) (f g : ℕ → Bool) → anyTo n (λ i. f i || g i) ≡ (anyTo n f || anyTo n g)
+unfolding anyTo
+any-or zero f g = refl
+any-or (suc n) f g = ap (λ (b : Bool). b || (f n || g n)) (any-or n f g) ∙ or-swap (anyTo n f) (anyTo n g) (f n) (g n)
+
+pub or-and : (a b c : Bool) → ((a || b) && c) ≡ ((a && c) || (b && c))
+or-and true b true = refl
+or-and true true false = refl
+or-and true false false = refl
+or-and false b c = refl
+
+some-join : (v w : ℕ) (g : ℕ → Bool) → someIn (joinOf v w) g ≡ (someIn v g || someIn w g)
+some-join v w g =
+    any-ext 64 (λ i. has (joinOf v w) i && g i) (λ i. (has v i && g i) || (has w i && g i)) (λ i l.
+    ap (λ (b : Bool). b && g i) (has-join v w i l) ∙ or-and (has v i) (has w i) (g i))
+    ∙ any-or 64 (λ i. has v i && g i) (λ i. has w i && g i)
+
+-- Of an item that is there.
+pub some-of : (w : ℕ) (f : ℕ → Bool) → someIn w f ≡ true → (i : ℕ) × (has w i ≡ true) × (f i ≡ true)
+some-of w f e = let (i, l, h) = any-witness 64 (λ i. has w i && f i) e in let (m, q) = and-true (has w i) (f i) h in (i, m, q)
+
+-- ---- going along a relation
+
+pub has-reach : (R : Relation) (w x : ℕ) → x < 64 → has (reach R w) x ≡ someIn w (λ i. R i x)
 unfolding reach
-reach-ext R Q w h =
-    word-ext 64 (λ x. anyTo 64 (λ i. has w i && R i x)) (λ x. anyTo 64 (λ i. has w i && Q i x)) (λ x l.
-    any-ext 64 (λ i. has w i && R i x) (λ i. has w i && Q i x) (λ i k. ap (λ (b : Bool). has w i && b) (h i x k l)))
+has-reach R w = word-in 64 (λ x. someIn w (λ i. R i x))
 
--- Along R and then along Q.
-abbrev pub composed : (ℕ → ℕ → Bool) → (ℕ → ℕ → Bool) → ℕ → ℕ → Bool
-composed R Q i x = anyTo 64 (λ j. R i j && Q j x)
+-- What is reached is reached from an item that is there.
+pub reached-from : (R : Relation) (w x : ℕ) → has (reach R w) x ≡ true → (i : ℕ) × (has w i ≡ true) × (R i x ≡ true)
+unfolding reach
+reached-from R w x h = some-of w (λ i. R i x) (word-holds 64 (λ x. someIn w (λ i. R i x)) x h)
 
-pub reach-reach : (R Q : ℕ → ℕ → Bool) (w : ℕ) → reach Q (reach R w) ≡ reach (composed R Q) w
+-- It depends on what is related to the items that are there.
+pub reach-alike : (R Q : Relation) (w : ℕ) → ((i x : ℕ) → i < 64 → x < 64 → has w i ≡ true → R i x ≡ Q i x) → reach R w ≡ reach Q w
+unfolding reach
+reach-alike R Q w h =
+    word-ext 64 (λ x. someIn w (λ i. R i x)) (λ x. someIn w (λ i. Q i x)) (λ x l.
+    any-ext 64 (λ i. has w i && R i x) (λ i. has w i && Q i x) (λ i k. of-member (has w i) (h i x k l)))
+  where
+    of-member : (m : Bool) {a b : Bool} → (m ≡ true → a ≡ b) → (m && a) ≡ (m && b)
+    of-member true e = e refl
+    of-member false e = refl
+
+pub reach-ext : (R Q : Relation) (w : ℕ) → ((i x : ℕ) → i < 64 → x < 64 → R i x ≡ Q i x) → reach R w ≡ reach Q w
+reach-ext R Q w h = reach-alike R Q w (λ i x k l _. h i x k l)
+
+-- "on a set, the union over its members": so it is along every relation.
+pub unites : (R : Relation) → Unites (reach R)
+unfolding reach joinOf
+unites R =
+    record {
+      members = λ w. reach-ext R (λ i x. has (reach R (itemOf i)) x) w (λ i x k l.
+          sym (has-reach R (itemOf i) x l ∙ some-item i (λ i. R i x) k));
+      unions = λ v w. word-ext 64 (λ x. someIn (joinOf v w) (λ i. R i x)) (λ x. has (reach R v) x || has (reach R w) x) (λ x l.
+          some-join v w (λ i. R i x) ∙ sym (ap₂ (λ (a b : Bool). a || b) (has-reach R v x l) (has-reach R w x l)));
+    }
+
+pub reach-reach : (R Q : Relation) (w : ℕ) → reach Q (reach R w) ≡ reach (composed R Q) w
 unfolding reach
 reach-reach R Q w = word-ext 64 _ _ (λ x l. both (anyTo 64 (from x)) (anyTo 64 (to x)) (there x) (back x))
   where

@@ -152,6 +152,10 @@ pub and-true : (a b : Bool) → (a && b) ≡ true → (a ≡ true) × (b ≡ tru
 and-true true b e = (refl, e)
 and-true false b e = let z : _≡_ {A = ℕ} 0 1 = cc in absurd (omega arith)
 
+-- What is in the word of a test has passed it.
+pub word-holds : (n : ℕ) (f : ℕ → Bool) (i : ℕ) → has (wordOf n f) i ≡ true → f i ≡ true
+word-holds n f i h = and-true (ltb i n) (f i) (sym (word-has n f i) ∙ h) .1
+
 pub and-both : {a b : Bool} → a ≡ true → b ≡ true → (a && b) ≡ true
 and-both p q = rw (p, q)
 

@@ -1,2 +1,3 @@
--- Sets as words.
+-- Sets as words, and relations between their items.
 pub mod Words
+pub mod Relations

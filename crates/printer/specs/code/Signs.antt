@@ -5,7 +5,7 @@ use Prim.Native.Nat.{ℕ, _+_, _-_}
 use lib.ListN.{getD}
 use Rattle.syntax.specs.Bytes.{Bytes, ascii}
 use Rattle.syntax.specs.Term.{bU, bR, bOP, bOBJ, bP, bS, bCR, bCP, bCU, user, roles, roles*, sessions, permissions, permissions*, object}
-use Rattle.syntax.specs.Term.{isBase, isCall, isOE, isAO, calls, joins, operations, meet, join, opening, parting, spell}
+use Rattle.syntax.specs.Term.{isBase, isCall, isOE, isAO, calls, joins, operations, done, meet, join, opening, parting, spell}
 use Rattle.syntax.specs.Rule.{is, isnt, isIn, isSign, spellBetween, lt, le, gt, ge, eq, ne, spellCmp}
 use Rattle.syntax.specs.code.Nodes.{firstPair, whenOp}
 
@@ -15,7 +15,7 @@ cmpSigns = spellCmp lt ∷ spellCmp le ∷ spellCmp gt ∷ spellCmp ge ∷ spell
 
 -- What opens a term of two terms.
 unfoldable pub openings : List Bytes
-openings = spell (opening (calls operations)) ∷ spell (opening (joins meet)) ∷ spell (opening (joins join)) ∷ []
+openings = spell (opening (calls operations)) ∷ spell (opening (calls done)) ∷ spell (opening (joins meet)) ∷ spell (opening (joins join)) ∷ []
 
 -- By the operation's number; of those that make one term of two what parts the two. A count is compared with a number, and with a count.
 unfoldable pub signs : List Bytes
@@ -24,7 +24,7 @@ signs =
     ∷ spell (isBase bCR) ∷ spell (isBase bCP) ∷ spell (isBase bCU)
     ∷ spell (isCall user) ∷ spell (isCall roles) ∷ spell (isCall roles*) ∷ spell (isCall sessions) ∷ spell (isCall permissions)
     ∷ spell (isCall permissions*) ∷ spell (isCall object) ∷ spell isOE ∷ spell isAO
-    ∷ parting (calls operations) ∷ parting (joins meet) ∷ parting (joins join)
+    ∷ parting (calls operations) ∷ parting (calls done) ∷ parting (joins meet) ∷ parting (joins join)
     ∷ spellBetween isIn ∷ spellBetween (isSign is) ∷ spellBetween (isSign isnt) ∷ spellBetween (isSign is) ∷ spellBetween (isSign isnt)
     ∷ (cmpSigns ++ cmpSigns)
 

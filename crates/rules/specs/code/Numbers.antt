@@ -69,7 +69,9 @@ setNumber a = cond (ltb a firstSet) (a + firstSet) a
 
 -- The calls of two terms, a row for each: the kind of the first as a set, that of the second, that of the call.
 unfoldable pub pairTable : List ℕ
-pairTable = 7 ∷ 3 ∷ 8 ∷ []
+pairTable =
+    7 ∷ 3 ∷ 8
+    ∷ 6 ∷ 3 ∷ 8 ∷ []
 
 unfoldable pub call2Number : ℕ → ℕ → ℕ → ℕ
 call2Number o a b =

@@ -7,7 +7,7 @@ use Prim.Native.Nat.{ℕ, _+_, _<_, _≤_}
 use lib.Dec.{ltb, leb}
 use lib.ListN.{length, getD}
 use Rattle.syntax.specs.Term.{Base, bU, bR, bOP, bOBJ, bP, bS, bCR, bCP, bCU, Fn, user, roles, roles*, sessions, permissions}
-use Rattle.syntax.specs.Term.{permissions*, object, Fn2, operations, Op, meet, join, Pair, calls, joins, Term, base, call, oe, ao, two}
+use Rattle.syntax.specs.Term.{permissions*, object, Fn2, operations, done, Op, meet, join, Pair, calls, joins, Term, base, call, oe, ao, two}
 use Rattle.syntax.specs.Rule.{Cmp, lt, le, gt, ge, eq, ne, Sign, is, isnt, Count, number, count, Test, member, alike, empty, sized}
 use Rattle.syntax.specs.Rule.{Clause, plain, when, Rule, last, also}
 use Rattle.syntax.specs.code.Nodes.{firstCall, oeOp, aoOp, firstPair, firstJoin, memberOp, firstAlike, firstEmpty, firstNumbered, firstCounted, whenOp, alsoOp, opsEnd, operationOf, leftOf, rightOf, nodeOf, indexRoom}
@@ -36,6 +36,7 @@ fnOp object = firstCall + 6
 
 unfoldable pub twoOp : Pair → ℕ
 twoOp (calls operations) = firstPair
+twoOp (calls done) = firstPair + 1
 twoOp (joins meet) = firstJoin
 twoOp (joins join) = firstJoin + 1
 

@@ -22,7 +22,7 @@ abbrev pub firstPair : ℕ
 firstPair = aoOp + 1
 
 abbrev pub firstJoin : ℕ
-firstJoin = firstPair + 1
+firstJoin = firstPair + 2
 
 -- Tests: `@`; `=` and `!=`; `={}` and `!={}`.
 abbrev pub memberOp : ℕ

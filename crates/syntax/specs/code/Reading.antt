@@ -5,10 +5,10 @@ use mathlib.Core.Bool.{Bool, true, false, cond}
 use mathlib.Core.List.{List, [], _∷_}
 use mathlib.Core.Option.{Option, none, some}
 use Prim.Native.Nat.{ℕ, _+_, _-_, _<_, _≤_}
-use lib.Dec.{ltb}
+use lib.Dec.{eqb, ltb}
 use lib.ListN.{length, getD, drop}
 use Rattle.syntax.specs.Bytes.{Bytes, ascii, Read, fail, got, Reader, _>>=_, _>>_, give, skip, begins, scan, either}
-use Rattle.syntax.specs.Term.{Base, Fn, Fn2, operations, meet, join, Pair, calls, joins, Term, oe, ao, two, Choices, Head, isBase, isCall, isOE, isAO}
+use Rattle.syntax.specs.Term.{Base, Fn, Fn2, operations, done, meet, join, Pair, calls, joins, Term, oe, ao, two, Choices, Head, isBase, isCall, isOE, isAO}
 use Rattle.syntax.specs.Term.{isCall2, isBracket, isChoice, Middle, isLess, spellMiddle, parting, middles, known, closed, readTerm}
 use Rattle.syntax.specs.Rule.{Between, isIn, isSign, Cmp, Test, Clause, Rule, last, also, sized, spellCmp, cmps, spellBetween, betweens, readCount, readSecond}
 use Rattle.syntax.specs.code.Arena.{baseOp, fnOp, twoOp, alikeOp, cmpNumber, One, Holds, HoldsAll, HoldsClause, HoldsRule, Low, Tidy}
@@ -49,6 +49,7 @@ headOp (isCall f) = fnOp f
 headOp isOE = oeOp
 headOp isAO = aoOp
 headOp (isCall2 operations) = firstPair
+headOp (isCall2 done) = firstPair + 1
 headOp isBracket = bracketHead
 headOp isChoice = choiceHead
 
@@ -171,7 +172,7 @@ spellJoint away = spellMiddle isLess
 
 -- The call of two terms with a number, from firstPair on.
 unfoldable pub fn2At : ℕ → Fn2
-fn2At op = operations
+fn2At op = cond (eqb op firstPair) operations done
 
 -- Behind a call of two terms the comma, and behind the bracket a sign.
 unfoldable pub joints : ℕ → List Joint

@@ -49,6 +49,9 @@ cuCountAt = 8
 abbrev pub cpCountAt : ℕ
 cpCountAt = 9
 
+abbrev pub doneCountAt : ℕ
+doneCountAt = 10
+
 -- Where the others begin.
 abbrev pub roleRowsAt : ℕ
 roleRowsAt = room * 1
@@ -79,3 +82,12 @@ objectRowsAt = room * 9
 
 abbrev pub operationRowsAt : ℕ
 operationRowsAt = room * 10
+
+abbrev pub doneUsersAt : ℕ
+doneUsersAt = room * 11
+
+abbrev pub doneObjectsAt : ℕ
+doneObjectsAt = room * 12
+
+abbrev pub doneOperationsAt : ℕ
+doneOperationsAt = room * 13

@@ -3,7 +3,7 @@
 use mathlib.Core.Path.{_≡_}
 use mathlib.Core.List.{List, [], _∷_, map}
 use mathlib.Core.Bool.{Bool, not}
-use Prim.Native.Nat.{ℕ, suc, _%_, _/_, _≤_, _<_}
+use Prim.Native.Nat.{ℕ, suc, _+_, _%_, _/_, _≤_, _<_}
 use lib.Dec.{eqb}
 use lib.ListN.{length, getD, drop, set}
 use Rattle.answers.specs.declared.Refusal.{Refusal}
@@ -14,12 +14,13 @@ use Rattle.tables.specs.declared.Step.{Step}
 use Rattle.tables.specs.declared.Step.the-variants.{Stopped, Took}
 use Rattle.tables.specs.declared.Outcome.{Outcome}
 use Rattle.tables.specs.declared.Outcome.the-variants.{Refused, Accepted}
-use Rattle.tables.specs.Tables.{User, Session, Tables, presentIn}
+use Rattle.tables.specs.Tables.{User, Session, Deed, Tables, presentIn}
 use Rattle.tables.specs.Reading.{Bytes, Taken, Reader, stop, took, wordRow, MarkedRow, permissionRow, Rights, Collections, Reading, rejected, taken}
 use Rattle.tables.specs.Checks.{allTo}
 use Rattle.tables.specs.code.Layout.{Whole, roleCountAt, userCountAt, presentAt, sessionCountAt, operationCountAt, objectCountAt, permissionCountAt}
 use Rattle.tables.specs.code.Layout.{crCountAt, cuCountAt, cpCountAt, roleRowsAt, userRowsAt, sessionUsersAt, sessionRolesAt}
 use Rattle.tables.specs.code.Layout.{permissionRowsAt, crAt, cuAt, cpAt, objectRowsAt, operationRowsAt}
+use Rattle.tables.specs.code.Layout.{doneCountAt, doneUsersAt, doneObjectsAt, doneOperationsAt}
 use Rattle.tables.specs.Flat.{room, tabulate}
 
 -- The code stopped with the reader's refusal, or took what the reader took, up to the same byte; Holds relates the two values.
@@ -52,6 +53,14 @@ pub record IsSession (s : Bytes) (at users : ℕ) (a : Session) (v : ℕ) : Type
   pub active : a .active ≡ v
   pub complete : at < length s
 
+-- The row of Done in the bytes from `at` on.
+unfoldable pub deedAt : Bytes → ℕ → Deed
+deedAt s at = record { user = getD s at 0; operation = getD s (at + 1) 0; object = getD s (at + 2) 0 }
+
+pub record IsDeed (s : Bytes) (at : ℕ) (a : Deed) (v : ℕ) : Type 0 where
+  pub is : a ≡ deedAt s at
+  pub complete : at + 3 ≤ length s
+
 -- A row of one word: its reader, and that the items fit a word.
 abbrev pub rowOf : Row → Reader ℕ
 rowOf (Plain n) = wordRow n
@@ -79,6 +88,17 @@ putUsers ws us = set (putAssigned ws us) presentAt (presentIn us)
 unfoldable pub putSessions : List ℕ → List Session → List ℕ
 putSessions ws ss = put (put ws sessionUsersAt (map itemOf (map (λ s. s .user) ss))) sessionRolesAt (map (λ s. s .active) ss)
 
+-- The rows of Done: their users, objects and operations, as words of one item.
+unfoldable pub putDeeds : List ℕ → List Deed → List ℕ
+putDeeds ws ds =
+    put (put (put ws doneUsersAt (map itemOf (map (λ d. d .user) ds))) doneObjectsAt (map itemOf (map (λ d. d .object) ds)))
+    doneOperationsAt (map itemOf (map (λ d. d .operation) ds))
+
+-- One row, as row i.
+unfoldable pub withDeed : List ℕ → ℕ → Deed → List ℕ
+withDeed ws i d =
+    set (set (set ws (doneUsersAt + i) (itemOf (d .user))) (doneObjectsAt + i) (itemOf (d .object))) (doneOperationsAt + i) (itemOf (d .operation))
+
 -- Rows that are written so, behind their count at its place.
 unfoldable pub withCount : {A : Type 0} → (List ℕ → List A → List ℕ) → ℕ → List ℕ → List A → List ℕ
 withCount write place ws xs = write (set ws place (length xs)) xs
@@ -91,6 +111,9 @@ withUsers = withCount putUsers userCountAt
 
 abbrev pub withSessions : List ℕ → List Session → List ℕ
 withSessions = withCount putSessions sessionCountAt
+
+abbrev pub withDeeds : List ℕ → List Deed → List ℕ
+withDeeds = withCount putDeeds doneCountAt
 
 -- Of each permission its object and its operation.
 unfoldable pub withNames : List ℕ → ℕ → ℕ → List ℕ
@@ -127,12 +150,13 @@ pub record RightsAt (old new : List ℕ) (q : Rights) (v : ℕ) : Type 0 where
 pub record CollectionsAt (old new : List ℕ) (c : Collections) (v : ℕ) : Type 0 where
   pub words : new ≡ withCollections old c
 
--- All nine sections, in the order in which they are read.
+-- All ten sections, in the order in which they are read.
 pub record Filled (old new : List ℕ) (T : Tables) (v : ℕ) : Type 0 where
   pub words :
-      new ≡ withCollections (withRights (withSessions (withUsers (withSection old roleCountAt roleRowsAt (T .roleRows)) (T .users)) (T .sessions))
+      new ≡ withDeeds (withCollections (withRights (withSessions (withUsers (withSection old roleCountAt roleRowsAt (T .roleRows)) (T .users)) (T .sessions))
       (record { operationCount = T .operationCount; objectCount = T .objectCount; permissionRows = T .permissionRows }))
-      (record { cr = T .cr; cu = T .cu; cp = T .cp })
+      (record { cr = T .cr; cu = T .cu; cp = T .cp }))
+      (T .done)
 
 -- The checks as the code makes them, on the rows' words.
 -- The users who have a role or a session, or stand in a word of CU.

@@ -11,7 +11,7 @@ use Rattle.tables.specs.Accepted.{Fits}
 use Rattle.tables.specs.code.Layout.{Whole}
 use Rattle.tables.specs.Flat.{flat}
 use Rattle.syntax.specs.Term.{Base, bU, bR, bOP, bOBJ, bP, bS, bCR, bCP, bCU, Fn, user, roles, roles*, sessions, permissions}
-use Rattle.syntax.specs.Term.{permissions*, object, operations, meet, join, Pair, calls, joins, Term, Choices}
+use Rattle.syntax.specs.Term.{permissions*, object, operations, done, meet, join, Pair, calls, joins, Term, Choices}
 use Rattle.syntax.specs.Rule.{Cmp, lt, le, gt, ge, eq, ne}
 use Rattle.syntax.specs.code.Nodes.{firstCall, firstPair, memberOp, firstAlike, firstEmpty}
 use Rattle.syntax.specs.code.Arena.{Holds, Tidy}
@@ -30,7 +30,7 @@ unfoldable pub fnAt : ℕ → Fn
 fnAt o = getD (user ∷ roles ∷ roles* ∷ sessions ∷ permissions ∷ permissions* ∷ object ∷ []) (o - firstCall) user
 
 unfoldable pub pairAt : ℕ → Pair
-pairAt o = getD (calls operations ∷ joins meet ∷ joins join ∷ []) (o - firstPair) (calls operations)
+pairAt o = getD (calls operations ∷ calls done ∷ joins meet ∷ joins join ∷ []) (o - firstPair) (calls operations)
 
 unfoldable pub cmpAt : ℕ → Cmp
 cmpAt d = getD (lt ∷ le ∷ gt ∷ ge ∷ eq ∷ ne ∷ []) d lt

@@ -16,18 +16,18 @@ use Rattle.printer.proofs.names.put_between.Tie as tie
 
 array-share-prefix-row : tie.Need-array-share-prefix-row
 unfolding row signs cmpSigns openings opening spell parting spellMiddle spellBetween spellCmp
-array-share-prefix-row c = cut-room 2 (take 20 (drop firstPair signs)) (c .before .before .before .before .args .op - firstPair) (c .before .wide .ensures)
+array-share-prefix-row c = cut-room 2 (take 21 (drop firstPair signs)) (c .before .before .before .before .args .op - firstPair) (c .before .wide .ensures)
 
 slice-aggregate-put : tie.Need-slice-aggregate-put
 unfolding row signs cmpSigns openings opening spell parting spellMiddle spellBetween spellCmp
-slice-aggregate-put c = sym (length-take-le _ _ (cut-room 2 (take 20 (drop firstPair signs)) (c .before .before .before .before .before .args .op - firstPair) (c .before .before .wide .ensures)))
+slice-aggregate-put c = sym (length-take-le _ _ (cut-room 2 (take 21 (drop firstPair signs)) (c .before .before .before .before .before .args .op - firstPair) (c .before .before .wide .ensures)))
 
 returns : tie.Need-returns
 unfolding row signs cmpSigns openings opening spell parting spellMiddle spellBetween spellCmp
 returns c =
     let at-wide = c .before .before .before .before .before in
     let at-start = at-wide .before .before .before in
-    adds-as (cut-text 2 (take 20 (drop firstPair signs)) (at-start .args .op - firstPair) (at-wide .wide .ensures) ∙ part-text signs firstPair 20 (at-start .args .op) (omega (arith, at-start .pre)) (omega (arith, at-start .pre))) (c .before .before .put .ensures)
+    adds-as (cut-text 2 (take 21 (drop firstPair signs)) (at-start .args .op - firstPair) (at-wide .wide .ensures) ∙ part-text signs firstPair 21 (at-start .args .op) (omega (arith, at-start .pre)) (omega (arith, at-start .pre))) (c .before .before .put .ensures)
 
 pub put-between-spec : {M : Type 1} → statement M
 put-between-spec =

@@ -5,7 +5,7 @@ use mathlib.Core.List.{List}
 use denote.Ref.{now}
 use lib.ListN.{drop}
 use borrow.Author.Needs.{needs}
-use Rattle.syntax.specs.Term.{Head, isBracket, isChoice, spell, bracketHeads, isCall2, operations}
+use Rattle.syntax.specs.Term.{Head, isBracket, isChoice, spell, bracketHeads, isCall2, operations, done}
 use Rattle.syntax.specs.code.Arena.{baseOp, fnOp}
 use Rattle.syntax.specs.code.Reading.{headOp}
 use Rattle.syntax.proofs.NameLaws.{From, from-all, past, here, nowhere}
@@ -27,14 +27,21 @@ start2 c = start1 (c .before .before .before)
 
 from2 : (c : tie.Else2) → At (start2 c) (drop 2 bracketHeads)
 unfolding bracketHeads spell
-from2 c = past (isBracket) (drop 2 bracketHeads) (from1 (c .before .before .before)) (c .before .stands2 .ensures) (c .if2 .left)
+from2 c = past (isCall2 done) (drop 2 bracketHeads) (from1 (c .before .before .before)) (c .before .stands2 .ensures) (c .if2 .left)
 
 abbrev start3 : tie.Else3 → tie.Start
 start3 c = start2 (c .before .before .before)
 
 from3 : (c : tie.Else3) → At (start3 c) (drop 3 bracketHeads)
 unfolding bracketHeads spell
-from3 c = past (isChoice) (drop 3 bracketHeads) (from2 (c .before .before .before)) (c .before .stands3 .ensures) (c .if3 .left)
+from3 c = past (isBracket) (drop 3 bracketHeads) (from2 (c .before .before .before)) (c .before .stands3 .ensures) (c .if3 .left)
+
+abbrev start4 : tie.Else4 → tie.Start
+start4 c = start3 (c .before .before .before)
+
+from4 : (c : tie.Else4) → At (start4 c) (drop 4 bracketHeads)
+unfolding bracketHeads spell
+from4 c = past (isChoice) (drop 4 bracketHeads) (from3 (c .before .before .before)) (c .before .stands4 .ensures) (c .if4 .left)
 
 returns : tie.Need-returns
 unfolding bracketHeads spell headOp baseOp fnOp
@@ -42,15 +49,19 @@ returns c = here (isCall2 operations) (drop 1 bracketHeads) (from-all bracketHea
 
 returns-2 : tie.Need-returns-2
 unfolding bracketHeads spell headOp baseOp fnOp
-returns-2 c = here (isBracket) (drop 2 bracketHeads) (from1 (c .before .before .before)) (c .before .stands2 .ensures) (c .if2 .taken) (omega arith)
+returns-2 c = here (isCall2 done) (drop 2 bracketHeads) (from1 (c .before .before .before)) (c .before .stands2 .ensures) (c .if2 .taken) (omega arith)
 
 returns-3 : tie.Need-returns-3
 unfolding bracketHeads spell headOp baseOp fnOp
-returns-3 c = here (isChoice) (drop 3 bracketHeads) (from2 (c .before .before .before)) (c .before .stands3 .ensures) (c .if3 .taken) (omega arith)
+returns-3 c = here (isBracket) (drop 3 bracketHeads) (from2 (c .before .before .before)) (c .before .stands3 .ensures) (c .if3 .taken) (omega arith)
 
 returns-4 : tie.Need-returns-4
+unfolding bracketHeads spell headOp baseOp fnOp
+returns-4 c = here (isChoice) (drop 4 bracketHeads) (from3 (c .before .before .before)) (c .before .stands4 .ensures) (c .if4 .taken) (omega arith)
+
+returns-5 : tie.Need-returns-5
 unfolding bracketHeads
-returns-4 c = nowhere (from3 c)
+returns-5 c = nowhere (from4 c)
 
 pub bracket-at-spec : {M : Type 1} → statement M
 bracket-at-spec =
@@ -68,4 +79,8 @@ bracket-at-spec =
     (λ c κs. search needs)
     (λ c. search needs)
     returns-3
-    returns-4)
+    (λ c. search needs)
+    (λ c κs. search needs)
+    (λ c. search needs)
+    returns-4
+    returns-5)

@@ -1,9 +1,8 @@
--- `tables::sections::sections`: the nine sections, front to back.
+-- `tables::sections::sections`: the ten sections, front to back.
 -- Assumes nothing.
 use mathlib.Core.Path.{_∙_}
-use native.Mathlib.Omega.{arith}
 use Rattle.tables.proofs.ReadLaws.{as-took, as-stop, stops-as}
-use Rattle.tables.proofs.SectionsLaws.{sections-stop, sections-stop-2, sections-stop-3, sections-stop-4, sections-all}
+use Rattle.tables.proofs.SectionsLaws.{sections-stop, sections-stop-2, sections-stop-3, sections-stop-4, sections-stop-5, sections-all}
 use borrow.Author.Needs.{needs}
 use Rattle.tables.proofs.sections.sections.Statement.{statement}
 use Rattle.tables.proofs.sections.sections.Tie as tie
@@ -96,32 +95,45 @@ collections-requires c κs =
     let t = as-took (rights .ensures) (fourth .given .1) in
     (t .within, ((f .holds .few, g .holds .few, t .holds .few), rights .kept .1 .1 .1 .0 ∙ sessions .kept .1 .1 .1 .1 .0 ∙ users .kept .1 .1 .1 .0 ∙ roles .kept .1 .0 ∙ pre))
 
-same-length-5 : tie.Need-same-length-5
-same-length-5 c =
-    let roles = c .before .before .before .before .before .before .before .before .before .before .before .before .before .before .before .before .before .before .before .before .before .before .before .before .before .before .before .before .before .before .roles in
-    let users = c .before .before .before .before .before .before .before .before .before .before .before .before .before .before .before .before .before .before .before .before .before .before .before .users in
-    let sessions = c .before .before .before .before .before .before .before .before .before .before .before .before .before .before .before .before .sessions in
-    let rights = c .before .before .before .before .before .before .before .before .before .rights in
-    let collections = c .before .before .collections in
-    collections .kept .1 .1 .1 .1 .1 .0 ∙ rights .kept .1 .1 .1 .0 ∙ sessions .kept .1 .1 .1 .1 .0 ∙ users .kept .1 .1 .1 .0 ∙ roles .kept .1 .0
-
 returns-5 : tie.Need-returns-5
 returns-5 c =
-    let args = c .before .before .before .before .before .before .before .before .before .before .before .before .before .before .before .before .before .before .before .before .before .before .before .before .before .before .before .before .before .before .before .before .before .before .args in
-    let roles = c .before .before .before .before .before .before .before .before .before .before .before .before .before .before .before .before .before .before .before .before .before .before .before .before .before .before .before .before .before .before .roles in
-    let first = c .before .before .before .before .before .before .before .before .before .before .before .before .before .before .before .before .before .before .before .before .before .before .before .before .before .before .first in
-    let users = c .before .before .before .before .before .before .before .before .before .before .before .before .before .before .before .before .before .before .before .before .before .before .before .users in
-    let second = c .before .before .before .before .before .before .before .before .before .before .before .before .before .before .before .before .before .before .before .second in
-    let sessions = c .before .before .before .before .before .before .before .before .before .before .before .before .before .before .before .before .sessions in
-    let third = c .before .before .before .before .before .before .before .before .before .before .before .before .third in
-    let rights = c .before .before .before .before .before .before .before .before .before .rights in
-    let fourth = c .before .before .before .before .before .fourth in
-    let collections = c .before .before .collections in
-    let f = as-took (roles .ensures) (first .given .1) in
-    let g = as-took (users .ensures) (second .given .1) in
-    let h = as-took (sessions .ensures) (third .given .1) in
-    let t = as-took (rights .ensures) (fourth .given .1) in
-    sections-all (args .bytes .now) f g h t (collections .ensures)
+    let args = c .before .before .before .before .before .before .before .before .before .before .before .before .before .before .before .before .before .before .before .before .before .before .before .before .before .before .before .before .before .before .before .before .before .before .before .before .args in
+    let f = as-took (c .before .before .before .before .before .before .before .before .before .before .before .before .before .before .before .before .before .before .before .before .before .before .before .before .before .before .before .before .before .before .before .before .roles .ensures) (c .before .before .before .before .before .before .before .before .before .before .before .before .before .before .before .before .before .before .before .before .before .before .before .before .before .before .before .before .first .given .1) in
+    let g = as-took (c .before .before .before .before .before .before .before .before .before .before .before .before .before .before .before .before .before .before .before .before .before .before .before .before .before .users .ensures) (c .before .before .before .before .before .before .before .before .before .before .before .before .before .before .before .before .before .before .before .before .before .second .given .1) in
+    let h = as-took (c .before .before .before .before .before .before .before .before .before .before .before .before .before .before .before .before .before .before .sessions .ensures) (c .before .before .before .before .before .before .before .before .before .before .before .before .before .before .third .given .1) in
+    let t = as-took (c .before .before .before .before .before .before .before .before .before .before .before .rights .ensures) (c .before .before .before .before .before .before .before .fourth .given .1) in
+    stops-as (c .enum-told5 .given .1) (sections-stop-5 (args .bytes .now) f g h t (as-stop (c .before .before .before .before .collections .ensures) (c .enum-told5 .given .1)))
+
+same-length-5 : tie.Need-same-length-5
+same-length-5 c =
+    c .before .before .before .before .collections .kept .1 .1 .1 .1 .1 .0 ∙ c .before .before .before .before .before .before .before .before .before .before .before .rights .kept .1 .1 .1 .0 ∙ c .before .before .before .before .before .before .before .before .before .before .before .before .before .before .before .before .before .before .sessions .kept .1 .1 .1 .1 .0 ∙ c .before .before .before .before .before .before .before .before .before .before .before .before .before .before .before .before .before .before .before .before .before .before .before .before .before .users .kept .1 .1 .1 .0
+    ∙ c .before .before .before .before .before .before .before .before .before .before .before .before .before .before .before .before .before .before .before .before .before .before .before .before .before .before .before .before .before .before .before .before .roles .kept .1 .0
+
+done-requires : tie.Need-done-requires
+done-requires c κs =
+    let pre = c .before .before .before .before .before .before .before .before .before .before .before .before .before .before .before .before .before .before .before .before .before .before .before .before .before .before .before .before .before .before .before .before .before .before .before .before .before .before .pre in
+    let z = as-took (c .before .before .before .before .before .before .collections .ensures) (c .before .before .fifth .given .1) in (
+      z .within,
+      c .before .before .before .before .before .before .collections .kept .1 .1 .1 .1 .1 .0 ∙ c .before .before .before .before .before .before .before .before .before .before .before .before .before .rights .kept .1 .1 .1 .0 ∙ c .before .before .before .before .before .before .before .before .before .before .before .before .before .before .before .before .before .before .before .before .sessions .kept .1 .1 .1 .1 .0
+          ∙ c .before .before .before .before .before .before .before .before .before .before .before .before .before .before .before .before .before .before .before .before .before .before .before .before .before .before .before .users .kept .1 .1 .1 .0 ∙ c .before .before .before .before .before .before .before .before .before .before .before .before .before .before .before .before .before .before .before .before .before .before .before .before .before .before .before .before .before .before .before .before .before .before .roles .kept .1 .0 ∙ pre,
+    )
+
+same-length-6 : tie.Need-same-length-6
+same-length-6 c =
+    c .before .before .done .kept .1 .1 .1 .0 ∙ c .before .before .before .before .before .before .before .before .before .collections .kept .1 .1 .1 .1 .1 .0 ∙ c .before .before .before .before .before .before .before .before .before .before .before .before .before .before .before .before .rights .kept .1 .1 .1 .0 ∙ c .before .before .before .before .before .before .before .before .before .before .before .before .before .before .before .before .before .before .before .before .before .before .before .sessions .kept .1 .1 .1 .1 .0
+    ∙ c .before .before .before .before .before .before .before .before .before .before .before .before .before .before .before .before .before .before .before .before .before .before .before .before .before .before .before .before .before .before .users .kept .1 .1 .1 .0 ∙ c .before .before .before .before .before .before .before .before .before .before .before .before .before .before .before .before .before .before .before .before .before .before .before .before .before .before .before .before .before .before .before .before .before .before .before .before .before .roles .kept .1 .0
+
+returns-6 : tie.Need-returns-6
+returns-6 c =
+    let args = c .before .before .before .before .before .before .before .before .before .before .before .before .before .before .before .before .before .before .before .before .before .before .before .before .before .before .before .before .before .before .before .before .before .before .before .before .before .before .before .before .before .args in
+    let pre = c .before .before .before .before .before .before .before .before .before .before .before .before .before .before .before .before .before .before .before .before .before .before .before .before .before .before .before .before .before .before .before .before .before .before .before .before .before .before .before .before .before .pre in
+    let f = as-took (c .before .before .before .before .before .before .before .before .before .before .before .before .before .before .before .before .before .before .before .before .before .before .before .before .before .before .before .before .before .before .before .before .before .before .before .before .before .roles .ensures) (c .before .before .before .before .before .before .before .before .before .before .before .before .before .before .before .before .before .before .before .before .before .before .before .before .before .before .before .before .before .before .before .before .before .first .given .1) in
+    let g = as-took (c .before .before .before .before .before .before .before .before .before .before .before .before .before .before .before .before .before .before .before .before .before .before .before .before .before .before .before .before .before .before .users .ensures) (c .before .before .before .before .before .before .before .before .before .before .before .before .before .before .before .before .before .before .before .before .before .before .before .before .before .before .second .given .1) in
+    let h = as-took (c .before .before .before .before .before .before .before .before .before .before .before .before .before .before .before .before .before .before .before .before .before .before .before .sessions .ensures) (c .before .before .before .before .before .before .before .before .before .before .before .before .before .before .before .before .before .before .before .third .given .1) in
+    let t = as-took (c .before .before .before .before .before .before .before .before .before .before .before .before .before .before .before .before .rights .ensures) (c .before .before .before .before .before .before .before .before .before .before .before .before .fourth .given .1) in
+    let z = as-took (c .before .before .before .before .before .before .before .before .before .collections .ensures) (c .before .before .before .before .before .fifth .given .1) in
+    let whole = c .before .before .before .before .before .before .before .before .before .before .before .before .before .before .before .before .before .before .before .before .before .before .before .sessions .kept .1 .1 .1 .1 .0 ∙ c .before .before .before .before .before .before .before .before .before .before .before .before .before .before .before .before .before .before .before .before .before .before .before .before .before .before .before .before .before .before .users .kept .1 .1 .1 .0 ∙ c .before .before .before .before .before .before .before .before .before .before .before .before .before .before .before .before .before .before .before .before .before .before .before .before .before .before .before .before .before .before .before .before .before .before .before .before .before .roles .kept .1 .0 ∙ pre in
+    sections-all (args .bytes .now) f g h t z whole (c .before .before .done .ensures)
 
 pub sections-spec : {M : Type 1} → statement M
 sections-spec =
@@ -148,5 +160,10 @@ sections-spec =
     (λ c. search needs)
     returns-4
     collections-requires
+    (λ c. search needs)
+    (λ c. search needs)
     same-length-5
-    returns-5)
+    returns-5
+    done-requires
+    same-length-6
+    returns-6)
