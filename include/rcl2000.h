@@ -30,6 +30,11 @@
  * - Names. The archive defines the six names below and no other, and needs memcpy and memset. A program with a
  *   function of its own called reduce, rebuild, judge, judge_page, rank_step or forecast cannot link it.
  * - Machine. x86-64 Linux.
+ *
+ * Tables end with section 10, Done, who already did what: a count of at most 64, then rows of three bytes, the numbers
+ * of a user, an operation and an object. The function done(u,o) of a rule takes a user or users and one object and is
+ * the set of operations that they performed on it; a row that stands there twice counts once, and one of a user who left
+ * remains and never counts. Tables that stop after section 9 are cut short.
  */
 #ifndef RCL2000_H
 #define RCL2000_H
@@ -41,9 +46,12 @@
 #include <stddef.h>
 #include <stdint.h>
 
+/* The fewest bytes that accepted tables have, which are the counts of their ten sections. */
+#define RCL2000_MIN_TABLES 10
+
 /* The most bytes that accepted tables, an accepted rule, and a formula of one have; the most variables of a rule, and
    lines of a page. */
-#define RCL2000_MAX_TABLES 3785
+#define RCL2000_MAX_TABLES 3978
 #define RCL2000_MAX_RULE 256
 #define RCL2000_MAX_FORMULA 4096
 #define RCL2000_MAX_VARIABLES 8
@@ -52,8 +60,8 @@
 /* The stack that each call takes at the most, in bytes. */
 #define RCL2000_STACK_REDUCE (16 * 1024)
 #define RCL2000_STACK_REBUILD (48 * 1024)
-#define RCL2000_STACK_JUDGE (112 * 1024)
-#define RCL2000_STACK_JUDGE_PAGE (240 * 1024)
+#define RCL2000_STACK_JUDGE (72 * 1024)
+#define RCL2000_STACK_JUDGE_PAGE (248 * 1024)
 #define RCL2000_STACK_RANK_STEP (16 * 1024)
 #define RCL2000_STACK_FORECAST (24 * 1024)
 
@@ -95,16 +103,16 @@ enum rcl2000_word { RCL2000_HELD = 0, RCL2000_IDLE = 1, RCL2000_BROKEN = 2 };
 
 /* The refusals. Later versions add numbers, so one that is not listed is a refusal too. */
 enum rcl2000_refusal {
-    RCL2000_CUT_SHORT = 1,         /* the tables end where a count or a row is due, or inside a row */
+    RCL2000_CUT_SHORT = 1,         /* the tables end where a count or a row is due, as after section 9, or inside a row */
     RCL2000_OVERFULL = 2,          /* a count of the tables is above its limit */
     RCL2000_NOT_ENTERED = 3,       /* the row of a user or a permission never arrived */
     RCL2000_BAD_MARK = 4,          /* a user has a mark above 2, or a permission one above 1 */
-    RCL2000_NO_SUCH_ITEM = 5,      /* a row names an item that the tables do not have */
+    RCL2000_NO_SUCH_ITEM = 5,      /* a row, one of Done too, names an item that the tables do not have */
     RCL2000_MISCOUNTED = 6,        /* the permissions are not operations times objects */
     RCL2000_RANK = 7,              /* role rows are not reflexive, transitive, antisymmetric: see rank_step */
     RCL2000_OVERREACH = 8,         /* a session has a role that is neither assigned to its user nor junior to one that is */
     RCL2000_TWIN = 9,              /* two words of one collection are equal */
-    RCL2000_LEFT_OVER = 10,        /* there are bytes after the tables */
+    RCL2000_LEFT_OVER = 10,        /* there are bytes after section 10 */
     RCL2000_RULE_LENGTH = 11,      /* the rule has 0 or more than 256 bytes */
     RCL2000_DEEP = 12,             /* more than 32 brackets are open at once */
     RCL2000_NOT_A_RULE = 13,       /* the text is outside the grammar */

@@ -8,31 +8,35 @@ use std::process::exit;
 
 /// Document 01's tables T: two roles, two users, the first with both roles, and one CR word.
 const T: &[u8] = b"\x02\x01\0\0\0\0\0\0\0\x02\0\0\0\0\0\0\0\
-    \x02\x01\x03\0\0\0\0\0\0\0\x01\x01\0\0\0\0\0\0\0\0\0\0\0\x01\x03\0\0\0\0\0\0\0\0\0";
+    \x02\x01\x03\0\0\0\0\0\0\0\x01\x01\0\0\0\0\0\0\0\0\0\0\0\x01\x03\0\0\0\0\0\0\0\0\0\0";
 
 /// Role 0 above role 1, a user with role 0, a session of the user with role 1.
 const JUNIOR: &[u8] = b"\x02\x03\0\0\0\0\0\0\0\x02\0\0\0\0\0\0\0\
-    \x01\x01\x01\0\0\0\0\0\0\0\x01\0\x02\0\0\0\0\0\0\0\0\0\0\0\0\0";
+    \x01\x01\x01\0\0\0\0\0\0\0\x01\0\x02\0\0\0\0\0\0\0\0\0\0\0\0\0\0";
 
 /// The same, but the user has role 1 and the session role 0.
 const SENIOR: &[u8] = b"\x02\x03\0\0\0\0\0\0\0\x02\0\0\0\0\0\0\0\
-    \x01\x01\x02\0\0\0\0\0\0\0\x01\0\x01\0\0\0\0\0\0\0\0\0\0\0\0\0";
+    \x01\x01\x02\0\0\0\0\0\0\0\x01\0\x01\0\0\0\0\0\0\0\0\0\0\0\0\0\0";
 
 /// Three roles: the first misses a junior's junior, the last one itself.
 const MISSING: &[u8] = b"\x03\x03\0\0\0\0\0\0\0\x06\0\0\0\0\0\0\0\0\0\0\0\0\0\0\0\
-    \0\0\0\0\0\0\0\0";
+    \0\0\0\0\0\0\0\0\0";
 
 /// One role and three users: without a role, left, with the role.
 const LEAVER: &[u8] = b"\x01\x01\0\0\0\0\0\0\0\x03\x01\0\0\0\0\0\0\0\0\
-    \x02\0\0\0\0\0\0\0\0\x01\x01\0\0\0\0\0\0\0\0\0\0\0\0\0\0";
+    \x02\0\0\0\0\0\0\0\0\x01\x01\0\0\0\0\0\0\0\0\0\0\0\0\0\0\0";
 
 /// A user who left, and a session.
-const BACK: &[u8] = b"\0\x01\x02\0\0\0\0\0\0\0\0\x01\0\0\0\0\0\0\0\0\0\0\0\0\0\0\0";
+const BACK: &[u8] = b"\0\x01\x02\0\0\0\0\0\0\0\0\x01\0\0\0\0\0\0\0\0\0\0\0\0\0\0\0\0";
 
 /// One role and eight users, the first with the role.
 const EIGHT: &[u8] = b"\x01\x01\0\0\0\0\0\0\0\x08\x01\x01\0\0\0\0\0\0\0\
     \x01\0\0\0\0\0\0\0\0\x01\0\0\0\0\0\0\0\0\x01\0\0\0\0\0\0\0\0\x01\0\0\0\0\0\0\0\0\
-    \x01\0\0\0\0\0\0\0\0\x01\0\0\0\0\0\0\0\0\x01\0\0\0\0\0\0\0\0\0\0\0\0\0\0\0";
+    \x01\0\0\0\0\0\0\0\0\x01\0\0\0\0\0\0\0\0\x01\0\0\0\0\0\0\0\0\0\0\0\0\0\0\0\0";
+
+/// Two users, one operation on two objects, which the second user did on the second object.
+const DONE: &[u8] = b"\0\x02\x01\0\0\0\0\0\0\0\0\x01\0\0\0\0\0\0\0\0\0\x01\x02\x02\
+    \x01\0\0\0\0\0\0\0\0\x01\0\0\0\0\0\0\0\0\0\0\0\x01\x01\0\x01";
 
 const A: &[u8] = b"|(roles(OE(U))&OE(CR))|<=1";
 const B: &[u8] = b"OE(OE(CR))@roles(OE(U))=>(AO(OE(CR))&roles(OE(U)))={}";
@@ -68,7 +72,7 @@ fn main() {
     // the rank test goes step by step over all roles (N4), behind what is left over; a forecast (N5) counts
     // the roles of the tables for a variable whose set has one of them, and looks at the tables first;
     // whoever left is not among the users (N6), keeps the number and has no session, or that is 20; a
-    // half in a hundred goes to the even number (N7).
+    // half in a hundred goes to the even number (N7); the tenth section (N8) is read, and due.
     let rule = b"roles(OE(U))={}";
     holds("N2", (26, &HELD), |out| {
         library::judge(JUNIOR, b"U=U", &[], out)
@@ -103,6 +107,13 @@ fn main() {
     // One choice of eight: 12.5 in a hundred are 12.
     holds("N7", (26, &broken_by(8, 0, 12)), |out| {
         library::judge(EIGHT, rule, &[1], out)
+    });
+    holds("N8", (26, &broken_by(2, 1, 50)), |out| {
+        library::judge(DONE, b"done(U,OE(OBJ))={}", &[1], out)
+    });
+    let nine = &DONE[..DONE.len() - 4];
+    holds("nine sections", refused(1), |out| {
+        library::judge(nine, b"U=U", &[], out)
     });
 }
 

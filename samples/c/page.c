@@ -3,7 +3,7 @@
 
        rt staticlib rcl2000
        cc -I include samples/c/page.c target/staticlib/librcl2000.a -o page
-       head -n 5 samples/closing/rules.txt | ./page samples/closing */
+       head -n 6 samples/closing/rules.txt | ./page samples/closing */
 #include "rcl2000.h"
 
 #include <inttypes.h>

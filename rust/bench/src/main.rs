@@ -1,6 +1,6 @@
 //! Times the proved library beside the reference's fast modules, in the same run, pages beside calls of
 //! `judge`, and calls by their ceilings, and prints the tables of docs/BENCHMARKS.md. `bench ROUNDS` sets
-//! how many rounds each median is of; `bench ROUNDS pages` or `waits` prints that table alone.
+//! how many rounds each median is of; `bench ROUNDS calls`, `pages` or `waits` prints that table alone.
 
 mod pages;
 mod waits;
@@ -11,10 +11,10 @@ use std::time::{Duration, Instant};
 use differential::hold::Question;
 use differential::orders;
 use differential::random::Random;
-use differential::rules::{COMMITTEE, PAPER};
+use differential::rules::{COMMITTEE, DONE, PAPER};
 use differential::subjects;
 use differential::tables::{self, Plain};
-use rcl2000::Verdict;
+use rcl2000::{Verdict, MAX_TABLES};
 
 /// A round repeats a call until it has lasted this long.
 const ROUND: Duration = Duration::from_millis(40);
@@ -39,6 +39,14 @@ const NAMES: [&str; 19] = [
     "C4", "C5", "C6", "C7", "C8", "C9",
 ];
 
+/// Rules of the calls with two terms, of elements and of words.
+const TWO_TERMS: [(&str, &str); 4] = [
+    ("`done`", DONE[0]),
+    ("`operations`", "|operations(OE(R),OE(OBJ))|<=1"),
+    ("`done` of words", DONE[2]),
+    ("`operations` of words", "|operations(OE(CR),OE(OBJ))|<=1"),
+];
+
 fn main() {
     let rounds = std::env::args()
         .nth(1)
@@ -46,12 +54,15 @@ fn main() {
     let random = tables::full(&mut Random::new(1));
     let office = tables::office(&mut Random::new(1), 64);
     for plain in [&random, &office] {
-        assert_eq!(plain.bytes().len(), 3_785, "the largest tables");
+        assert_eq!(plain.bytes().len(), MAX_TABLES, "the largest tables");
     }
     let only = std::env::args().nth(2);
     let wanted = |table: &str| only.as_deref().map_or(true, |only| only == table);
     if wanted("rules") {
-        rules_and_calls(&random, &office, rounds);
+        rules(&random, &office, rounds);
+    }
+    if wanted("calls") {
+        calls(&random, &office, rounds);
     }
     if wanted("pages") {
         pages::table(&random, &office, rounds);
@@ -61,10 +72,9 @@ fn main() {
     }
 }
 
-/// The tables of rules, and of the calls that walk nothing.
-fn rules_and_calls(random: &Plain, office: &Plain, rounds: usize) {
-    println!("| judge | tables | full choices | ours | fast | fast / ours | worst order |");
-    println!("|---|---|---|---|---|---|---|");
+/// The table of rules.
+fn rules(random: &Plain, office: &Plain, rounds: usize) {
+    heading();
     let rules: Vec<&str> = PAPER.iter().chain(&COMMITTEE).copied().collect();
     for (name, rule) in NAMES.iter().zip(rules) {
         judged(&format!("{name} | random"), rule, random, rounds);
@@ -72,6 +82,20 @@ fn rules_and_calls(random: &Plain, office: &Plain, rounds: usize) {
     }
     let fewer = third_left(random);
     judged("I.1 | random, a third left", PAPER[0], &fewer, rounds);
+}
+
+fn heading() {
+    println!("\n| judge | tables | full choices | ours | fast | fast / ours | worst order |");
+    println!("|---|---|---|---|---|---|---|");
+}
+
+/// The tables of the calls with two terms, each beside the other, and of the calls that walk nothing.
+fn calls(random: &Plain, office: &Plain, rounds: usize) {
+    heading();
+    for (name, rule) in TWO_TERMS {
+        judged(&format!("{name} | random"), rule, random, rounds);
+        judged(&format!("{name} | office"), rule, office, rounds);
+    }
     println!("\n| call | ours | fast | ours / fast |");
     println!("|---|---|---|---|");
     for (name, question) in others(random) {

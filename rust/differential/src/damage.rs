@@ -3,10 +3,10 @@
 use crate::random::Random;
 
 /// The bytes that rules and formulas are made of.
-const SYMBOLS: &[u8] = b"UROPBJSCEA()[]{}|@=!<>^&+,-*:v0123456789userolimpnbjcta";
+const SYMBOLS: &[u8] = b"UROPBJSCEA()[]{}|@=!<>^&+,-*:v0123456789userolimpnbjctad";
 
 /// Pieces of rules and formulas.
-const PIECES: [&str; 29] = [
+const PIECES: [&str; 30] = [
     "OE(",
     "AO(",
     "roles(",
@@ -17,6 +17,7 @@ const PIECES: [&str; 29] = [
     "permissions*(",
     "object(",
     "operations(",
+    "done(",
     "U",
     "R",
     "OP",

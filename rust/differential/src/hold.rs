@@ -19,6 +19,11 @@ pub fn reply(answer: Result<usize, PageRefusal>) -> u32 {
     }
 }
 
+/// A way to ask a question with lent bytes.
+pub trait Ask: Fn(&Question, &mut [u8]) -> Result<usize, PageRefusal> {}
+
+impl<F: Fn(&Question, &mut [u8]) -> Result<usize, PageRefusal>> Ask for F {}
+
 /// The number of a step, or 0 for none.
 pub fn step(step: Option<RankStep>) -> u32 {
     step.map_or(0, RankStep::number)
@@ -145,9 +150,14 @@ impl Question {
     /// Asks with one length of output, in an allocation of exactly that length and the guards, and
     /// compares the reply and the whole allocation with what is expected.
     pub fn hold(&self, expected: &Expected, length: usize, guard: usize) {
+        self.hold_asked(expected, length, guard, Question::ask);
+    }
+
+    /// The same, asked in a way of the caller's.
+    fn hold_asked(&self, expected: &Expected, length: usize, guard: usize, ask: impl Ask) {
         let mut lent = vec![FILL; guard + length + guard].into_boxed_slice();
         let mut after = lent.clone();
-        let reply = reply(self.ask(&mut lent[guard..guard + length]));
+        let reply = reply(ask(self, &mut lent[guard..guard + length]));
         let wanted = self.leave(expected, &mut after[guard..guard + length]);
         assert!(
             reply == wanted && lent == after,
@@ -161,13 +171,18 @@ impl Question {
     /// Holds the library to an answer with outputs of its length L, of L - 1, of 0 and of more, each
     /// between guards, and again alone in its allocation, where valgrind sees a byte beyond it.
     pub fn hold_all(&self, expected: &Expected, random: &mut Random) {
+        self.hold_all_asked(expected, random, Question::ask);
+    }
+
+    /// The same, asked in a way of the caller's.
+    pub fn hold_all_asked(&self, expected: &Expected, random: &mut Random, ask: impl Ask) {
         let long = expected
             .as_ref()
             .map_or(random.below(64), |bytes| bytes.len());
         let more = long + 1 + random.below(40);
         for length in [long, long.saturating_sub(1), 0, more] {
             for guard in [16, 0] {
-                self.hold(expected, length, guard);
+                self.hold_asked(expected, length, guard, &ask);
             }
         }
     }

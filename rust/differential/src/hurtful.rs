@@ -1,5 +1,7 @@
 //! Inputs that are meant to hurt: long, deep, endless when written out, on the largest tables.
 
+use rcl2000::{MAX_RULE, MIN_TABLES};
+
 use crate::formulas::doubling;
 use crate::hold::Question;
 use crate::leavers::STILL;
@@ -16,9 +18,12 @@ pub fn questions() -> Vec<Question> {
         repeated(),
         brackets(),
         nested(),
+        deepest_rules(),
+        deepest_candidates(),
         exponential(),
         generated(),
         largest(),
+        second_plans(),
         long_pages(),
         last_roles(),
         long_forecasts(),
@@ -32,7 +37,7 @@ pub fn questions() -> Vec<Question> {
 /// The same text as a rule, as a formula, as tables, a rule and an order, and as a page; as tables for the
 /// rank test, too, and as tables and as a rule of a forecast.
 fn everywhere(text: Vec<u8>) -> Vec<Question> {
-    let nobody = vec![0; 9];
+    let nobody = vec![0; MIN_TABLES];
     vec![
         Question::Reduce(text.clone().into()),
         Question::Rebuild(text.clone().into()),
@@ -71,6 +76,7 @@ fn brackets() -> Vec<Question> {
             "OE(",
             "AO(",
             "operations(",
+            "done(",
             "|",
             "((U-{v1})&",
         ] {
@@ -100,6 +106,8 @@ fn nested() -> Vec<Question> {
             ("roles(", ")"),
             ("operations(", ",U)"),
             ("operations(U,", ")"),
+            ("done(", ",U)"),
+            ("done(U,", ")"),
             ("(", "-{v1})"),
         ] {
             let around = |term: &str| open.repeat(depth) + term + &close.repeat(depth);
@@ -114,6 +122,42 @@ fn nested() -> Vec<Question> {
             }
             chain += &format!(":{}=U", around("v8"));
             questions.push(Question::Rebuild(chain.into_bytes().into()));
+        }
+    }
+    questions
+}
+
+/// What a term is wrapped in, four bytes for a bracket.
+const WRAPS: [(&str, &str); 3] = [("(U&", ")"), ("(U+", ")"), ("(", "&U)")];
+
+/// Rules whose last term has as many brackets as are allowed, all others of all others innermost or not, behind as
+/// many clauses as 256 bytes hold, and their formulas: clauses are written one inside the other, too.
+fn deepest_rules() -> Vec<Question> {
+    let mut questions = Vec::new();
+    for (open, close) in WRAPS {
+        for (choices, depth) in [(0, 1), (0, 16), (0, 31), (0, 32), (8, 23), (8, 24)] {
+            let last = open.repeat(depth) + &rules::inside(choices) + &close.repeat(depth) + "={}";
+            let rule = "U=U^".repeat((MAX_RULE - last.len()) / 4) + &last;
+            let formula = reference::fast::reduce(rule.as_bytes());
+            let formula = formula.expect("made to be accepted");
+            questions.push(Question::Rebuild(formula.into()));
+            questions.extend(everywhere(rule.into_bytes()));
+        }
+    }
+    questions
+}
+
+/// Formulas for which a text of about 256 bytes is written before it is seen to be no rule: with the set of its
+/// variable, its term is twice as deep as is allowed.
+fn deepest_candidates() -> Vec<Question> {
+    let mut questions = Vec::new();
+    for (open, close) in WRAPS {
+        let around = |term: &str, depth: usize| open.repeat(depth) + term + &close.repeat(depth);
+        for outer in 29..=32 {
+            for inner in 29..=32 {
+                let text = format!("[v1@{}]:{}=U", around("U", inner), around("v1", outer));
+                questions.push(Question::Rebuild(text.into_bytes().into()));
+            }
         }
     }
     questions
@@ -158,6 +202,46 @@ fn largest() -> Vec<Question> {
     rules
         .map(|rule| Question::judge_in_turn(tables.clone(), rule))
         .collect()
+}
+
+/// Rules that are counted along an order of their own and break, so that along the caller's another plan is laid:
+/// `judge` and a page go deepest there.
+const SECOND_PLANS: [&str; 4] = [
+    "OE(R)@roles(OE(U))^|roles(OE(S))|<2",
+    "OE(OP)@done(OE(U),OE(OBJ))^|roles(OE(S))|<2",
+    "OE(U)@U^OE(OBJ)@OBJ^|roles(OE(S))|<2^|done(OE(U),OE(OBJ))|<1",
+    "OE(OP)@operations(OE(R),OE(OBJ))^|(user(OE(R))&OE(CU))|<1",
+];
+
+/// Such rules in the order 1, 2, .. and in others, as lines alone, and on pages whose lines share a walk, on tables in
+/// which all have all roles.
+fn second_plans() -> Vec<Question> {
+    let random = &mut Random::new(26);
+    let tables = Plain {
+        roles: (0..64).map(|role| 1 << role).collect(),
+        users: vec![u64::MAX; 64],
+        sessions: (0..64).map(|user| (user, u64::MAX)).collect(),
+        permissions: vec![u64::MAX; 64],
+        ..tables::full(random)
+    }
+    .bytes();
+    let mut questions = Vec::new();
+    for rule in SECOND_PLANS {
+        let read = reference::rule::read(rule.as_bytes()).expect("an accepted rule");
+        questions.push(Question::judge_in_turn(tables.clone(), rule));
+        for _ in 0..4 {
+            let order = orders::admissible(random, &read);
+            questions.push(Question::judge(tables.clone(), rule.into(), order));
+        }
+        for page in [
+            rule.to_string(),
+            format!("{rule}\n{rule}^U=U"),
+            SECOND_PLANS.join("\n"),
+        ] {
+            questions.push(Question::judge_page(tables.clone(), page.into()));
+        }
+    }
+    questions
 }
 
 /// The largest tables, whose roles are a chain, and that chain with one step of the rank test failed by
@@ -342,7 +426,7 @@ fn filled_up(random: &mut Random, mut text: String) -> String {
 }
 
 /// Terms of choices that the rules above make.
-const TERMS: [&str; 12] = [
+const TERMS: [&str; 13] = [
     "roles(OE(U))",
     "roles*(OE(U))",
     "(roles(OE(S))&OE(CR))",
@@ -351,6 +435,7 @@ const TERMS: [&str; 12] = [
     "permissions*(OE(CR))",
     "(permissions(OE(R))&OE(CP))",
     "operations(OE(R),OE(OBJ))",
+    "done(OE(U),OE(OBJ))",
     "object(OE(CP))",
     "sessions(OE(U))",
     "user(OE(R))",

@@ -3,7 +3,7 @@
 use crate::hold::Question;
 use crate::random::Random;
 use crate::tables::{self, items, Plain};
-use crate::{damage, orders};
+use crate::{damage, subjects};
 
 /// What is still there of a leaver, each of which is 20.
 #[derive(Clone, Copy, PartialEq, Eq, Debug)]
@@ -22,7 +22,7 @@ pub const STILL: [Still; 3] = [Still::Role, Still::Session, Still::Word];
 const MARKS: [u8; 5] = [0, 1, 2, 3, 255];
 
 /// Rules of at most two variables in which U, users or their number stand.
-const USERS: [&str; 16] = [
+const USERS: [&str; 18] = [
     "OE(U)=OE(U)",
     "AO(U)={}",
     "OE(AO(U))@U",
@@ -39,6 +39,8 @@ const USERS: [&str; 16] = [
     "(OE(CU)&U)=OE(CU)",
     "|(roles(OE(U))&OE(CR))|<=1",
     "OE((U&OE(CU)))@user(S)",
+    "done(U,OE(OBJ))={}",
+    "|done(OE(U),OE(OBJ))|<=1",
 ];
 
 impl Plain {
@@ -54,7 +56,7 @@ impl Plain {
     }
 
     /// Lets these users leave whole: they have no roles and stand in no word of CU, and what sessions they
-    /// had go to others, without a role, or are closed where nobody stays.
+    /// had go to others, without a role, or are closed where nobody stays. What they did stays in Done.
     pub fn leave(&mut self, random: &mut Random, left: u64) {
         self.left |= left;
         items(left).for_each(|user| self.users[user] = 0);
@@ -152,21 +154,8 @@ pub fn any(random: &mut Random) -> Vec<u8> {
     plain.bytes()
 }
 
-/// A verdict, a page or a forecast on such tables, of rules that ask for users.
+/// A question on such tables, of rules that ask for users.
 pub fn asked(random: &mut Random) -> Question {
-    let (tables, rule) = (any(random), *random.pick(&USERS));
-    match random.below(4) {
-        0 => Question::forecast(tables, rule.into()),
-        1 => {
-            // No line now and then: 19, behind what is refused of the tables.
-            let lines = [rule, *random.pick(&USERS)];
-            let page = lines[..random.below(3)].join("\n");
-            Question::judge_page(tables, page.into())
-        }
-        _ => {
-            let read = reference::rule::read(rule.as_bytes()).expect("an accepted rule");
-            let order = orders::admissible(random, &read);
-            Question::judge(tables, rule.into(), order)
-        }
-    }
+    let tables = any(random);
+    subjects::about(random, tables, &USERS)
 }

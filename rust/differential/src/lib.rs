@@ -3,6 +3,7 @@
 //! Everything comes from fixed seeds, so a difference that is found is found again.
 
 pub mod damage;
+pub mod done;
 pub mod formulas;
 pub mod hold;
 pub mod hurtful;
@@ -11,6 +12,7 @@ pub mod orders;
 pub mod pages;
 pub mod random;
 pub mod rules;
+pub mod small_stack;
 pub mod subjects;
 pub mod tables;
 pub mod vectors;

@@ -1,5 +1,6 @@
 //! Pages of rules: lines that choose alike, lines that almost do, and lines that are refused.
 
+use rcl2000::MIN_TABLES;
 use reference::rule::{self, Rule};
 use reference::sheet::lines;
 use reference::tables::Tables;
@@ -32,7 +33,7 @@ pub fn judged(random: &mut Random, most: usize, limit: u64) -> Question {
     let mut most = most;
     loop {
         let tables = match most {
-            0 => vec![0; 9],
+            0 => vec![0; MIN_TABLES],
             _ => tables::accepted(random, most).bytes(),
         };
         if most == 0 || few(&tables) {

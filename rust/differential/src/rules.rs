@@ -22,7 +22,7 @@ const COLLECTIONS: [(&str, Collection); 3] = [
 ];
 
 /// The functions that give a set of a sort, and the sort that they take an element or a set of.
-const CALLS: [(Sort, &str, Sort); 13] = [
+const CALLS: [(Sort, &str, Sort); 14] = [
     (Sort::U, "user", Sort::R),
     (Sort::U, "user", Sort::S),
     (Sort::R, "roles", Sort::U),
@@ -36,6 +36,7 @@ const CALLS: [(Sort, &str, Sort); 13] = [
     (Sort::P, "permissions*", Sort::R),
     (Sort::Obj, "object", Sort::P),
     (Sort::Op, "operations", Sort::R),
+    (Sort::Op, "done", Sort::U),
 ];
 
 /// The rules of Tables I and II of source document 002, in document 01's spelling.
@@ -80,6 +81,20 @@ pub const COMMITTEE: [&str; 9] = [
      ^|(user(OE(CR))&OE(CU))|<=1",
     "|((roles(OE(U))+roles(OE(S)))&OE(CR))|<=1\
      ^|((permissions(OE(R))+permissions(OE(OE(CR))))&OE(CP))|<=2^|(roles*(OE(U))&OE(CR))|<=1",
+];
+
+/// Rules of who did what, of at most three variables; the first is document 02's.
+pub const DONE: [&str; 10] = [
+    "|done(OE(U),OE(OBJ))|<=1",
+    "done(U,OE(OBJ))={}",
+    "|done(OE(CU),OE(OBJ))|<=1",
+    "done(OE(U),OE(OBJ))=operations(roles*(OE(U)),OE(OBJ))",
+    "(done(OE(U),OE(OBJ))&operations(roles(OE(U)),OE(OBJ)))=done(OE(U),OE(OBJ))",
+    "|done(user(OE(R)),OE(OBJ))|>=|operations(OE(R),OE(OBJ))|",
+    "OE(OP)@done(AO(U),OE(OBJ))=>OE(OP)@operations(R,OE(OBJ))",
+    "done(user(OE(S)),OE(object(P)))!={}",
+    "OE(done(OE(U),OE(OBJ)))@OP",
+    "|(done(OE(U),OE(OBJ))+operations(roles*(OE(U)),OE(OBJ)))|<=1",
 ];
 
 /// A rule of some sort: from the grammar, damaged, or at a limit.
@@ -211,9 +226,10 @@ impl Grower<'_> {
         let calls: Vec<_> = CALLS.iter().filter(|(of, _, _)| *of == sort).collect();
         let (_, name, from) = *self.random.pick(&calls);
         let argument = self.either(*from, depth);
-        if *name == "operations" {
+        // Of two terms are those that give operations.
+        if sort == Sort::Op {
             let object = self.term(Kind::Element(Sort::Obj), depth);
-            return format!("operations({argument},{object})");
+            return format!("{name}({argument},{object})");
         }
         format!("{name}({argument})")
     }
@@ -253,9 +269,9 @@ fn name<T: PartialEq>(names: &[(&'static str, T)], item: T) -> &'static str {
     names.iter().find(|(_, other)| *other == item).unwrap().0
 }
 
-/// A rule of clauses of the papers and of the committee, with 5 to 8 variables.
+/// A rule of clauses of the papers, of the committee and of who did what, with 5 to 8 variables.
 pub fn joined(random: &mut Random) -> String {
-    let rules = PAPER.iter().chain(&COMMITTEE);
+    let rules = PAPER.iter().chain(&COMMITTEE).chain(&DONE);
     let pool: Vec<&str> = rules.flat_map(|rule| rule.split('^')).collect();
     loop {
         let count = random.between(2, 6);
@@ -333,6 +349,7 @@ fn many_choices(random: &mut Random) -> String {
         "(U&U)",
         "(R+R)",
         "roles*(S)",
+        "done(U,OE(OBJ))",
     ];
     random.shuffle(&mut sets);
     let count = random.between(7, 10);

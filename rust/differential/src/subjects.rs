@@ -5,7 +5,7 @@ use reference::verdict::steps;
 
 use crate::hold::{Expected, Met, Question};
 use crate::random::Random;
-use crate::{formulas, leavers, orders, pages, rules, tables};
+use crate::{done, formulas, leavers, orders, pages, rules, tables};
 
 /// The most steps of a walk where every choice is tried.
 pub const FEW: u64 = 2_000;
@@ -34,11 +34,11 @@ pub struct Subject {
     ask: fn(&mut Random) -> Question,
 }
 
-/// Tables, rules, formulas, verdicts, pages, steps of the rank test, forecasts and leavers, in turn.
-pub const SUBJECTS: [Subject; 12] = [
+/// Tables, rules, formulas, verdicts, pages, steps of the rank test, forecasts, leavers and who did what, in turn.
+pub const SUBJECTS: [Subject; 13] = [
     Subject {
         name: "tables",
-        count: 60_000,
+        count: 50_000,
         seed: 1,
         answers: &[0, 1, 2, 3, 4, 5, 6, 7, 8, 9, 10, 20],
         plain: true,
@@ -54,7 +54,7 @@ pub const SUBJECTS: [Subject; 12] = [
     },
     Subject {
         name: "formulas",
-        count: 70_000,
+        count: 60_000,
         seed: 3,
         answers: &[0, 16],
         plain: true,
@@ -139,6 +139,15 @@ pub const SUBJECTS: [Subject; 12] = [
         plain: true,
         ask: leavers::asked,
     },
+    // Tables with rows of Done, and rules that ask for them.
+    Subject {
+        name: "done",
+        count: 20_000,
+        seed: 13,
+        answers: &[0, 1, 2, 5, 7, 9, 10, 20],
+        plain: true,
+        ask: done::asked,
+    },
 ];
 
 impl Subject {
@@ -156,6 +165,25 @@ impl Subject {
             met.note(question.counted(&expected));
         }
         met
+    }
+}
+
+/// A verdict, a page or a forecast on tables, of such rules.
+pub fn about(random: &mut Random, tables: Vec<u8>, rules: &[&str]) -> Question {
+    let rule = *random.pick(rules);
+    match random.below(4) {
+        0 => Question::forecast(tables, rule.into()),
+        1 => {
+            // No line now and then: 19, behind what is refused of the tables.
+            let lines = [rule, *random.pick(rules)];
+            let page = lines[..random.below(3)].join("\n");
+            Question::judge_page(tables, page.into())
+        }
+        _ => {
+            let read = reference::rule::read(rule.as_bytes()).expect("an accepted rule");
+            let order = orders::admissible(random, &read);
+            Question::judge(tables, rule.into(), order)
+        }
     }
 }
 

@@ -2,9 +2,9 @@
 
 use rcl2000::{Object, Operation, Permission, Role, TablesBuilder, User};
 
-use crate::damage;
 use crate::leavers::STILL;
 use crate::random::Random;
+use crate::{damage, done};
 
 /// Tables as plain values; every row's word of items.
 #[derive(Clone, Default)]
@@ -20,6 +20,8 @@ pub struct Plain {
     pub cr: Vec<u64>,
     pub cu: Vec<u64>,
     pub cp: Vec<u64>,
+    /// Rows of a user, an operation and an object.
+    pub done: Vec<[u8; done::ROW]>,
 }
 
 /// Accepted tables with at most `most` items in a section (operations and objects: 8).
@@ -36,10 +38,12 @@ fn sized(random: &mut Random, least: usize, most: usize) -> Plain {
     let mut size = |limit: usize| random.between(least, limit);
     let (roles, users, sessions) = (size(most), size(most), size(most));
     let (operations, objects) = (size(most.min(8)), size(most.min(8)));
-    let (cr, cu, cp) = (size(most), size(most), size(most));
+    let (cr, cu, cp, done) = (size(most), size(most), size(most), size(most));
     let mut plain = with_sizes(
         random,
-        [roles, users, sessions, operations, objects, cr, cu, cp],
+        [
+            roles, users, sessions, operations, objects, cr, cu, cp, done,
+        ],
     );
     if random.once_in(3) {
         plain.leave_some(random, least);
@@ -57,7 +61,7 @@ pub fn of_size(random: &mut Random, size: usize) -> Plain {
 
 /// Accepted tables with every section as long as it may be; sessions have assigned roles alone.
 pub fn full(random: &mut Random) -> Plain {
-    with_sizes(random, [64, 64, 64, 8, 8, 64, 64, 64])
+    with_sizes(random, [64, 64, 64, 8, 8, 64, 64, 64, 64])
 }
 
 /// The same, with juniors of these open in the sessions.
@@ -68,9 +72,9 @@ pub fn full_of_juniors(random: &mut Random) -> Plain {
 }
 
 /// Tables of an office with at most `most` items in a section: eight departments of as many ranks,
-/// users with one role of their department, each permission held by one role, and pairs across
-/// departments in conflict. Few users differ, so that the papers' rules hold of almost every choice;
-/// one user has roles of two departments.
+/// users with one role of their department, each permission held by one role, pairs across
+/// departments in conflict, and for each user an operation done. Few users differ, so that the papers' rules
+/// hold of almost every choice; one user has roles of two departments, and did two operations on one object.
 pub fn office(random: &mut Random, most: usize) -> Plain {
     let ranks = (most / 8).max(1);
     let side = most.min(8);
@@ -79,9 +83,14 @@ pub fn office(random: &mut Random, most: usize) -> Plain {
     let duty = |department: usize| 1 << (department * ranks + ranks / 2);
     let roles = u64::MAX.checked_shr(64 - most as u32).unwrap_or(0);
     let mut users: Vec<u64> = (0..most).map(|user| duty(user % 6) & roles).collect();
+    let did = |user: usize| [user, user % side, user / 8 % side].map(|number| number as u8);
+    let mut done: Vec<[u8; done::ROW]> = (0..most).map(did).collect();
     if most > 0 {
         let breaker = random.below(most);
         users[breaker] |= duty(breaker % 6 + 1) & roles;
+        // In the place of the next user's.
+        let [user, operation, object] = did(breaker);
+        done[(breaker + 1) % most] = [user, (operation + 1) % side as u8, object];
     }
     Plain {
         roles: (0..most).map(senior).collect(),
@@ -93,6 +102,7 @@ pub fn office(random: &mut Random, most: usize) -> Plain {
         cr: pairs(random, most, most),
         cu: pairs(random, most, most),
         cp: pairs(random, most, side * side),
+        done,
         ..Plain::default()
     }
 }
@@ -131,8 +141,8 @@ fn pairs(random: &mut Random, count: usize, items: usize) -> Vec<u64> {
     words
 }
 
-fn with_sizes(random: &mut Random, sizes: [usize; 8]) -> Plain {
-    let [roles, users, sessions, operations, objects, cr, cu, cp] = sizes;
+fn with_sizes(random: &mut Random, sizes: [usize; 9]) -> Plain {
+    let [roles, users, sessions, operations, objects, cr, cu, cp, done] = sizes;
     let permissions = operations * objects;
     let mut plain = Plain {
         roles: hierarchy(random, roles),
@@ -153,6 +163,7 @@ fn with_sizes(random: &mut Random, sizes: [usize; 8]) -> Plain {
             })
             .collect();
     }
+    plain.perform(random, done);
     plain
 }
 
@@ -216,6 +227,8 @@ impl Plain {
         words(&mut out, &self.cr, &[]);
         words(&mut out, &self.cu, &[]);
         words(&mut out, &self.cp, &[]);
+        out.push(self.done.len() as u8);
+        out.extend(self.done.concat());
         out
     }
 
@@ -271,6 +284,14 @@ impl Plain {
         }
         for &word in &self.cp {
             builder.conflicting_permissions(items(word).map(|number| self.permission(number)));
+        }
+        for row in &self.done {
+            let [user, operation, object] = row.map(usize::from);
+            builder.done(
+                User::numbered(user),
+                Operation::numbered(operation),
+                Object::numbered(object),
+            );
         }
     }
 
@@ -337,7 +358,7 @@ impl Plain {
     pub fn spoil(&mut self, random: &mut Random) {
         let stray = 1u64 << random.below(64);
         let (roles, users) = (self.roles.len(), self.users.len());
-        match random.below(13) {
+        match random.below(15) {
             0 => change(random, &mut self.roles, |row| row ^ stray),
             1 => change(random, &mut self.users, |row| row | stray),
             2 => change(random, &mut self.permissions, |row| row ^ stray),
@@ -368,6 +389,8 @@ impl Plain {
                 let still = *random.pick(&STILL);
                 self.keep(random, still);
             }
+            13 => self.overstep(random),
+            14 => self.fill_up(random),
             _ => {}
         }
     }
@@ -408,9 +431,10 @@ pub fn any(random: &mut Random) -> Vec<u8> {
             plain.spoil(random);
         }
     }
-    let mut bytes = match random.once_in(10) {
-        true => plain.remarked(random),
-        false => plain.bytes(),
+    let mut bytes = match random.below(20) {
+        0 | 1 => plain.remarked(random),
+        2 => plain.ended(random),
+        _ => plain.bytes(),
     };
     if wrong & 2 == 2 {
         for _ in 0..random.between(1, 2) {

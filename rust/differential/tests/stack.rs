@@ -5,21 +5,19 @@ use std::sync::Mutex;
 use std::thread;
 use std::time::{Duration, Instant};
 
-use differential::hold::{Expected, Question};
+use differential::hold::Question;
 use differential::hurtful;
 use differential::random::Random;
-use rcl2000::{STACK_FORECAST, STACK_JUDGE, STACK_JUDGE_PAGE};
+use differential::small_stack::Stack;
+use rcl2000::{Page, STACK_FORECAST, STACK_JUDGE, STACK_JUDGE_PAGE};
 use rcl2000::{STACK_RANK_STEP, STACK_REBUILD, STACK_REDUCE};
 
 /// Held while a small stack is tried: a frame that reaches beyond the page that guards the stack may
 /// else land in another test's, and not end the process.
 static ALONE: Mutex<()> = Mutex::new(());
 
-/// For the thread itself and for comparing.
-const OWN: usize = 16 * 1024;
-
-/// A thread that judges pages may have 256 KiB.
-const _: () = assert!(STACK_JUDGE_PAGE + OWN <= 256 * 1024);
+/// For the thread itself and for comparing. It is used up before each call, so that none has it.
+const BESIDES: usize = 64 * 1024;
 
 /// No call on such an input takes longer, also on a busy machine.
 const LONGEST: Duration = Duration::from_secs(5);
@@ -66,24 +64,40 @@ fn forecasting_on_a_small_stack() {
     });
 }
 
-/// The chosen questions are answered rightly on a thread with that much stack.
-fn on_stack(stack: usize, chosen: impl Fn(&Question) -> bool) {
-    let questions: Vec<(Question, Expected)> = hurtful::questions()
-        .into_iter()
-        .filter(chosen)
-        .map(|question| (question.clone(), question.fast()))
-        .collect();
-    let alone = ALONE.lock();
-    let small = thread::Builder::new().stack_size(stack + OWN);
-    let thread = small.spawn(move || {
-        let random = &mut Random::new(8);
-        for (question, expected) in &questions {
+/// What a page takes and what the thread needs for itself, 5,632 bytes on one machine.
+#[test]
+fn a_thread_of_256_kib_judges_pages() {
+    let mut questions = hurtful::questions();
+    questions.retain(|question| matches!(question, Question::JudgePage(..)));
+    let mut out = vec![0; Page::MAX_BYTES];
+    let _alone = ALONE.lock();
+    let thread = thread::Builder::new()
+        .stack_size(256 * 1024)
+        .spawn(move || {
+            for question in &questions {
+                let _ = question.ask(&mut out);
+            }
+        });
+    thread.unwrap().join().unwrap();
+}
+
+/// The chosen questions are answered rightly where no more of the stack is left.
+fn on_stack(left: usize, chosen: fn(&Question) -> bool) {
+    let mut questions = hurtful::questions();
+    questions.retain(chosen);
+    let _alone = ALONE.lock();
+    let large = thread::Builder::new().stack_size(left + BESIDES);
+    let thread = large.spawn(move || {
+        let (stack, random) = (Stack::here(), &mut Random::new(8));
+        for question in questions {
+            let expected = question.fast();
             let start = Instant::now();
-            question.hold_all(expected, random);
+            question.hold_all_asked(&expected, random, |question, out| {
+                stack.with_left(left, || question.ask(out))
+            });
             let taken = start.elapsed();
             assert!(taken < LONGEST, "{taken:?} for eight calls");
         }
     });
     thread.unwrap().join().unwrap();
-    drop(alone);
 }

@@ -7,7 +7,7 @@ use std::error::Error;
 use std::path::Path;
 use std::{env, fs};
 
-use rcl2000::{judge_in_turn, BuildError, Role, TablesBuilder};
+use rcl2000::{judge_in_turn, BuildError, Object, Operation, Role, TablesBuilder, User};
 
 fn main() -> Result<(), Box<dyn Error>> {
     let here = Path::new(env!("CARGO_MANIFEST_DIR"));
@@ -48,17 +48,13 @@ fn total(words: &[String]) -> String {
     total
 }
 
-/// Who works at the mill, in what, and what is to be kept apart.
+/// Who works at the mill, in what, what is to be kept apart, and who already did what.
 fn evening() -> Result<Vec<u8>, BuildError> {
     let mut tables = TablesBuilder::new();
     // The leader is senior to both press hands, who come after him.
     let leader = tables.role([1, 2].map(Role::numbered));
-    let north_hand = tables.role([]);
-    let south_hand = tables.role([]);
-    let grader = tables.role([]);
-    let tester = tables.role([]);
-    let weigher = tables.role([]);
-    let blender = tables.role([]);
+    let [north_hand, south_hand] = [(); 2].map(|()| tables.role([]));
+    let [grader, tester, weigher, blender] = [(); 4].map(|()| tables.role([]));
     let ana = tables.user([leader]);
     let berto = tables.user([north_hand]);
     let clara = tables.user([grader]);
@@ -66,14 +62,14 @@ fn evening() -> Result<Vec<u8>, BuildError> {
     let elsa = tables.user([weigher, blender]);
     let fabio = tables.user([south_hand]);
     // Gino left in spring. His number is handed on to nobody.
-    tables.user_left();
+    let gino = tables.user_left();
     // Ana is assigned the leader's role alone, and works under a press hand's, which is junior to it.
     tables.session(ana, [north_hand]);
     tables.session(clara, [grader]);
     tables.session(dino, [tester]);
     tables.session(elsa, [weigher]);
-    let [fill, draw, test, grade] = tables.operations();
-    let [north, south] = tables.objects();
+    let operations @ [fill, draw, test, grade] = tables.operations();
+    let tanks @ [north, south] = tables.objects();
     for (tank, hand) in [(north, north_hand), (south, south_hand)] {
         tables.held_by(tables.permission(fill, tank), [hand]);
         tables.held_by(tables.permission(draw, tank), [blender]);
@@ -83,9 +79,36 @@ fn evening() -> Result<Vec<u8>, BuildError> {
     tables.conflicting_roles([grader, tester]);
     tables.conflicting_roles([weigher, blender]);
     tables.conflicting_users([berto, fabio]);
-    for tank in [north, south] {
+    for tank in tanks {
         let kept_apart = [test, grade].map(|operation| tables.permission(operation, tank));
         tables.conflicting_permissions(kept_apart);
     }
+    let users = [ana, berto, clara, dino, elsa, fabio, gino];
+    already_done(&mut tables, users, operations, tanks);
     tables.build()
+}
+
+/// What was done at the tanks, the earliest first.
+fn already_done(
+    tables: &mut TablesBuilder,
+    [ana, berto, clara, dino, _, fabio, gino]: [User; 7],
+    [fill, draw, test, grade]: [Operation; 4],
+    [north, south]: [Object; 2],
+) {
+    let rows = [
+        (gino, fill, north),
+        (gino, draw, north),
+        (fabio, fill, south),
+        // Clara was the tester then. Today she is the grader, and Dino the tester.
+        (clara, test, south),
+        (berto, fill, north),
+        // One test, which was written down twice.
+        (dino, test, north),
+        (dino, test, north),
+        (clara, grade, south),
+        (ana, fill, north),
+    ];
+    for (user, operation, tank) in rows {
+        tables.done(user, operation, tank);
+    }
 }

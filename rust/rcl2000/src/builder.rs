@@ -71,6 +71,7 @@ pub struct TablesBuilder {
     conflicting_roles: Vec<Vec<Role>>,
     conflicting_users: Vec<Vec<User>>,
     conflicting_permissions: Vec<Vec<Permission>>,
+    done: Vec<(User, Permission)>,
 }
 
 /// How the roles that a role dominates were said.
@@ -83,10 +84,11 @@ enum RoleRow {
 }
 
 impl TablesBuilder {
-    /// Tables without anything: nine zero bytes.
+    /// Tables without anything: ten zero bytes, a count for each section.
     ///
     /// ```
-    /// assert_eq!(rcl2000::TablesBuilder::new().build().unwrap(), [0; 9]);
+    /// let nothing = rcl2000::TablesBuilder::new().build().unwrap();
+    /// assert_eq!(nothing, [0; rcl2000::MIN_TABLES]);
     /// ```
     pub fn new() -> TablesBuilder {
         TablesBuilder::default()
@@ -148,7 +150,8 @@ impl TablesBuilder {
 
     /// Adds a user who left. The row remains, without roles, so that nobody else gets the number; U is
     /// the others, and no verdict or forecast counts or names a leaver. Tables in which a session or a
-    /// set of conflicting users names one are refused 20, and [`build`](TablesBuilder::build) says which.
+    /// set of conflicting users names one are refused 20, and [`build`](TablesBuilder::build) says which;
+    /// [`done`](TablesBuilder::done) may name one.
     ///
     /// ```
     /// use rcl2000::{judge_in_turn, TablesBuilder};
@@ -277,6 +280,40 @@ impl TablesBuilder {
         add(&mut self.conflicting_permissions, permissions)
     }
 
+    /// Adds to Done that a user performed an operation on an object, whether or not the user may do so
+    /// now, and gives the row's position there.
+    ///
+    /// The rule `|done(OE(U),OE(OBJ))|<=1` says that nobody performs two operations on one object. Done has
+    /// at most 64 rows; one that stands there twice fills two of them and counts once. Whoever left may stand
+    /// in Done: such rows remain, and no rule counts them.
+    ///
+    /// ```
+    /// use rcl2000::{judge_in_turn, TablesBuilder};
+    ///
+    /// let mut tables = TablesBuilder::new();
+    /// let (anna, bruno) = (tables.user([]), tables.user_left());
+    /// let [test, grade] = tables.operations();
+    /// let [north, south] = tables.objects();
+    /// for (operation, tank) in [(test, north), (test, south), (grade, north), (grade, south)] {
+    ///     tables.held_by(tables.permission(operation, tank), []);
+    /// }
+    /// tables.done(anna, test, north);
+    /// tables.done(anna, test, north);
+    /// tables.done(anna, grade, south);
+    /// tables.done(bruno, test, south);
+    /// tables.done(bruno, grade, south);
+    /// let rule = b"|done(OE(U),OE(OBJ))|<=1";
+    /// assert_eq!(judge_in_turn(&tables.build()?, rule)?.to_string(), "held 2 0 0");
+    /// // Anna (v1) on the south tank (v2), one of two choices.
+    /// tables.done(anna, test, south);
+    /// let verdict = judge_in_turn(&tables.build()?, rule)?;
+    /// assert_eq!(verdict.to_string(), "broken 2 1 50 v1=0 v2=1");
+    /// # Ok::<(), Box<dyn std::error::Error>>(())
+    /// ```
+    pub fn done(&mut self, user: User, operation: Operation, object: Object) -> usize {
+        add(&mut self.done, (user, Permission { operation, object }))
+    }
+
     /// The bytes of these tables, which the library accepts.
     ///
     /// # Errors
@@ -324,6 +361,7 @@ impl TablesBuilder {
             conflicting_permissions: gathered(&self.conflicting_permissions, |place, set| {
                 self.of_permissions(Row::ConflictingPermissions(place), set)
             })?,
+            done: self.done_rows()?,
         })
     }
 
@@ -341,6 +379,7 @@ impl TablesBuilder {
                 Section::ConflictingPermissions,
                 self.conflicting_permissions.len(),
             ),
+            (Section::Done, self.done.len()),
         ];
         let over = counts
             .iter()
@@ -402,6 +441,16 @@ impl TablesBuilder {
             rows[number] = Some(self.of_roles(row, roles)?);
         }
         Ok(rows)
+    }
+
+    /// Rows that name a user, an operation and an object of the tables, looked for in that order.
+    fn done_rows(&self) -> Result<Vec<(User, Permission)>, Unencodable> {
+        gathered(&self.done, |place, &(user, performed)| {
+            let row = Row::Done(place);
+            exists(row, Section::Users, self.users.len(), user.number())?;
+            self.permission_number(row, performed)?;
+            Ok((user, performed))
+        })
     }
 
     fn permission_number(&self, row: Row, permission: Permission) -> Result<usize, Unencodable> {

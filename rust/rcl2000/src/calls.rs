@@ -8,8 +8,11 @@ pub const MAX_RULE: usize = 256;
 /// The most bytes that a formula of an accepted rule has.
 pub const MAX_FORMULA: usize = 4_096;
 
+/// The fewest bytes that accepted tables have: the counts of the ten sections.
+pub const MIN_TABLES: usize = 10;
+
 /// The most bytes that accepted tables have.
-pub const MAX_TABLES: usize = 3_785;
+pub const MAX_TABLES: usize = 3_978;
 
 /// The most variables that an accepted rule has.
 pub const MAX_VARIABLES: usize = 8;
@@ -21,10 +24,10 @@ pub const STACK_REDUCE: usize = 16 * 1024;
 pub const STACK_REBUILD: usize = 48 * 1024;
 
 /// The stack that [`judge`] takes at the most, in bytes.
-pub const STACK_JUDGE: usize = 112 * 1024;
+pub const STACK_JUDGE: usize = 72 * 1024;
 
 /// The stack that [`judge_page`] takes at the most, in bytes.
-pub const STACK_JUDGE_PAGE: usize = 240 * 1024;
+pub const STACK_JUDGE_PAGE: usize = 248 * 1024;
 
 /// The stack that [`rank_step`] takes at the most, in bytes.
 pub const STACK_RANK_STEP: usize = 16 * 1024;
@@ -169,7 +172,7 @@ pub fn rebuild_into(formula: &[u8], out: &mut [u8]) -> Result<usize, Refusal> {
 /// to 2 µs where many calls stand inside each other, and these can be as many as 64 to the power of the
 /// number of variables. Where a variable has no item to choose, nothing is walked. A call cannot be interrupted:
 /// whoever judges rules that others wrote asks for a [`forecast`] first, or judges where it may run on. At
-/// most 112 KiB of stack ([`STACK_JUDGE`]).
+/// most 72 KiB of stack ([`STACK_JUDGE`]).
 pub fn judge(tables: &[u8], rule: &[u8], order: &[u8]) -> Result<Verdict, Refusal> {
     let mut out = [0; Verdict::BYTES];
     judge_into(tables, rule, order, &mut out)?;
@@ -184,7 +187,7 @@ pub fn judge(tables: &[u8], rule: &[u8], order: &[u8]) -> Result<Verdict, Refusa
 /// ```
 /// use rcl2000::{judge_into, Verdict, Word};
 ///
-/// let nobody = [0; 9];
+/// let nobody = [0; rcl2000::MIN_TABLES];
 /// let mut out = [0; Verdict::BYTES];
 /// judge_into(&nobody, b"roles(OE(U))={}", &[1], &mut out)?;
 /// assert_eq!(Verdict::from_bytes(&out).word, Word::Idle);
@@ -212,7 +215,7 @@ pub fn judge_into(
 /// ```
 /// use rcl2000::{judge_in_turn, Refusal};
 ///
-/// let nobody = [0; 9];
+/// let nobody = [0; rcl2000::MIN_TABLES];
 /// assert_eq!(judge_in_turn(&nobody, b"OE(U)=OE(U)")?.to_string(), "idle 0 0 -");
 /// assert_eq!(judge_in_turn(&nobody, b"OE(U)=U"), Err(Refusal::Kind));
 /// assert_eq!(judge_in_turn(&[], b"OE(U)=U"), Err(Refusal::CutShort));
@@ -273,7 +276,7 @@ pub fn judge_in_turn(tables: &[u8], rule: &[u8]) -> Result<Verdict, Refusal> {
 ///
 /// About as [`judge`] for each line, and the tables are read once. Lines with the same quantifiers share
 /// one walk where the tables do not allow too many choices, which takes clearly less time where many lines
-/// share their terms; a few lines about different things may take up to twice as long. At most 240 KiB of stack ([`STACK_JUDGE_PAGE`]).
+/// share their terms; a few lines about different things may take up to twice as long. At most 248 KiB of stack ([`STACK_JUDGE_PAGE`]).
 pub fn judge_page(tables: &[u8], page: &[u8]) -> Result<Page, PageRefusal> {
     let mut out = [0; Page::MAX_BYTES];
     let length = judge_page_into(tables, page, &mut out)?;
@@ -288,7 +291,7 @@ pub fn judge_page(tables: &[u8], page: &[u8]) -> Result<Page, PageRefusal> {
 /// ```
 /// use rcl2000::{judge_page_into, Page, Refusal};
 ///
-/// let nobody = [0; 9];
+/// let nobody = [0; rcl2000::MIN_TABLES];
 /// let mut out = [0; Page::bytes(2)];
 /// assert_eq!(judge_page_into(&nobody, b"U=U\nR=R\n", &mut out)?, 70);
 /// let refused = judge_page_into(&nobody, b"U=U\nR=R\nS=S\n", &mut out).unwrap_err();
@@ -362,11 +365,12 @@ pub fn check_rule(rule: &[u8]) -> Result<(), Refusal> {
 /// Whether the library accepts tables, whatever the rule.
 ///
 /// ```
-/// use rcl2000::{check_tables, Refusal};
+/// use rcl2000::{check_tables, Refusal, MIN_TABLES};
 ///
-/// assert_eq!(check_tables(&[0; 9]), Ok(()));
-/// assert_eq!(check_tables(&[0; 8]), Err(Refusal::CutShort));
-/// assert_eq!(check_tables(&[0; 10]), Err(Refusal::LeftOver));
+/// assert_eq!(check_tables(&[0; MIN_TABLES]), Ok(()));
+/// // Tables that stop after section 9 have no Done.
+/// assert_eq!(check_tables(&[0; MIN_TABLES - 1]), Err(Refusal::CutShort));
+/// assert_eq!(check_tables(&[0; MIN_TABLES + 1]), Err(Refusal::LeftOver));
 /// ```
 ///
 /// # Errors
@@ -475,7 +479,7 @@ pub fn forecast(tables: &[u8], rule: &[u8]) -> Result<Forecast, Refusal> {
 /// ```
 /// use rcl2000::{forecast_into, Forecast, Refusal};
 ///
-/// let nobody = [0; 9];
+/// let nobody = [0; rcl2000::MIN_TABLES];
 /// let mut out = [7; 20];
 /// assert_eq!(forecast_into(&nobody, b"OE(U)@U", &mut out), Ok(Forecast::BYTES));
 /// assert_eq!(out, [11, 0, 0, 0, 0, 0, 0, 0, 0, 0, 0, 0, 0, 0, 0, 0, 7, 7, 7, 7]);

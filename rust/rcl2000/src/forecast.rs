@@ -27,7 +27,8 @@ impl Forecast {
     /// use rcl2000::Forecast;
     ///
     /// let mut bytes = [0; Forecast::BYTES];
-    /// rcl2000::forecast_into(&[0; 9], b"|CR|=1", &mut bytes)?;
+    /// let nobody = [0; rcl2000::MIN_TABLES];
+    /// rcl2000::forecast_into(&nobody, b"|CR|=1", &mut bytes)?;
     /// let forecast = Forecast::from_bytes(&bytes);
     /// assert_eq!((forecast.length, forecast.ceiling), (7, 1));
     /// # Ok::<(), rcl2000::Refusal>(())

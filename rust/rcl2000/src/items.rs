@@ -108,6 +108,8 @@ pub enum Section {
     ConflictingUsers,
     /// Section 9, CP.
     ConflictingPermissions,
+    /// Section 10.
+    Done,
 }
 
 impl Section {
@@ -137,6 +139,7 @@ impl Section {
             Section::ConflictingRoles => ("CR word", "words in CR"),
             Section::ConflictingUsers => ("CU word", "words in CU"),
             Section::ConflictingPermissions => ("CP word", "words in CP"),
+            Section::Done => ("Done row", "rows in Done"),
         }
     }
 }
@@ -159,6 +162,8 @@ pub enum Row {
     ConflictingUsers(usize),
     /// The word at this position of CP.
     ConflictingPermissions(usize),
+    /// The row at this position of Done.
+    Done(usize),
 }
 
 impl fmt::Display for Row {
@@ -171,6 +176,7 @@ impl fmt::Display for Row {
             Row::ConflictingRoles(place) => write!(f, "CR word {place}"),
             Row::ConflictingUsers(place) => write!(f, "CU word {place}"),
             Row::ConflictingPermissions(place) => write!(f, "CP word {place}"),
+            Row::Done(place) => write!(f, "Done row {place}"),
         }
     }
 }

@@ -2,9 +2,9 @@
 //!
 //! A rule such as `|(roles(OE(U))&OE(CR))|<=1` says what nobody may be able to do alone. This
 //! crate writes a rule as a formula with its choices spelled out, gives the rule of a formula, and
-//! judges a rule, or a page of them, on tables of roles, users, sessions and permissions. The work is
-//! done by a library whose code is proved; here are safe calls over it, with Rust's types for its
-//! answers.
+//! judges a rule, or a page of them, on tables of roles, users, sessions and permissions, and of who
+//! already did what. The work is done by a library whose code is proved; here are safe calls over it,
+//! with Rust's types for its answers.
 //!
 //! ```
 //! use rcl2000::{judge_in_turn, reduce, TablesBuilder, Word};
@@ -46,7 +46,7 @@
 //!   about what its lines do, or less. Neither can be interrupted, so ask first (below). Each call says
 //!   what it may cost.
 //! - **Stack.** The library takes its memory from the stack of the thread that calls it:
-//!   at the most 16 KiB for [`reduce`], 48 KiB for [`rebuild`], 112 KiB for [`judge`], 240 KiB for
+//!   at the most 16 KiB for [`reduce`], 48 KiB for [`rebuild`], 72 KiB for [`judge`], 248 KiB for
 //!   [`judge_page`], 16 KiB for [`rank_step`] and 24 KiB for [`forecast`], whatever the input
 //!   ([`STACK_REDUCE`], [`STACK_REBUILD`], [`STACK_JUDGE`], [`STACK_JUDGE_PAGE`], [`STACK_RANK_STEP`],
 //!   [`STACK_FORECAST`]; measured, not proved). Rust's threads have 2 MiB unless asked for less.
@@ -68,7 +68,7 @@
 //! const PER_CHOICE: Duration = Duration::from_micros(2);
 //! const PATIENCE: Duration = Duration::from_secs(1);
 //!
-//! let tables = [0; 9];
+//! let tables = [0; rcl2000::MIN_TABLES];
 //! let rule = b"|(roles(OE(U))&OE(CR))|<=1";
 //! let wait = forecast(&tables, rule)?.at_most(PER_CHOICE);
 //! if wait <= PATIENCE {
@@ -93,6 +93,43 @@
 //!   nothing, however many items the others have.
 //! - **A page** has the sum of its lines' ceilings.
 //! - **Other tables** have another ceiling. Ask again when they change.
+//!
+//! # Who already did what
+//!
+//! Roles and permissions say what a user may do. What was done stands in a section of its own, Done, to which
+//! [`TablesBuilder::done`] adds, and `done(u,o)` is the set of operations that a user, or some users, performed on
+//! one object. With it a rule can say that nobody performs two operations on one object. No rule on roles,
+//! sessions and permissions can (source document 000): where a role changes hands it sees too little, and
+//! where somebody may do either it forbids too much. Rows that stand there twice count once, and those of a
+//! user who left remain and never count.
+//!
+//! ```
+//! use rcl2000::{judge_in_turn, reduce, TablesBuilder};
+//!
+//! let mut tables = TablesBuilder::new();
+//! let (tester, grader) = (tables.role([]), tables.role([]));
+//! // Clara tested the tank while she was the tester. Now she is the grader, and graded it.
+//! let (clara, dino) = (tables.user([grader]), tables.user([tester]));
+//! let [test, grade] = tables.operations();
+//! let tank = tables.object();
+//! let kept_apart = [test, grade].map(|operation| tables.permission(operation, tank));
+//! tables.held_by(kept_apart[0], [tester]);
+//! tables.held_by(kept_apart[1], [grader]);
+//! tables.conflicting_permissions(kept_apart);
+//! tables.done(clara, test, tank);
+//! tables.done(dino, test, tank);
+//! tables.done(clara, grade, tank);
+//! let tables = tables.build()?;
+//!
+//! // Nobody may do both, and yet somebody did.
+//! let may = judge_in_turn(&tables, b"|(permissions(roles*(OE(U)))&OE(CP))|<=1")?;
+//! assert_eq!(may.to_string(), "held 2 0 0");
+//! let rule = b"|done(OE(U),OE(OBJ))|<=1";
+//! assert_eq!(reduce(rule)?, b"[v1@U][v2@OBJ]:|done(v1,v2)|<=1");
+//! let did = judge_in_turn(&tables, rule)?;
+//! assert_eq!(did.to_string(), "broken 2 1 50 v1=0 v2=0");
+//! # Ok::<(), Box<dyn std::error::Error>>(())
+//! ```
 //!
 //! # The archive
 //!
@@ -121,7 +158,7 @@ pub use calls::{check_rule, check_tables, rank_step, variables};
 pub use calls::{forecast, forecast_into};
 pub use calls::{judge, judge_in_turn, judge_into, rebuild, rebuild_into, reduce, reduce_into};
 pub use calls::{judge_page, judge_page_into};
-pub use calls::{MAX_FORMULA, MAX_RULE, MAX_TABLES, MAX_VARIABLES};
+pub use calls::{MAX_FORMULA, MAX_RULE, MAX_TABLES, MAX_VARIABLES, MIN_TABLES};
 pub use calls::{STACK_FORECAST, STACK_JUDGE, STACK_JUDGE_PAGE};
 pub use calls::{STACK_RANK_STEP, STACK_REBUILD, STACK_REDUCE};
 pub use faults::{BuildError, Fault, Unencodable};

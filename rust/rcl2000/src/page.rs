@@ -14,7 +14,7 @@ pub const MAX_LINES: usize = 32;
 /// ```
 /// use rcl2000::{judge_page, Word};
 ///
-/// let nobody = [0; 9];
+/// let nobody = [0; rcl2000::MIN_TABLES];
 /// let page = judge_page(&nobody, b"U=U\n|CR|=0\nOE(U)=OE(U)\n")?;
 /// assert_eq!(page.word, Word::Idle);
 /// assert_eq!((page.full, page.breaking, page.walks), (2, 0, 2));
@@ -64,10 +64,11 @@ impl Page {
     /// ```
     /// use rcl2000::{judge_page, judge_page_into, Page};
     ///
+    /// let nobody = [0; rcl2000::MIN_TABLES];
     /// let mut out = [0; Page::MAX_BYTES];
-    /// let length = judge_page_into(&[0; 9], b"|CR|=1", &mut out)?;
+    /// let length = judge_page_into(&nobody, b"|CR|=1", &mut out)?;
     /// let page = Page::from_bytes(&out[..length]);
-    /// assert_eq!(page, Some(judge_page(&[0; 9], b"|CR|=1")?));
+    /// assert_eq!(page, Some(judge_page(&nobody, b"|CR|=1")?));
     /// assert_eq!(Page::from_bytes(&out[..length - 1]), None);
     /// # Ok::<(), rcl2000::PageRefusal>(())
     /// ```
@@ -94,13 +95,14 @@ impl Page {
 /// ```
 /// use rcl2000::{judge_page, PageRefusal, Refusal};
 ///
-/// let refused = judge_page(&[0; 9], b"U=U\nU=R\n").unwrap_err();
+/// let nobody = [0; rcl2000::MIN_TABLES];
+/// let refused = judge_page(&nobody, b"U=U\nU=R\n").unwrap_err();
 /// assert_eq!(refused, PageRefusal { refusal: Refusal::Kind, position: 2 });
 /// assert_eq!(
 ///     refused.to_string(),
 ///     "line 2: 14, kind: a part of the rule meets a kind of thing that it does not take"
 /// );
-/// let refused = judge_page(&[0; 9], b"").unwrap_err();
+/// let refused = judge_page(&nobody, b"").unwrap_err();
 /// assert_eq!(refused, PageRefusal::from(Refusal::Page));
 /// assert_eq!(refused.to_string(), "19, page: the page has no line or more than 32");
 /// ```

@@ -81,17 +81,18 @@ macro_rules! refusals {
 }
 
 refusals! {
+    /// Tables that stop after section 9, before the count of Done, are cut short.
     1 CutShort "cut short" "the tables end where a count or a row is due, or inside a row"
     2 Overfull "overfull" "the tables announce more rows in a section than it may have"
     3 NotEntered "not entered" "a user or a permission has a row that nobody has entered yet"
     4 BadMark "bad mark" "a user has a mark above 2, or a permission one above 1"
-    5 NoSuchItem "no such item" "a row names a role, user or permission that the tables do not have"
+    5 NoSuchItem "no such item" "a row names a role, user, permission, operation or object that the tables do not have"
     6 Miscounted "miscounted" "there is not one permission for each operation on each object"
     /// [`rank_step`](crate::rank_step) says which comes first.
     7 Rank "rank" "one role misses itself or a junior's junior, or two dominate each other"
     8 Overreach "overreach" "a session has a role active that is neither assigned to its user nor junior to one that is"
     9 Twin "twin" "a conflict set is listed twice"
-    10 LeftOver "left over" "there are bytes after the end of the tables"
+    10 LeftOver "left over" "there are bytes after section 10, the last of the tables"
     11 RuleLength "rule length" "the rule is empty or longer than 256 bytes"
     12 Deep "deep" "the rule opens more than 32 brackets at once"
     13 NotARule "not a rule" "the text is not written as a rule is written"
@@ -101,6 +102,7 @@ refusals! {
     17 ShortSheet "short sheet" "the answer is longer than the space lent for it"
     18 Order "order" "the order does not list each variable once, after those that its set names"
     19 Page "page" "the page has no line or more than 32"
+    /// In Done a user who left may stand.
     20 Left "left" "a user who left has a role or a session, or is in a conflict set"
 }
 

@@ -96,7 +96,8 @@ impl Verdict {
     /// use rcl2000::{Verdict, Word};
     ///
     /// let mut bytes = [0; Verdict::BYTES];
-    /// rcl2000::judge_into(&[0; 9], b"|CR|=1", &[], &mut bytes)?;
+    /// let nobody = [0; rcl2000::MIN_TABLES];
+    /// rcl2000::judge_into(&nobody, b"|CR|=1", &[], &mut bytes)?;
     /// let verdict = Verdict::from_bytes(&bytes);
     /// assert_eq!((verdict.full, verdict.breaking, verdict.share), (1, 1, Some(100)));
     /// assert_eq!(verdict.first, [None; 8]);

@@ -35,6 +35,7 @@ pub(crate) struct Words {
     pub conflicting_roles: Vec<u64>,
     pub conflicting_users: Vec<u64>,
     pub conflicting_permissions: Vec<u64>,
+    pub done: Vec<(User, Permission)>,
 }
 
 impl Words {
@@ -54,6 +55,10 @@ impl Words {
         words(&mut out, &self.conflicting_roles);
         words(&mut out, &self.conflicting_users);
         words(&mut out, &self.conflicting_permissions);
+        out.push(self.done.len() as u8);
+        for (user, Permission { operation, object }) in &self.done {
+            out.extend([user.number(), operation.number(), object.number()].map(|n| n as u8));
+        }
         out
     }
 
@@ -82,7 +87,7 @@ impl Words {
         rows.map(|row| Fault::NotEntered { row }).collect()
     }
 
-    /// A leaver has no roles here, so that only sessions and CU can name one.
+    /// A leaver has no roles here, and may stand in Done, so that only sessions and CU can be at fault.
     fn left(&self) -> Vec<Fault> {
         let leavers = places(&self.users, |row| matches!(row, UserRow::Left));
         let leavers = leavers.fold(0u64, |word, number| word | 1 << number);

@@ -199,7 +199,96 @@ fn a_permission_may_be_named_first_and_is_looked_for_in_the_end() {
     // Two operations, one object, two rows: the first never entered; CP has bit 1.
     assert_eq!(bytes[3..6], [2, 1, 2]);
     assert_eq!((bytes[6], bytes[15]), (0, 1));
-    assert_eq!(bytes[bytes.len() - 8], 0b10);
+    // The count of Done follows the word.
+    assert_eq!(bytes[bytes.len() - 1 - 8], 0b10);
+}
+
+/// Two users, of whom the second left, two operations and three objects.
+fn with_tanks() -> TablesBuilder {
+    let mut tables = TablesBuilder::new();
+    tables.user([]);
+    tables.user_left();
+    let operations: [_; 2] = tables.operations();
+    let objects: [_; 3] = tables.objects();
+    for operation in operations {
+        for object in objects {
+            tables.held_by(tables.permission(operation, object), []);
+        }
+    }
+    tables
+}
+
+/// Adds a row to Done by its three numbers, and gives its position.
+fn done(tables: &mut TablesBuilder, row: [usize; 3]) -> usize {
+    let [user, operation, object] = row;
+    tables.done(
+        User::numbered(user),
+        Operation::numbered(operation),
+        Object::numbered(object),
+    )
+}
+
+#[test]
+fn what_was_done_stands_in_order_with_repeats_and_leavers() {
+    let mut tables = with_tanks();
+    let before = tables.build().unwrap();
+    let rows = [[0, 1, 2], [1, 0, 1], [0, 1, 2], [1, 0, 0]];
+    let places = rows.map(|row| done(&mut tables, row));
+    assert_eq!(places, [0, 1, 2, 3]);
+    let bytes = tables.build().unwrap();
+    // All other sections are as they were; then the count and the rows.
+    let (others, section) = bytes.split_at(before.len() - 1);
+    assert_eq!(others, &before[..before.len() - 1]);
+    assert_eq!(section, [4, 0, 1, 2, 1, 0, 1, 0, 1, 2, 1, 0, 0]);
+}
+
+#[test]
+fn what_was_done_names_items_that_are_there() {
+    let missing = |row: [usize; 3]| {
+        let mut tables = with_tanks();
+        done(&mut tables, [1, 1, 2]);
+        done(&mut tables, row);
+        tables.encode().unwrap_err()
+    };
+    let named = |of, item| Unencodable::NoSuchItem {
+        row: Row::Done(1),
+        of,
+        item,
+    };
+    assert_eq!(missing([2, 2, 3]), named(Section::Users, 2));
+    assert_eq!(missing([0, 2, 3]), named(Section::Operations, 2));
+    assert_eq!(missing([0, 1, 3]), named(Section::Objects, 3));
+    assert_eq!(
+        missing([usize::MAX, 0, 0]).to_string(),
+        format!(
+            "Done row 1 names user {}, which the tables do not have",
+            usize::MAX
+        )
+    );
+}
+
+#[test]
+fn sixty_four_rows_of_what_was_done_and_one_more() {
+    let mut tables = with_tanks();
+    for _ in 0..Section::Done.limit() {
+        done(&mut tables, [0, 1, 2]);
+    }
+    assert!(tables.build().is_ok());
+    done(&mut tables, [0, 1, 2]);
+    let text = "tables hold at most 64 rows in Done, not 65";
+    assert_eq!(tables.build().unwrap_err().to_string(), text);
+}
+
+/// A row of Done is no reason for 20, and hides none.
+#[test]
+fn a_leaver_in_done_is_no_fault_beside_one_in_a_session() {
+    let mut tables = with_tanks();
+    done(&mut tables, [1, 0, 0]);
+    assert!(tables.build().is_ok());
+    let user = User::numbered(1);
+    let row = Row::Session(tables.session(user, []));
+    let faults = vec![Fault::Left { row, user }];
+    assert_eq!(refused(&tables), (Refusal::Left, faults));
 }
 
 #[test]

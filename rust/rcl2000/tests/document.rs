@@ -6,7 +6,8 @@ use rcl2000::{
 };
 use rcl2000::{judge_page, judge_page_into, rank_step, rebuild, rebuild_into, reduce, reduce_into};
 use rcl2000::{variables, Forecast, Page, PageRefusal, RankStep, Refusal, Role, TablesBuilder};
-use rcl2000::{Verdict, Word, MAX_LINES, MAX_TABLES};
+use rcl2000::{Object, Operation, User, Verdict, Word};
+use rcl2000::{MAX_LINES, MAX_TABLES, MIN_TABLES};
 
 const A: &str = "|(roles(OE(U))&OE(CR))|<=1";
 const B: &str = "OE(OE(CR))@roles(OE(U))=>(AO(OE(CR))&roles(OE(U)))={}";
@@ -40,7 +41,7 @@ fn the_builder_gives_tables_t() {
         &word(1),
         &[0, 0, 0, 0, 1],
         &word(3),
-        &[0, 0],
+        &[0, 0, 0],
     ];
     assert_eq!(tables(), bytes.concat());
 }
@@ -196,8 +197,8 @@ fn forecasts_of_a_to_d() {
     }
     // T has no sessions, and nobody has anything else.
     assert_eq!(ceiling(&tables(), "OE(sessions(OE(U)))@S"), 0);
-    assert_eq!(ceiling(&[0; 9], "OE(U)=OE(U)"), 0);
-    assert_eq!(ceiling(&[0; 9], "U=U"), 1);
+    assert_eq!(ceiling(&[0; MIN_TABLES], "OE(U)=OE(U)"), 0);
+    assert_eq!(ceiling(&[0; MIN_TABLES], "U=U"), 1);
 }
 
 #[test]
@@ -322,6 +323,169 @@ fn what_is_still_there_of_a_leaver() {
     assert_eq!(rank_step(&unranked), None);
 }
 
+/// That nobody performs two operations on one object.
+const COMMITTEE: &str = "|done(OE(U),OE(OBJ))|<=1";
+
+/// Three users, of whom the last left, two operations, three objects, and rows of Done.
+fn with_done(rows: &[[usize; 3]]) -> TablesBuilder {
+    let mut tables = TablesBuilder::new();
+    let present = [tables.user([]), tables.user([])];
+    tables.user_left();
+    tables.conflicting_users(present);
+    let operations: [_; 2] = tables.operations();
+    let objects: [_; 3] = tables.objects();
+    for operation in operations {
+        for object in objects {
+            tables.held_by(tables.permission(operation, object), []);
+        }
+    }
+    for &[user, operation, object] in rows {
+        tables.done(
+            User::numbered(user),
+            Operation::numbered(operation),
+            Object::numbered(object),
+        );
+    }
+    tables
+}
+
+#[test]
+fn the_committees_rule_and_its_formula() {
+    let formula = b"[v1@U][v2@OBJ]:|done(v1,v2)|<=1";
+    assert_eq!(reduce(COMMITTEE.as_bytes()).unwrap(), formula);
+    assert_eq!(rebuild(formula).unwrap(), COMMITTEE.as_bytes());
+    assert_eq!(ceiling(&with_done(&[]).build().unwrap(), COMMITTEE), 2 * 3);
+}
+
+#[test]
+fn what_was_done_by_one_by_some_and_by_a_leaver() {
+    // User 0 both on object 1, user 1 one on each of two, the leaver both on object 0.
+    let rows = [
+        [0, 0, 1],
+        [1, 1, 0],
+        [2, 0, 0],
+        [0, 1, 1],
+        [1, 0, 2],
+        [2, 1, 0],
+    ];
+    let tables = with_done(&rows).build().unwrap();
+    let lines = [
+        (COMMITTEE, "broken 6 1 17 v1=0 v2=1"),
+        ("|done(U,OE(OBJ))|<=1", "broken 3 1 33 v1=1"),
+        ("|done(OE(CU),OE(OBJ))|>0", "held 3 0 0"),
+        ("done(AO(U),OE(OBJ))={}", "broken 6 3 50 v1=0 v2=0"),
+        ("OE(OP)@done(U,OE(OBJ))", "broken 6 2 33 v1=0 v2=0"),
+        (
+            "done(U,OE(OBJ))=operations(R,OE(OBJ))",
+            "broken 3 3 100 v1=0",
+        ),
+        ("done((U&user(S)),OE(OBJ))={}", "held 3 0 0"),
+    ];
+    for (rule, line) in lines {
+        assert_eq!(in_turn(&tables, rule).unwrap().to_string(), line, "{rule}");
+    }
+    // Nothing but the rows as a set counts, and of them those of present users.
+    let mut otherwise: Vec<[usize; 3]> = rows.iter().rev().copied().collect();
+    otherwise.retain(|row| row[0] != 2);
+    otherwise.extend([[0, 0, 1], [0, 0, 1], [1, 0, 2]]);
+    let otherwise = with_done(&otherwise).build().unwrap();
+    for (rule, line) in lines {
+        let verdict = in_turn(&otherwise, rule).unwrap();
+        assert_eq!(verdict.to_string(), line, "{rule}");
+    }
+}
+
+#[test]
+fn the_terms_of_done() {
+    let kinds = [
+        "done(U,OBJ)={}",
+        "done(U,AO(OBJ))={}",
+        "done(U,object(P))={}",
+        "done(U,object(OE(P)))={}",
+        "done(U,OE(CP))={}",
+        "done(OE(OBJ),OE(U))={}",
+        "done(R,OE(OBJ))={}",
+        "done(S,OE(OBJ))={}",
+        "done(CU,OE(OBJ))={}",
+        "done(U,OE(OBJ))=U",
+    ];
+    for rule in kinds {
+        assert_eq!(check_rule(rule.as_bytes()), Err(Refusal::Kind), "{rule}");
+    }
+    let grammar = [
+        "done()={}",
+        "done(U)={}",
+        "done(U,)={}",
+        "done(U,OE(OBJ),U)={}",
+        "done={}",
+        "Done(U,OE(OBJ))={}",
+        "done*(U,OE(OBJ))={}",
+    ];
+    for rule in grammar {
+        assert_eq!(
+            check_rule(rule.as_bytes()),
+            Err(Refusal::NotARule),
+            "{rule}"
+        );
+    }
+}
+
+#[test]
+fn rows_of_done_are_read_behind_section_9() {
+    let row = [1, 1, 2];
+    let bytes = with_done(&[row, row]).build().unwrap();
+    let count = bytes.len() - 2 * row.len() - 1;
+    let changed = |at: usize, byte: u8| {
+        let mut bytes = bytes.clone();
+        bytes[at] = byte;
+        bytes
+    };
+    // Every cut, the one after section 9 among them.
+    for length in 0..bytes.len() {
+        assert_eq!(check_tables(&bytes[..length]), Err(Refusal::CutShort));
+    }
+    assert_eq!(check_tables(&changed(count, 3)), Err(Refusal::CutShort));
+    assert_eq!(check_tables(&changed(count, 1)), Err(Refusal::LeftOver));
+    for above in [65, 255] {
+        let bytes = changed(count, above);
+        assert_eq!(check_tables(&bytes), Err(Refusal::Overfull));
+        assert_eq!(check_tables(&bytes[..=count]), Err(Refusal::Overfull));
+    }
+    // Three users, the leaver among them, two operations, three objects.
+    for (place, items) in [3, 2, 3].into_iter().enumerate() {
+        let at = count + 1 + place;
+        assert_eq!(check_tables(&changed(at, items - 1)), Ok(()));
+        for above in [items, 255] {
+            assert_eq!(check_tables(&changed(at, above)), Err(Refusal::NoSuchItem));
+        }
+        // A row that is not complete is not looked at.
+        let cut = &changed(at + row.len(), 255)[..bytes.len() - 1];
+        let expected = Err(Refusal::CutShort);
+        assert_eq!(check_tables(cut), expected, "{place}");
+    }
+}
+
+#[test]
+fn what_is_wrong_in_done_comes_before_what_is_looked_at_afterwards() {
+    let mut tables = with_done(&[[0, 0, 0]]);
+    tables.session(User::numbered(2), []);
+    tables.role_row([]);
+    let mut bytes = tables.encode().unwrap();
+    assert_eq!(check_tables(&bytes), Err(Refusal::Left));
+    bytes.push(0);
+    assert_eq!(check_tables(&bytes), Err(Refusal::LeftOver));
+    let object = bytes.len() - 2;
+    bytes[object] = 3;
+    assert_eq!(check_tables(&bytes), Err(Refusal::NoSuchItem));
+    assert_eq!(rank_step(&bytes), None);
+    assert_eq!(forecast(&bytes, b""), Err(Refusal::NoSuchItem));
+    let refused = judge_page(&bytes, b"").unwrap_err();
+    assert_eq!(
+        (refused.refusal, refused.position),
+        (Refusal::NoSuchItem, 0)
+    );
+}
+
 /// The users with a role break the rule.
 #[test]
 fn a_half_goes_to_the_even_number() {
@@ -431,6 +595,7 @@ fn the_largest_tables() {
         builder.session(users[place], [roles[place]]);
         builder.conflicting_roles([roles[place]]);
         builder.conflicting_users([users[place]]);
+        builder.done(users[place], operations[place % 8], objects[place / 8]);
     }
     assert_eq!(builder.build().unwrap().len(), MAX_TABLES);
 }

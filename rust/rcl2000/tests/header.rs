@@ -5,7 +5,7 @@ use std::fs;
 use std::path::Path;
 
 use rcl2000::{Forecast, Page, RankStep, Refusal, Verdict};
-use rcl2000::{MAX_FORMULA, MAX_LINES, MAX_RULE, MAX_TABLES, MAX_VARIABLES};
+use rcl2000::{MAX_FORMULA, MAX_LINES, MAX_RULE, MAX_TABLES, MAX_VARIABLES, MIN_TABLES};
 use rcl2000::{STACK_FORECAST, STACK_JUDGE, STACK_JUDGE_PAGE};
 use rcl2000::{STACK_RANK_STEP, STACK_REBUILD, STACK_REDUCE};
 
@@ -65,6 +65,7 @@ fn the_header_has_the_steps_of_the_rank_test() {
 fn the_header_has_the_lengths_and_the_stacks() {
     let numbers = numbers();
     let ours = [
+        ("MIN_TABLES", MIN_TABLES),
         ("MAX_TABLES", MAX_TABLES),
         ("MAX_RULE", MAX_RULE),
         ("MAX_FORMULA", MAX_FORMULA),

@@ -1,7 +1,7 @@
 //! Document 01, "Formula": a rule's formula, and the rule of a formula as Figure 7 has it.
 
 use crate::number::NO_RULES_FORMULA;
-use crate::rule::{self, Bound, Rule, Term, Test, BASICS, FUNCTIONS, RELATIONS};
+use crate::rule::{self, Bound, Rule, Term, Test, BASICS, FUNCTIONS, FUNCTIONS2, RELATIONS};
 use crate::Answer;
 
 /// No formula passes this many bytes.
@@ -85,8 +85,9 @@ impl Writer<'_> {
                     self.term(argument)
                 )
             }
-            Term::Operations(roles, object) => {
-                format!("operations({},{})", self.term(roles), self.term(object))
+            Term::Call2(function, first, object) => {
+                let name = spelling(&FUNCTIONS2, *function);
+                format!("{name}{},{})", self.term(first), self.term(object))
             }
             Term::Meet(left, right) => format!("({}&{})", self.term(left), self.term(right)),
             Term::Join(left, right) => format!("({}+{})", self.term(left), self.term(right)),

@@ -1,7 +1,7 @@
-//! Document 01, "Kinds": what each term of a rule denotes, and refusal 14.
+//! Document 01, "Kinds": what each term of a rule denotes, and refusal 14. Document 02, N8: `done`.
 
 use crate::number::KIND;
-use crate::rule::{Basic, Bound, Function, Rule, Term, Test};
+use crate::rule::{Basic, Bound, Function, Function2, Rule, Term, Test};
 use crate::Answer;
 
 #[derive(Clone, Copy, PartialEq, Eq, Debug)]
@@ -89,10 +89,9 @@ impl Kinds {
             },
             Term::Other(number) => self.0[*number],
             Term::Call(function, argument) => of_call(*function, self.term(argument)?)?,
-            Term::Operations(roles, object) => match (self.term(roles)?, self.term(object)?) {
-                (Element(Sort::R) | Set(Sort::R), Element(Sort::Obj)) => Set(Sort::Op),
-                _ => return Err(KIND),
-            },
+            Term::Call2(function, first, object) => {
+                of_call2(*function, self.term(first)?, self.term(object)?)?
+            }
             Term::Meet(left, right) | Term::Join(left, right) => {
                 joined(self.term(left)?, self.term(right)?)?
             }
@@ -147,6 +146,16 @@ fn of_call(function: Function, argument: Kind) -> Answer<Kind> {
         (Function::Object, Sort::P) => Set(Sort::Obj),
         _ => return Err(KIND),
     })
+}
+
+/// Both are of one object, "an element", and give a set of operations.
+fn of_call2(function: Function2, first: Kind, object: Kind) -> Answer<Kind> {
+    let sort = match function {
+        Function2::Operations => Sort::R,
+        Function2::Done => Sort::U,
+    };
+    let fits = [Element(sort), Set(sort)].contains(&first) && object == Element(Sort::Obj);
+    fits.then_some(Set(Sort::Op)).ok_or(KIND)
 }
 
 /// The kind of a union or an intersection: an element counts as the set of itself.

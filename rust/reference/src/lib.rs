@@ -1,4 +1,4 @@
-//! Document 01 a second time, with N1 to N7 of document 02: tables, rules, formulas, verdicts, the
+//! Document 01 a second time, with N1 to N8 of document 02: tables, rules, formulas, verdicts, the
 //! day sheet, pages and forecasts in plain Rust.
 //!
 //! It was written from the documents alone and shares no code with the proved library, so that the

@@ -1,4 +1,4 @@
-//! Document 01, "Rule text": the tree of a rule, its reader, and the checks 11 to 15.
+//! Document 01, "Rule text": the tree of a rule, its reader, and the checks 11 to 15. Document 02, N8: `done`.
 
 use std::ops::Range;
 
@@ -31,11 +31,18 @@ pub enum Function {
     Object,
 }
 
+/// The functions of two terms: "Beside `operations` it is the only call with two terms."
+#[derive(Clone, Copy, PartialEq, Eq, Debug)]
+pub enum Function2 {
+    Operations,
+    Done,
+}
+
 #[derive(Clone, PartialEq, Eq, Debug)]
 pub enum Term {
     Basic(Basic),
     Call(Function, Box<Term>),
-    Operations(Box<Term>, Box<Term>),
+    Call2(Function2, Box<Term>, Box<Term>),
     /// `OE(X)`: the number, from 0, of the variable whose set is X.
     One(usize),
     /// `AO(X)`: the number, from 0, of the variable whose set is X.
@@ -111,6 +118,12 @@ pub const FUNCTIONS: [(&str, Function); 7] = [
     ("permissions(", Function::Permissions),
     ("permissions*(", Function::PermissionsStar),
     ("object(", Function::Object),
+];
+
+/// The spelling of each function of two terms, up to its first.
+pub const FUNCTIONS2: [(&str, Function2); 2] = [
+    ("operations(", Function2::Operations),
+    ("done(", Function2::Done),
 ];
 
 /// The spelling of each relation, the longer of two that begin alike first.
@@ -267,12 +280,12 @@ impl Reader<'_> {
         if self.take("AO(") {
             return Some(Term::Other(self.choice()?));
         }
-        if self.take("operations(") {
-            let roles = Box::new(self.term()?);
+        if let Some((_, function)) = FUNCTIONS2.iter().find(|(name, _)| self.take(name)) {
+            let first = Box::new(self.term()?);
             self.expect(",")?;
             let object = Box::new(self.term()?);
             self.expect(")")?;
-            return Some(Term::Operations(roles, object));
+            return Some(Term::Call2(*function, first, object));
         }
         if let Some((_, function)) = FUNCTIONS.iter().find(|(name, _)| self.take(name)) {
             let argument = Box::new(self.term()?);

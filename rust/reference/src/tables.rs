@@ -1,5 +1,6 @@
 //! Document 01, "Tables" and "Functions": reading tables front to back, and Figure 2 on them.
-//! Document 02, N2: which roles a session may have active; N4: the steps of the rank test; N6: who left.
+//! Document 02, N2: which roles a session may have active; N4: the steps of the rank test; N6: who left;
+//! N8: who already did what.
 
 use crate::number::*;
 use crate::set::Set;
@@ -10,6 +11,14 @@ use crate::Answer;
 pub struct Session {
     pub user: usize,
     pub roles: Set,
+}
+
+/// A row of Done: a user did an operation on an object.
+#[derive(Clone, PartialEq, Eq, Debug)]
+pub struct Done {
+    pub user: usize,
+    pub operation: usize,
+    pub object: usize,
 }
 
 /// Accepted tables.
@@ -29,6 +38,8 @@ pub struct Tables {
     pub cr: Vec<Set>,
     pub cu: Vec<Set>,
     pub cp: Vec<Set>,
+    /// "A leaver may stand in Done." Repeated rows stand here as often.
+    pub done: Vec<Done>,
 }
 
 /// The marks of rows: "Mark 2 in a user row means left. .. Permission rows still know marks 0 and 1 only."
@@ -56,6 +67,12 @@ impl<'a> Rest<'a> {
             return Err(OVERFULL);
         }
         Ok(count)
+    }
+
+    /// A section of at most 64 rows, behind their count.
+    fn section<T>(&mut self, row: impl Fn(&mut Self) -> Answer<T>) -> Answer<Vec<T>> {
+        let count = self.count(64)?;
+        (0..count).map(|_| row(self)).collect()
     }
 
     /// A section of words, each preceded by nothing.
@@ -86,6 +103,20 @@ impl<'a> Rest<'a> {
         Ok(Session {
             user,
             roles: word(&row[1..], roles)?,
+        })
+    }
+
+    /// "rows of user, operation and object, a byte each", held against these counts.
+    fn done(&mut self, counts: [usize; 3]) -> Answer<Done> {
+        let row = self.row(3)?;
+        let [user, operation, object] = [row[0], row[1], row[2]].map(usize::from);
+        if user >= counts[0] || operation >= counts[1] || object >= counts[2] {
+            return Err(NO_SUCH_ITEM);
+        }
+        Ok(Done {
+            user,
+            operation,
+            object,
         })
     }
 }
@@ -123,10 +154,7 @@ fn sections(bytes: &[u8]) -> Answer<Tables> {
     let users = rest.count(64)?;
     let (marks, assigned): (Vec<u8>, _) = rest.marked(users, roles, GONE)?.into_iter().unzip();
     let present = Set::of(|user| marks.get(user) == Some(&ENTERED));
-    let count = rest.count(64)?;
-    let sessions = (0..count)
-        .map(|_| rest.session(users, roles))
-        .collect::<Answer<_>>()?;
+    let sessions = rest.section(|rest| rest.session(users, roles))?;
     let operations = rest.count(8)?;
     let objects = rest.count(8)?;
     let permissions = rest.row(1)?[0] as usize;
@@ -134,14 +162,12 @@ fn sections(bytes: &[u8]) -> Answer<Tables> {
         return Err(MISCOUNTED);
     }
     let holders = rest.marked(permissions, roles, ENTERED)?;
-    let mut collection = |items| {
-        let count = rest.count(64)?;
-        rest.words(count, items)
-    };
+    let mut collection = |items| rest.section(|rest| word(rest.row(8)?, items));
     let tables = Tables {
         cr: collection(roles)?,
         cu: collection(users)?,
         cp: collection(permissions)?,
+        done: rest.section(|rest| rest.done([users, operations, objects]))?,
         dominated,
         assigned,
         present,
@@ -270,6 +296,13 @@ impl Tables {
                     .items()
                     .any(|object| self.holders[operation * self.objects + object].meets(roles))
         })
+    }
+
+    /// The operations that one of these users did on one of these objects.
+    pub fn done_by(&self, users: &Set, objects: &Set) -> Set {
+        let by_them = |row: &&Done| users.contains(row.user) && objects.contains(row.object);
+        let rows = self.done.iter().filter(by_them);
+        rows.fold(Set::EMPTY, |all, row| all.or(&Set::single(row.operation)))
     }
 }
 

@@ -2,7 +2,7 @@
 
 use crate::kind::{Collection, Kind, Kinds, Sort};
 use crate::number::ORDER;
-use crate::rule::{self, Basic, Bound, Clause, Function, Relation, Rule, Term, Test};
+use crate::rule::{self, Basic, Bound, Clause, Function, Function2, Relation, Rule, Term, Test};
 use crate::set::Set;
 use crate::tables::{self, Tables};
 use crate::Answer;
@@ -133,7 +133,7 @@ pub fn named(term: &Term, rule: &Rule) -> Vec<usize> {
             names
         }
         Term::Call(_, argument) => named(argument, rule),
-        Term::Operations(left, right) | Term::Meet(left, right) | Term::Join(left, right) => {
+        Term::Call2(_, left, right) | Term::Meet(left, right) | Term::Join(left, right) => {
             let mut names = named(left, rule);
             names.extend(named(right, rule));
             names
@@ -217,9 +217,13 @@ impl Judge<'_> {
                 .set(*number)
                 .without(&Set::single(self.choice[*number])),
             Term::Call(function, argument) => self.call(*function, argument),
-            Term::Operations(roles, object) => self
-                .tables
-                .operations_of(&self.value(roles), &self.value(object)),
+            Term::Call2(function, first, object) => {
+                let (first, object) = (self.value(first), self.value(object));
+                match function {
+                    Function2::Operations => self.tables.operations_of(&first, &object),
+                    Function2::Done => self.tables.done_by(&first, &object),
+                }
+            }
             Term::Meet(left, right) => self.value(left).and(&self.value(right)),
             Term::Join(left, right) => self.value(left).or(&self.value(right)),
         }

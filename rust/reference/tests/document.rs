@@ -7,7 +7,7 @@ use reference::{fast, formula, sheet, verdict};
 /// Tables T.
 const T: &[u8] = b"\x02\x01\0\0\0\0\0\0\0\x02\0\0\0\0\0\0\0\
     \x02\x01\x03\0\0\0\0\0\0\0\x01\x01\0\0\0\0\0\0\0\
-    \0\0\0\0\x01\x03\0\0\0\0\0\0\0\0\0";
+    \0\0\0\0\x01\x03\0\0\0\0\0\0\0\0\0\0";
 
 const B: &[u8] = b"OE(OE(CR))@roles(OE(U))=>(AO(OE(CR))&roles(OE(U)))={}";
 
@@ -36,13 +36,22 @@ fn the_foot_of_the_listing() {
 
 #[test]
 fn formulas_both_ways() {
-    let examples: [(&[u8], &[u8]); 3] = [
+    let examples: [(&[u8], &[u8]); 5] = [
         (
             B,
             b"[v1@CR][v2@v1][v3@U]:v2@roles(v3)=>((v1-{v2})&roles(v3))={}",
         ),
         (b"AO(U)={}", b"[v1@U]:(U-{v1})={}"),
         (b"|CR|=1", b":|CR|=1"),
+        // Document 02, N8.
+        (
+            b"|done(OE(U),OE(OBJ))|<=1",
+            b"[v1@U][v2@OBJ]:|done(v1,v2)|<=1",
+        ),
+        (
+            b"OE(done(AO(U),OE(OBJ)))@OP",
+            b"[v1@U][v2@OBJ][v3@done((U-{v1}),v2)]:v3@OP",
+        ),
     ];
     for (rule, written) in examples {
         for reduce in [formula::reduce, fast::reduce] {
@@ -52,7 +61,13 @@ fn formulas_both_ways() {
             assert_eq!(rebuild(written).as_deref(), Ok(rule));
         }
     }
-    for written in [&b"[v1@U]:U=U"[..], b"[v1@U][v2@U]:v1=v2"] {
+    let none: [&[u8]; 4] = [
+        b"[v1@U]:U=U",
+        b"[v1@U][v2@U]:v1=v2",
+        b"[v1@OBJ]:done(v1)={}",
+        b"[v1@U]:done(v1,OBJ)={}",
+    ];
+    for written in none {
         assert_eq!(formula::rebuild(written), Err(NO_RULES_FORMULA));
         assert_eq!(fast::rebuild(written), Err(NO_RULES_FORMULA));
     }
@@ -76,7 +91,7 @@ fn verdicts_in_any_order() {
 #[test]
 fn nothing_to_choose_is_idle_at_once() {
     let user = [1, 0, 0, 0, 0, 0, 0, 0, 0];
-    let tables = [&[0, 64][..], &user.repeat(64), &[0; 7]].concat();
+    let tables = [&[0, 64][..], &user.repeat(64), &[0; 8]].concat();
     let users = "AO(".repeat(7) + "U" + &")".repeat(7);
     let rule = format!("OE(sessions({users}))@S");
     assert!(forecast(&tables, &rule).ends_with(" 0"));
@@ -126,7 +141,7 @@ fn roles(rows: &[u8]) -> Vec<u8> {
     for &row in rows {
         bytes.extend([row, 0, 0, 0, 0, 0, 0, 0]);
     }
-    bytes.extend([0; 8]);
+    bytes.extend([0; 9]);
     bytes
 }
 
@@ -147,7 +162,7 @@ fn steps_of_the_rank_test() {
         (roles(&[0b0011, 0b0011, 0b0110, 0b1000]), 2),
         // A refusal that comes before 7.
         (longer, 0),
-        (roles(&[0])[..16].to_vec(), 0),
+        (roles(&[0])[..17].to_vec(), 0),
         (roles(&[0b10]), 0),
     ];
     for (tables, step) in cases {
@@ -169,7 +184,7 @@ fn forecast(tables: &[u8], rule: &str) -> String {
 }
 
 /// Tables in which every count is another one: 2 roles, 3 users, 5 sessions, 1 operation, 7 objects, so 7
-/// permissions, 4 words in CR, 6 in CU, 8 in CP. Nobody has a role.
+/// permissions, 4 words in CR, 6 in CU, 8 in CP, 9 rows in Done. Nobody has a role.
 fn counted() -> Vec<u8> {
     let word = |low: u8| [low, 0, 0, 0, 0, 0, 0, 0];
     let rows = |mark: &[u8], count: u8, of: fn(u8) -> u8| {
@@ -185,6 +200,8 @@ fn counted() -> Vec<u8> {
         rows(&[], 4, |row| row),
         rows(&[], 6, |row| row),
         rows(&[], 8, |row| row),
+        vec![9],
+        vec![0; 3 * 9],
     ]
     .concat()
 }
@@ -211,6 +228,7 @@ fn forecasts_count_the_sort_or_the_whole_collection() {
         ("OE(AO(OE(CU)))@U", "[v1@CU][v2@v1][v3@(v1-{v2})]:v3@U", 54),
         ("OE(roles(OE(U)))@R", "[v1@U][v2@roles(v1)]:v2@R", 6),
         ("OE((U&OE(U)))@U", "[v1@U][v2@(U&v1)]:v2@U", 9),
+        ("OE(done(U,OE(OBJ)))@OP", "[v1@OBJ][v2@done(U,v1)]:v2@OP", 7),
         // Choices with one text are one variable.
         ("AO(U)=AO(U)^OE(U)@U", "[v1@U]:(U-{v1})=(U-{v1})^v1@U", 3),
     ];
@@ -262,7 +280,7 @@ fn left(row: [u8; 2], named: [u8; 2], more: &[u8]) -> Vec<u8> {
         &marked(named[0], 0),
         &[0, 0, 0, 0, 1],
         &cu,
-        &[0],
+        &[0, 0],
         more,
     ];
     parts.concat()
@@ -317,11 +335,139 @@ fn users_are_those_who_have_not_left() {
     assert_eq!(sheet::sheet(&tables, rules), sheet);
     assert_eq!(forecast(&tables, "OE(U)=OE(U)"), "12 2");
     assert_eq!(forecast(&tables, "OE(OE(CU))@U"), "19 2");
-    let nobody = [&[0, 1, 2][..], &[0; 8], &[0; 7]].concat();
+    let nobody = [&[0, 1, 2][..], &[0; 8], &[0; 8]].concat();
     assert_eq!(forecast(&nobody, "OE(U)=OE(U)"), "12 0");
     let rules = b"OE(U)=OE(U)\nU={}";
     let idle = "1 idle 0 0 -\n2 held 1 0 0\ntotal 2 held 1 idle 1 broken 0 refused 0\n";
     assert_eq!(sheet::sheet(&nobody, rules), idle);
+}
+
+/// No roles; three users, of whom the second left; two operations on four objects; these rows of Done, and
+/// what stands behind them.
+fn doing(rows: &[[u8; 3]], more: &[u8]) -> Vec<u8> {
+    let marked = |mark: u8| [mark, 0, 0, 0, 0, 0, 0, 0, 0];
+    let count = [0, 0, 0, rows.len() as u8];
+    let parts: [&[u8]; 7] = [
+        &[0, 3],
+        &[1, 2, 1].map(marked).concat(),
+        &[0, 2, 4, 8],
+        &marked(1).repeat(8),
+        &count,
+        &rows.concat(),
+        more,
+    ];
+    parts.concat()
+}
+
+#[test]
+fn rows_of_done() {
+    let short = |rows: &[[u8; 3]], missing: usize| {
+        let tables = doing(rows, &[]);
+        tables[..tables.len() - missing].to_vec()
+    };
+    let cases = [
+        (vec![0; 10], 0),
+        (vec![0; 9], 1),
+        (doing(&[], &[]), 0),
+        (short(&[], 1), 1),
+        (doing(&[], &[0]), 10),
+        // The last of each, a leaver among the users; each number at its count.
+        (doing(&[[2, 1, 3], [1, 0, 0]], &[]), 0),
+        (doing(&[[3, 0, 0]], &[]), 5),
+        (doing(&[[0, 2, 0]], &[]), 5),
+        (doing(&[[0, 0, 4]], &[]), 5),
+        // A row is whole before it is looked at, and looked at before the next.
+        (short(&[[3, 2, 4]], 1), 1),
+        (short(&[[3, 2, 4]], 2), 1),
+        (short(&[[3, 2, 4]], 3), 1),
+        (short(&[[0, 0, 4], [0, 0, 0]], 1), 5),
+        (doing(&[[0, 0, 4]], &[0]), 5),
+        // Repeats fill the rows.
+        (doing(&[[0, 1, 2]; 64], &[]), 0),
+        (doing(&[[9, 9, 9]; 65], &[]), 2),
+        (short(&[[0, 0, 0]; 65], 3 * 65), 2),
+    ];
+    for (tables, number) in cases {
+        let command = format!("tables {}", hex(&tables));
+        assert_eq!(both(&command), number.to_string(), "{command}");
+    }
+}
+
+/// 5 in Done comes before 20 and before 7.
+#[test]
+fn done_is_read_before_the_whole_is_looked_at() {
+    for row in [[2, 1], [2, 0]] {
+        let mut tables = left(row, [0, 2], &[0; 3]);
+        let count = tables.len() - 4;
+        (tables[1], tables[count]) = (0, 1);
+        assert_eq!(both(&format!("tables {}", hex(&tables))), "5");
+        assert_eq!(both(&format!("rankstep {}", hex(&tables))), "0");
+    }
+}
+
+#[test]
+fn terms_of_done() {
+    let accepted = [
+        "U,OE(OBJ)",
+        "OE(U),OE(OBJ)",
+        "AO(OE(CU)),OE(OBJ)",
+        "user(OE(S)),OE(OBJ)",
+        "(U&OE(U)),OE(object(P))",
+    ];
+    let kind = [
+        "R,OE(OBJ)",
+        "CU,OE(OBJ)",
+        "U,OBJ",
+        "U,AO(OBJ)",
+        "U,object(OE(P))",
+        "U,(OE(OBJ)&OE(OBJ))",
+        "U,OE(OP)",
+        "OE(OBJ),OE(U)",
+    ];
+    let grammar = ["U", "", "U,", "U,OE(OBJ),OE(OBJ)", "U OE(OBJ)"];
+    let asked = |name: &str, terms: &str| {
+        let rule = format!("{name}({terms})={{}}");
+        both(&format!("rule {}", hex(rule.as_bytes())))
+    };
+    for (all, number) in [(&accepted[..], "0"), (&kind, "14"), (&grammar, "13")] {
+        for terms in all {
+            assert_eq!(asked("done", terms), number, "{terms}");
+        }
+    }
+    for name in ["done*", "Done", "don", "operations*"] {
+        assert_eq!(asked(name, accepted[0]), "13", "{name}");
+    }
+    assert_eq!(asked("operations", accepted[0]), "14");
+}
+
+/// User 0 did both operations on object 2, user 2 one twice on object 0, and who left both on object 3.
+#[test]
+fn who_did_what() {
+    let rows = [
+        [0, 0, 2],
+        [0, 1, 2],
+        [2, 1, 0],
+        [2, 1, 0],
+        [1, 0, 3],
+        [1, 1, 3],
+    ];
+    let rules = b"|done(OE(U),OE(OBJ))|<=1\ndone(U,OE(OBJ))={}\n|done(U,OE(OBJ))|<=1\n\
+        done(OE(U),OE(OBJ))=operations(R,OE(OBJ))\nOE(done(OE(U),OE(OBJ)))@OP";
+    let lines = "1 broken 8 1 12 v1=0 v2=2\n2 broken 4 2 50 v1=0\n3 broken 4 1 25 v1=2\n\
+        4 broken 8 2 25 v1=0 v2=2\n5 held 3 0 0\n";
+    let total = "total 5 held 1 idle 0 broken 4 refused 0\n";
+    let turned: Vec<[u8; 3]> = rows.into_iter().rev().collect();
+    for rows in [
+        &rows[..],
+        &turned,
+        &rows[..4],
+        &[&rows[..3], &rows].concat(),
+    ] {
+        let tables = doing(rows, &[]);
+        assert_eq!(sheet::sheet(&tables, rules), [lines, total].concat());
+        let page = format!("page {} {}", hex(&tables), hex(rules));
+        assert!(both(&page).starts_with("broken 27 6 3 broken:8:1:12:0002ff"));
+    }
 }
 
 /// Document 02's shares, others that are halves, and the largest counts with a choice more and less.

@@ -1,25 +1,24 @@
-//! Prints how much stack each call takes on the inputs that are meant to hurt, without the share of the
-//! thread that calls: the numbers that the crate's documentation and `include/rcl2000.h` round up.
+//! Prints how much stack each call takes on the inputs that are meant to hurt: the numbers that the crate's
+//! documentation and `include/rcl2000.h` round up.
 //!
 //! A stack that is too small ends the process, so each size is tried in a process of its own:
-//! `stack CALL BYTES` calls where that many bytes are left, more or less. How many fewer are enough for
-//! no call at all is what the call takes.
+//! `stack CALL BYTES` calls where that many bytes are left.
 
 use std::collections::BTreeSet;
 use std::env;
-use std::hint::black_box;
 use std::process::{exit, Command, Stdio};
 use std::thread;
 
 use differential::hold::Question;
 use differential::hurtful;
+use differential::small_stack::Stack;
 use rcl2000::MAX_FORMULA;
 
-/// No call at all.
-const NOTHING: &str = "nothing";
+/// More than any call needs, in bytes.
+const ENOUGH: usize = 512 * 1024;
 
-/// The thread's stack, in bytes: more than any call needs.
-const STACK: usize = 1 << 20;
+/// The thread's stack, in bytes.
+const STACK: usize = 2 * ENOUGH;
 
 /// The exactness of a measurement.
 const STEP: usize = 256;
@@ -28,10 +27,9 @@ fn main() {
     let words: Vec<String> = env::args().skip(1).collect();
     match &words[..] {
         [] => {
-            let own = least(NOTHING);
             let calls: BTreeSet<&str> = hurtful::questions().iter().map(name).collect();
             for call in calls {
-                println!("{call}: {} bytes", least(call) - own);
+                println!("{call}: {} bytes", least(call));
             }
         }
         [call, left] => answer(call, left.parse().unwrap_or(0)),
@@ -44,7 +42,7 @@ fn main() {
 
 /// How many bytes must be left: halves the distance between too few and enough.
 fn least(call: &str) -> usize {
-    let (mut few, mut enough) = (0, STACK / 2 / STEP);
+    let (mut few, mut enough) = (0, ENOUGH / STEP);
     while few + 1 < enough {
         let steps = (few + enough) / 2;
         match suffices(call, steps * STEP) {
@@ -70,8 +68,7 @@ fn answer(call: &str, left: usize) {
     let mut out = vec![0; MAX_FORMULA];
     let large = thread::Builder::new().stack_size(STACK);
     let thread = large.spawn(move || {
-        let top = [0; STEP];
-        below(address(&top), STACK - left, &mut || {
+        Stack::here().with_left(left, || {
             for question in &questions {
                 let _ = question.ask(&mut out);
             }
@@ -79,21 +76,6 @@ fn answer(call: &str, left: usize) {
     });
     let joined = thread.map(|thread| thread.join());
     exit(i32::from(!matches!(joined, Ok(Ok(())))));
-}
-
-/// Does it where that many bytes of the stack are used.
-fn below(top: usize, used: usize, what: &mut dyn FnMut()) {
-    let pad = [0; STEP];
-    match top - address(&pad) < used {
-        true => below(top, used, what),
-        false => what(),
-    }
-    // Behind the call, so that each has its own.
-    black_box(&pad);
-}
-
-fn address(pad: &[u8; STEP]) -> usize {
-    black_box(pad).as_ptr() as usize
 }
 
 fn name(question: &Question) -> &'static str {

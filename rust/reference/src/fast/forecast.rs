@@ -3,7 +3,8 @@
 use super::tables::{read, Tables};
 use crate::forecast::Forecast;
 use crate::kind::{Collection, Kind, Kinds, Sort};
-use crate::rule::{self, Bound, Clause, Relation, Rule, Term, Test, BASICS, FUNCTIONS, RELATIONS};
+use crate::rule::{self, Bound, Clause, Relation, Rule, Term, Test};
+use crate::rule::{BASICS, FUNCTIONS, FUNCTIONS2, RELATIONS};
 use crate::Answer;
 
 /// The forecast for a rule, or the first refusal of the tables and the rule.
@@ -93,7 +94,9 @@ impl Lengths {
             Term::Call(function, argument) => {
                 FUNCTIONS[*function as usize].0.len() + self.term(argument) + ")".len()
             }
-            Term::Operations(roles, object) => "operations(,)".len() + self.two(roles, object),
+            Term::Call2(function, first, object) => {
+                FUNCTIONS2[*function as usize].0.len() + self.two(first, object) + ",)".len()
+            }
             Term::Meet(left, right) | Term::Join(left, right) => {
                 "(&)".len() + self.two(left, right)
             }

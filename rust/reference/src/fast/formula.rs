@@ -1,7 +1,7 @@
 //! Formulas written in one pass, and read back by replacing their variables as they come.
 
 use crate::number::NO_RULES_FORMULA;
-use crate::rule::{self, Bound, Rule, Term, Test, BASICS, FUNCTIONS, RELATIONS};
+use crate::rule::{self, Bound, Rule, Term, Test, BASICS, FUNCTIONS, FUNCTIONS2, RELATIONS};
 use crate::Answer;
 
 /// The formula of an accepted rule.
@@ -100,9 +100,9 @@ impl Writer<'_> {
                 self.term(argument);
                 self.put(")");
             }
-            Term::Operations(roles, object) => {
-                self.put("operations(");
-                self.pair(roles, ",", object);
+            Term::Call2(function, first, object) => {
+                self.put(FUNCTIONS2[*function as usize].0);
+                self.pair(first, ",", object);
                 self.put(")");
             }
             Term::Meet(left, right) => {

@@ -4,7 +4,7 @@
 use super::forecast::ceiling;
 use super::tables::{below, items, read, Tables};
 use crate::kind::{Collection, Kind, Kinds, Sort};
-use crate::rule::{self, Basic, Bound, Function, Relation, Rule, Term, Test};
+use crate::rule::{self, Basic, Bound, Function, Function2, Relation, Rule, Term, Test};
 use crate::verdict::{read_order, Verdict, NO_CHOICE};
 use crate::Answer;
 
@@ -40,6 +40,7 @@ enum Expr<'a> {
     /// The items whose row meets the word.
     Preimage(&'a [u64], Box<Expr<'a>>),
     Operations(&'a Tables, Box<Expr<'a>>, Box<Expr<'a>>),
+    Done(&'a Tables, Box<Expr<'a>>, Box<Expr<'a>>),
     And(Box<Expr<'a>>, Box<Expr<'a>>),
     Or(Box<Expr<'a>>, Box<Expr<'a>>),
 }
@@ -122,8 +123,12 @@ impl<'a> Lower<'a> {
             Term::One(number) => Expr::One(*number),
             Term::Other(number) => Expr::Other(*number),
             Term::Call(function, argument) => self.call(*function, argument),
-            Term::Operations(roles, object) => {
-                Expr::Operations(self.tables, self.boxed(roles), self.boxed(object))
+            Term::Call2(function, first, object) => {
+                let call = match function {
+                    Function2::Operations => Expr::Operations,
+                    Function2::Done => Expr::Done,
+                };
+                call(self.tables, self.boxed(first), self.boxed(object))
             }
             Term::Meet(left, right) => Expr::And(self.boxed(left), self.boxed(right)),
             Term::Join(left, right) => Expr::Or(self.boxed(left), self.boxed(right)),
@@ -249,6 +254,9 @@ impl Walk<'_> {
             Expr::Operations(tables, roles, object) => {
                 operations(tables, self.value(roles), self.value(object))
             }
+            Expr::Done(tables, users, object) => {
+                done(tables, self.value(users), self.value(object))
+            }
             Expr::And(left, right) => self.value(left) & self.value(right),
             Expr::Or(left, right) => self.value(left) | self.value(right),
         }
@@ -270,6 +278,12 @@ fn operations(tables: &Tables, roles: u64, object: u64) -> u64 {
     let object = object.trailing_zeros() as usize;
     let held = |op: usize| tables.holders[op * tables.objects + object] & roles != 0;
     (0..tables.operations).fold(0, |all, op| all | u64::from(held(op)) << op)
+}
+
+/// The operations that one of these users did on one object.
+fn done(tables: &Tables, users: u64, object: u64) -> u64 {
+    let first = object.trailing_zeros() as usize * tables.assigned.len();
+    image(&tables.done[first..], users)
 }
 
 fn stands(left: u32, relation: Relation, right: u32) -> bool {

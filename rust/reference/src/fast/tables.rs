@@ -24,6 +24,8 @@ pub struct Tables {
     pub cr: Vec<u64>,
     pub cu: Vec<u64>,
     pub cp: Vec<u64>,
+    /// For each object, as many rows as there are users: the operations that each did on it.
+    pub done: Vec<u64>,
 }
 
 /// The word of the items below `count`.
@@ -93,6 +95,19 @@ impl<'a> Rest<'a> {
         }
         Ok((session_user, active))
     }
+
+    /// For each object and user, the operations done.
+    fn done(&mut self, users: usize, operations: usize, objects: usize) -> Answer<Vec<u64>> {
+        let mut done = vec![0; objects * users];
+        for _ in 0..self.count(64)? {
+            let [user, operation, object] = self.row::<3>()?.map(usize::from);
+            if user >= users || operation >= operations || object >= objects {
+                return Err(NO_SUCH_ITEM);
+            }
+            done[object * users + user] |= 1 << operation;
+        }
+        Ok(done)
+    }
 }
 
 fn word(bytes: [u8; 8], items: usize) -> Answer<u64> {
@@ -144,6 +159,7 @@ fn sections(bytes: &[u8]) -> Answer<Tables> {
         cr: collection(roles)?,
         cu: collection(users)?,
         cp: collection(permissions)?,
+        done: rest.done(users, operations, objects)?,
         object: (0..permissions).map(|p| 1 << (p % objects)).collect(),
         dominated,
         assigned,
