@@ -14,7 +14,8 @@
  *
  * - Pointers. Each points to as many bytes as its length says, and is not NULL, also where the length is 0.
  * - Aliasing. `out` overlaps no input. Inputs may overlap each other. Nothing else may write to any of them before the
- *   call returns. No pointer is kept after that.
+ *   call returns. No pointer is kept after that. So session_open and session_close take one state and write the next
+ *   elsewhere: two buffers of RCL2000_MAX_STATE bytes, lent in turn, serve for as many calls as there are.
  * - Time. reduce, rebuild, rank_step and forecast take microseconds, judge a tenth of a millisecond with two
  *   variables and a few milliseconds for most rules with more, whatever the order. A rule with one clause over many
  *   variables, or with sets inside sets, can still take some 20 to 100 ns for each full choice on a present machine, up
@@ -22,19 +23,29 @@
  *   variables: 16 million with four, 2.8e14 with eight, which takes months. A call cannot be interrupted. Whoever
  *   judges rules that others wrote asks forecast first, for a ceiling on the full choices: a small one is a promise, a
  *   large one says nothing, and where it is 0 the rule is idle, which judge sees at once. judge_page takes about what
- *   judge takes for its lines, and less where many lines choose alike.
+ *   judge takes for its lines, and less where many lines choose alike. sessions_start, session_open and session_close take
+ *   about what judge does, and the last two microseconds where the rule mentions neither S nor sessions.
  * - Stack. All memory comes from the stack of the thread that calls, at the most RCL2000_STACK_REDUCE,
- *   RCL2000_STACK_REBUILD, RCL2000_STACK_JUDGE, RCL2000_STACK_JUDGE_PAGE, RCL2000_STACK_RANK_STEP and
- *   RCL2000_STACK_FORECAST bytes, whatever the input. (Measured and tested, not proved.)
- * - Threads. No state is kept between calls or shared: any number of threads may call at once.
- * - Names. The archive defines the six names below and no other, and needs memcpy and memset. A program with a
- *   function of its own called reduce, rebuild, judge, judge_page, rank_step or forecast cannot link it.
+ *   RCL2000_STACK_REBUILD, RCL2000_STACK_JUDGE, RCL2000_STACK_JUDGE_PAGE, RCL2000_STACK_RANK_STEP,
+ *   RCL2000_STACK_FORECAST, RCL2000_STACK_SESSIONS_START, RCL2000_STACK_SESSION_OPEN and RCL2000_STACK_SESSION_CLOSE
+ *   bytes, whatever the input. (Measured and tested, not proved.)
+ * - Threads. Nothing is kept between calls or shared: any number of threads may call at once. A state is bytes that the
+ *   caller keeps.
+ * - Names. The archive defines the nine names below and no other, and needs memcpy and memset. A program with a
+ *   function of its own called reduce, rebuild, judge, judge_page, rank_step, forecast, sessions_start, session_open or
+ *   session_close cannot link it.
  * - Machine. x86-64 Linux.
  *
  * Tables end with section 10, Done, who already did what: a count of at most 64, then rows of three bytes, the numbers
  * of a user, an operation and an object. The function done(u,o) of a rule takes a user or users and one object and is
  * the set of operations that they performed on it; a row that stands there twice counts once, and one of a user who left
  * remains and never counts. Tables that stop after section 9 are cut short.
+ *
+ * Sessions come and go: sessions_start makes a state of tables and a rule, session_open and session_close each make the
+ * next, and the verdict in front of it is what judge writes for the rule on the tables with the sessions that are open. A
+ * session is opened behind the last, and closing one moves those after it down by one: the number of a session falls
+ * whenever one before it is closed, so no number may be kept across a close. A refused call writes nothing, and the
+ * state that it was handed is still the current one.
  */
 #ifndef RCL2000_H
 #define RCL2000_H
@@ -57,6 +68,9 @@
 #define RCL2000_MAX_VARIABLES 8
 #define RCL2000_MAX_LINES 32
 
+/* The most bytes that a state has: 28, and those of the longest rule and the largest tables. */
+#define RCL2000_MAX_STATE 4262
+
 /* The stack that each call takes at the most, in bytes. */
 #define RCL2000_STACK_REDUCE (16 * 1024)
 #define RCL2000_STACK_REBUILD (48 * 1024)
@@ -64,6 +78,9 @@
 #define RCL2000_STACK_JUDGE_PAGE (248 * 1024)
 #define RCL2000_STACK_RANK_STEP (16 * 1024)
 #define RCL2000_STACK_FORECAST (24 * 1024)
+#define RCL2000_STACK_SESSIONS_START (64 * 1024)
+#define RCL2000_STACK_SESSION_OPEN (64 * 1024)
+#define RCL2000_STACK_SESSION_CLOSE (64 * 1024)
 
 /* A verdict is 26 bytes: the word, full and breaking as numbers of 8 bytes, lowest byte first, the first breaking choice
    by variable, and the share: the nearest whole per cent, for an exact half the even one (1 of 8 is 12, 3 of 8 are 38).
@@ -92,6 +109,11 @@
 #define RCL2000_FORECAST_LENGTH 0
 #define RCL2000_FORECAST_CEILING 8
 
+/* A state is the verdict on its rule in the order 1, 2, .., RCL2000_VERDICT bytes as judge writes them; the rule's length,
+   two bytes, lowest first; the rule; and up to the end the tables, whose section 3 has the sessions that are open. */
+#define RCL2000_STATE_RULE_LENGTH 26
+#define RCL2000_STATE_RULE 28
+
 /* The word of a verdict. An idle rule met nobody: that is not held. */
 enum rcl2000_word { RCL2000_HELD = 0, RCL2000_IDLE = 1, RCL2000_BROKEN = 2 };
 
@@ -103,11 +125,11 @@ enum rcl2000_word { RCL2000_HELD = 0, RCL2000_IDLE = 1, RCL2000_BROKEN = 2 };
 
 /* The refusals. Later versions add numbers, so one that is not listed is a refusal too. */
 enum rcl2000_refusal {
-    RCL2000_CUT_SHORT = 1,         /* the tables end where a count or a row is due, as after section 9, or inside a row */
+    RCL2000_CUT_SHORT = 1,         /* the tables end inside a row, or where one or a count is due; a state, before its tables */
     RCL2000_OVERFULL = 2,          /* a count of the tables is above its limit */
     RCL2000_NOT_ENTERED = 3,       /* the row of a user or a permission never arrived */
     RCL2000_BAD_MARK = 4,          /* a user has a mark above 2, or a permission one above 1 */
-    RCL2000_NO_SUCH_ITEM = 5,      /* a row, one of Done too, names an item that the tables do not have */
+    RCL2000_NO_SUCH_ITEM = 5,      /* a row, or a session to be opened, names an item that the tables do not have */
     RCL2000_MISCOUNTED = 6,        /* the permissions are not operations times objects */
     RCL2000_RANK = 7,              /* role rows are not reflexive, transitive, antisymmetric: see rank_step */
     RCL2000_OVERREACH = 8,         /* a session has a role that is neither assigned to its user nor junior to one that is */
@@ -122,7 +144,9 @@ enum rcl2000_refusal {
     RCL2000_SHORT_SHEET = 17,      /* the lent output is shorter than L */
     RCL2000_ORDER = 18,            /* the order does not list each variable once, after those that its set names */
     RCL2000_PAGE = 19,             /* the page has no line or more than 32 */
-    RCL2000_LEFT = 20              /* a user who left has a role or a session, or is in a word of CU */
+    RCL2000_LEFT = 20,             /* a user who left has a role or a session, or is to open one, or is in a word of CU */
+    RCL2000_FULL_HOUSE = 21,       /* 64 sessions are open, and no more can be opened */
+    RCL2000_NOT_OPEN = 22          /* no session with this number is open */
 };
 
 /* The steps of the rank test, in the order in which they are taken, each over all roles. */
@@ -163,6 +187,24 @@ uint32_t rank_step(const uint8_t *tables, size_t tables_length);
    variables. Refusals: 1 to 10, 20, 11 to 15, 17. */
 uint32_t forecast(const uint8_t *tables, size_t tables_length, const uint8_t *rule, size_t rule_length, uint8_t *out,
                   size_t out_length);
+
+/* The state from which sessions come and go, at most RCL2000_MAX_STATE bytes: the sessions of the tables are open.
+   Refusals: 1 to 10, 20, 11 to 15, 17. */
+uint32_t sessions_start(const uint8_t *tables, size_t tables_length, const uint8_t *rule, size_t rule_length, uint8_t *out,
+                        size_t out_length);
+
+/* The state after a session of a user was opened, with a word of active roles: bit i stands for role i. The new session
+   stands behind those that are open, so that its number, from 0, is how many these were. A role must be assigned to the
+   user, or junior to one that is. The number of a user is not cut to a byte: 256 is nobody, too.
+   Refusals: 21; 5 for the user, then for a role; 20, also without a role; 8; 17. Before them those of bytes that no call
+   gave as a state: 1 where they end before the tables, 1 to 10 and 20 of the tables, 11 to 15 of the rule. The verdict in
+   the state is not looked at, and stays as it is where the rule mentions neither S nor sessions. */
+uint32_t session_open(const uint8_t *state, size_t state_length, uint32_t user, uint64_t roles, uint8_t *out,
+                      size_t out_length);
+
+/* The state after the session with this number, from 0, was closed. The numbers of those behind it fall by one.
+   Refusals: 22, 17; before them those of bytes that no call gave as a state, as for session_open. */
+uint32_t session_close(const uint8_t *state, size_t state_length, uint32_t number, uint8_t *out, size_t out_length);
 
 #ifdef __cplusplus
 }

@@ -16,13 +16,16 @@ const FOLDER: &str = "RCL2000_LIB_DIR";
 const ARCHIVE: &str = "librcl2000.a";
 
 /// The functions that the archive must have.
-const CALLS: [&str; 6] = [
+const CALLS: [&str; 9] = [
     "reduce",
     "rebuild",
     "judge",
     "judge_page",
     "rank_step",
     "forecast",
+    "sessions_start",
+    "session_open",
+    "session_close",
 ];
 
 const HOW: &str = "run `rt staticlib rcl2000` at the root of the repository";

@@ -38,11 +38,20 @@ const EIGHT: &[u8] = b"\x01\x01\0\0\0\0\0\0\0\x08\x01\x01\0\0\0\0\0\0\0\
 const DONE: &[u8] = b"\0\x02\x01\0\0\0\0\0\0\0\0\x01\0\0\0\0\0\0\0\0\0\x01\x02\x02\
     \x01\0\0\0\0\0\0\0\0\x01\0\0\0\0\0\0\0\0\0\0\0\x01\x01\0\x01";
 
+/// The beginning of tables with one user, who has 64 sessions without a role.
+const FULL: &[u8] = b"\0\x01\x01\0\0\0\0\0\0\0\0\x40";
+
 const A: &[u8] = b"|(roles(OE(U))&OE(CR))|<=1";
 const B: &[u8] = b"OE(OE(CR))@roles(OE(U))=>(AO(OE(CR))&roles(OE(U)))={}";
 
+/// What the sessions that come and go are judged by: each has all roles active.
+const ALL: &[u8] = b"roles(OE(S))=R";
+
 /// One full choice, without variables, that breaks nothing.
 const HELD: [u8; 26] = *b"\0\x01\0\0\0\0\0\0\0\0\0\0\0\0\0\0\0\xff\xff\xff\xff\xff\xff\xff\xff\0";
+
+/// What A gives on T: broken, 2 full, 1 breaking.
+const BROKEN: &[u8] = b"\x02\x02\0\0\0\0\0\0\0\x01\0\0\0\0\0\0\0\0\0\xff\xff\xff\xff\xff\xff\x32";
 
 /// A page of which two lines choose alike, and what it gives on T: broken, 5 full, 1 breaking, 2 walks.
 const PAGE: &[u8] = b"|(roles(OE(U))&OE(CR))|<=1\n|CR|=1\n|(roles(OE(U))&OE(CR))|>0";
@@ -54,26 +63,31 @@ const FILL: u8 = b'.';
 /// The length of a lent output: the longest answer below and some bytes more.
 const LENT: usize = 128;
 
+// By what the requests after document 01 change, their archives are told apart.
 fn main() {
-    let refused = |number: u32| (65_536 * number, &b""[..]);
-    // The calls of document 01: arguments, numbers, lengths, the bytes of a verdict.
+    document_01();
+    hierarchies_pages_and_forecasts();
+    leavers_shares_and_done();
+    sessions_that_come_and_go();
+}
+
+/// The calls of document 01: arguments, numbers, lengths, the bytes of a verdict.
+fn document_01() {
     let formula = b"[v1@U][v2@CR]:|(roles(v1)&v2)|<=1";
-    let broken = b"\x02\x02\0\0\0\0\0\0\0\x01\0\0\0\0\0\0\0\0\0\xff\xff\xff\xff\xff\xff\x32";
     holds("reduce A", (33, formula), |out| library::reduce(A, out));
     holds("rebuild A", (26, A), |out| library::rebuild(formula, out));
     holds("K", refused(16), |out| library::rebuild(b"[v1@U]:U=U", out));
-    holds("E", (26, broken), |out| library::judge(T, A, &[1, 2], out));
+    holds("E", (26, BROKEN), |out| library::judge(T, A, &[1, 2], out));
     holds("J", refused(18), |out| {
         library::judge(T, B, &[2, 1, 3], out)
     });
     holds("17", refused(17), |out| library::reduce(A, &mut out[..32]));
-    // By what the requests after document 01 change, their archives are told apart: a junior role is
-    // accepted (N2), a senior one is 8; a page (N3) has its counts and the position of a refused line;
-    // the rank test goes step by step over all roles (N4), behind what is left over; a forecast (N5) counts
-    // the roles of the tables for a variable whose set has one of them, and looks at the tables first;
-    // whoever left is not among the users (N6), keeps the number and has no session, or that is 20; a
-    // half in a hundred goes to the even number (N7); the tenth section (N8) is read, and due.
-    let rule = b"roles(OE(U))={}";
+}
+
+/// A junior role is accepted (N2), a senior one is 8; a page (N3) has its counts and the position of a refused
+/// line; the rank test goes step by step over all roles (N4), behind what is left over; a forecast (N5) counts
+/// the roles of the tables for a variable whose set has one of them, and looks at the tables first.
+fn hierarchies_pages_and_forecasts() {
     holds("N2", (26, &HELD), |out| {
         library::judge(JUNIOR, b"U=U", &[], out)
     });
@@ -81,7 +95,7 @@ fn main() {
         library::judge(SENIOR, b"U=U", &[], out)
     });
     let alike = b"\0\x02\0\0\0\0\0\0\0\0\0\0\0\0\0\0\0\xff\xff\xff\xff\xff\xff\xff\xff\0";
-    let page = [PAGE_HEAD, broken, &HELD, alike].concat();
+    let page = [PAGE_HEAD, BROKEN, &HELD, alike].concat();
     holds("N3", (96, &page), |out| library::judge_page(T, PAGE, out));
     holds("19", refused(19), |out| library::judge_page(T, b"", out));
     holds("a page's second line", (65_536 * 11 + 2, b""), |out| {
@@ -98,6 +112,12 @@ fn main() {
     holds("8 before 11", refused(8), |out| {
         library::forecast(SENIOR, b"", out)
     });
+}
+
+/// Whoever left is not among the users (N6), keeps the number and has no session, or that is 20; a half in a
+/// hundred goes to the even number (N7); the tenth section (N8) is read, and due.
+fn leavers_shares_and_done() {
+    let rule = b"roles(OE(U))={}";
     holds("N6", (26, &broken_by(2, 2, 50)), |out| {
         library::judge(LEAVER, rule, &[1], out)
     });
@@ -115,6 +135,41 @@ fn main() {
     holds("nine sections", refused(1), |out| {
         library::judge(nine, b"U=U", &[], out)
     });
+}
+
+/// A session is opened behind the last (N9), those behind one that is closed move down, and the verdict follows;
+/// 21 comes before 5, and the number of sessions is the first that is 22.
+fn sessions_that_come_and_go() {
+    let state = |verdict: [u8; 26], sessions: &[u8]| {
+        let (before, behind) = (&JUNIOR[..27], &JUNIOR[37..]);
+        [&verdict[..], b"\x0e\0", ALL, before, sessions, behind].concat()
+    };
+    let start = state(broken_by(1, 0, 100), b"\x01\0\x02\0\0\0\0\0\0\0");
+    holds("N9", (start.len() as u32, &start), |out| {
+        library::sessions_start(JUNIOR, ALL, out)
+    });
+    let two = state(
+        broken_by(2, 0, 50),
+        b"\x02\0\x02\0\0\0\0\0\0\0\0\x03\0\0\0\0\0\0\0",
+    );
+    holds("a session opened", (two.len() as u32, &two), |out| {
+        library::session_open(&start, 0, 3, out)
+    });
+    let one = state(HELD, b"\x01\0\x03\0\0\0\0\0\0\0");
+    holds("a session closed", (one.len() as u32, &one), |out| {
+        library::session_close(&two, 0, out)
+    });
+    holds("22", refused(22), |out| {
+        library::session_close(&one, 1, out)
+    });
+    let full = [&HELD[..], b"\x03\0", b"U=U", FULL, &[0; 64 * 9 + 7]].concat();
+    holds("21 before 5", refused(21), |out| {
+        library::session_open(&full, 1, 0, out)
+    });
+}
+
+fn refused(number: u32) -> (u32, &'static [u8]) {
+    (65_536 * number, b"")
 }
 
 /// The verdict with one of so many choices broken, that of the item.

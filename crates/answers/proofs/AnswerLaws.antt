@@ -8,13 +8,13 @@ use native.Mathlib.Omega.{arith}
 use lib.Dec.{leb}
 use lib.ListN.{length, getD, drop, length-append}
 use borrow.Author.Tests.{le-leb, lt-leb}
-use Rattle.answers.specs.Refusal.{numberOf}
+use Rattle.answers.specs.Refusal.{numberOf, lastNumber}
 use Rattle.answers.specs.Answer.{Answer, refused, wrote, answerNumber, answerLength, ifRoom, lent, outputAfter}
 use Rattle.answers.specs.Written.{numberIn, lengthIn, Answers}
 use Rattle.answers.specs.declared.Refusal.{Refusal}
 use Rattle.answers.specs.declared.Refusal.the-variants.{CutShort, Overfull, NotEntered, BadMark, NoSuchItem, Miscounted}
 use Rattle.answers.specs.declared.Refusal.the-variants.{Rank, Overreach, Twin, LeftOver, RuleLength, Deep, NotARule}
-use Rattle.answers.specs.declared.Refusal.the-variants.{KindMismatch, Choices, NoRulesFormula, ShortSheet, NotAnOrder, Page, Left}
+use Rattle.answers.specs.declared.Refusal.the-variants.{KindMismatch, Choices, NoRulesFormula, ShortSheet, NotAnOrder, Page, Left, FullHouse, NotOpen}
 use Rattle.answers.specs.declared.Written.{Written}
 use Rattle.answers.specs.declared.Written.the-variants.{Refused, Wrote}
 
@@ -22,12 +22,13 @@ use Rattle.answers.specs.declared.Written.the-variants.{Refused, Wrote}
 listed : List Refusal
 listed =
     CutShort ∷ CutShort ∷ Overfull ∷ NotEntered ∷ BadMark ∷ NoSuchItem ∷ Miscounted ∷ Rank ∷ Overreach ∷ Twin ∷ LeftOver
-    ∷ RuleLength ∷ Deep ∷ NotARule ∷ KindMismatch ∷ Choices ∷ NoRulesFormula ∷ ShortSheet ∷ NotAnOrder ∷ Page ∷ Left ∷ []
+    ∷ RuleLength ∷ Deep ∷ NotARule ∷ KindMismatch ∷ Choices ∷ NoRulesFormula ∷ ShortSheet ∷ NotAnOrder ∷ Page ∷ Left
+    ∷ FullHouse ∷ NotOpen ∷ []
 
--- One line for each refusal: its number is from 1 to 20, and its place in the list.
+-- One line for each refusal: its number is from 1 to the last, and its place in the list.
 record Numbered (r : Refusal) : Type 0 where
   some : 1 ≤ numberOf r
-  few : numberOf r ≤ 20
+  few : numberOf r ≤ lastNumber
   back : getD listed (numberOf r) CutShort ≡ r
 
 numbered : (r : Refusal) → Numbered r
@@ -52,11 +53,13 @@ numbered ShortSheet = record { some = omega arith; few = omega arith; back = ref
 numbered NotAnOrder = record { some = omega arith; few = omega arith; back = refl }
 numbered Page = record { some = omega arith; few = omega arith; back = refl }
 numbered Left = record { some = omega arith; few = omega arith; back = refl }
+numbered FullHouse = record { some = omega arith; few = omega arith; back = refl }
+numbered NotOpen = record { some = omega arith; few = omega arith; back = refl }
 
 pub number-some : (r : Refusal) → 1 ≤ numberOf r
 number-some r = numbered r .some
 
-pub number-few : (r : Refusal) → numberOf r ≤ 20
+pub number-few : (r : Refusal) → numberOf r ≤ lastNumber
 number-few r = numbered r .few
 
 pub same-number : (a b : Refusal) → numberOf a ≡ numberOf b → a ≡ b

@@ -30,6 +30,8 @@ pub enum Refusal {
     NotAnOrder,
     Page,
     Left,
+    FullHouse,
+    NotOpen,
 }
 
 // What a call that writes to a lent output says: a refusal, or the number of bytes written.
@@ -63,6 +65,8 @@ pub fn number(refusal: Refusal) -> u32
         Refusal::NotAnOrder => 18,
         Refusal::Page => 19,
         Refusal::Left => 20,
+        Refusal::FullHouse => 21,
+        Refusal::NotOpen => 22,
     }
 }
 

@@ -2,6 +2,7 @@
 use crate::fields::print_bytes;
 use crate::output::word;
 use crate::page::print_page;
+use changes::Change;
 use forecasts::FORECAST;
 use libc::STDOUT_FILENO;
 use pages::PAGE_ROOM;
@@ -34,6 +35,21 @@ pub fn judge(tables: &[u8], rule: &[u8], order: &[u8], output: &mut [u8])
     print_reply(reply, output);
 }
 
+pub fn step(state: &[u8], change: Change, output: &mut [u8])
+    requires { ⌜ length (now output) ≤ 65536 ⌝ }
+{
+    let reply = next_state(state, change, output);
+    print_reply(reply, output);
+}
+
+// The call that asks for this change.
+pub fn next_state(state: &[u8], change: Change, output: &mut [u8]) -> u32 {
+    match change {
+        Change::Opening { user, roles } => rcl2000::session_open(state, user, roles, output),
+        Change::Closing(session) => rcl2000::session_close(state, session, output),
+    }
+}
+
 // `refused N POS`, or the fields of the page and of each line.
 pub fn judge_page(tables: &[u8], page: &[u8]) {
     let mut output = [0u8; PAGE_ROOM];
@@ -62,7 +78,7 @@ pub fn forecast(tables: &[u8], rule: &[u8]) {
     io::write_all(STDOUT_FILENO, b"\n");
 }
 
-fn print_refused(reply: u32) {
+pub fn print_refused(reply: u32) {
     io::write_all(STDOUT_FILENO, b"refused ");
     io::print_decimal(STDOUT_FILENO, (reply / 65536) as u64);
 }

@@ -2,10 +2,14 @@
 // What is no command is answered `?`.
 use crate::calls;
 use crate::fields::is_command;
+use crate::fields::is_named;
 use crate::fields::print_bytes;
 use crate::fields::read_bytes;
 use crate::fields::read_length;
 use crate::fields::room;
+use crate::sessions;
+use crate::sessions::Asked;
+use crate::sessions::change_in;
 use answers::Written;
 use libc::STDOUT_FILENO;
 use rules::Checked;
@@ -57,6 +61,10 @@ fn command(line: &[u8], first: &[u8])
         told(line, first, false);
     } else if is_command(line, b"rankstep", 2) {
         print_number(rcl2000::rank_step(first) as u64);
+    } else if is_named(line, b"sessions") {
+        day(line, first);
+    } else if is_command(line, b"session", 4) {
+        session(line, first);
     } else {
         unknown();
     }
@@ -165,6 +173,37 @@ fn told(line: &[u8], tables: &[u8], page: bool)
     } else {
         calls::forecast(tables, &text[..n]);
     }
+}
+
+// `sessions T R OP..`: the start and then each call on the state before it.
+fn day(line: &[u8], tables: &[u8])
+    requires { ⌜ length (now line) ≤ 80000 ⌝ }
+{
+    let mut rule = room();
+    let r = read_bytes(line, 2, &mut rule);
+    if !r.good || !sessions::well_formed(line) {
+        unknown();
+        return;
+    }
+    let n = r.n;
+    sessions::follow(line, tables, &rule[..n]);
+    io::write_all(STDOUT_FILENO, b"\n");
+}
+
+// `session STATE OP LEN`: one call on any bytes, with the tracker's number and the lent output as above.
+fn session(line: &[u8], state: &[u8]) {
+    let mut output = calls::untouched();
+    let l = read_length(line, 3, &output);
+    let Asked::Asks(change) = change_in(line, 2) else {
+        unknown();
+        return;
+    };
+    if !l.good {
+        unknown();
+        return;
+    }
+    let lent = l.n;
+    calls::step(state, change, &mut output[..lent]);
 }
 
 // Prints the lines: no more than the rules have bytes, and the total behind them.

@@ -8,12 +8,20 @@ ghost use mathlib.Core.Path.{_≡_};
 ghost use Prim.Native.Nat.{_≤_, _*_};
 ghost use lib.ListN.{length};
 
-// Whether the line begins with this name and has no more than this many fields.
-pub fn is_command(line: &[u8], name: &[u8], count: usize) -> bool {
+// No output is longer.
+const LENGTHS: usize = 65536;
+
+// Whether the line begins with this name.
+pub fn is_named(line: &[u8], name: &[u8]) -> bool {
     let Span::Found { from, to } = texts::field(line, 0) else {
         return false;
     };
-    if !check::same(&line[from..to], name) {
+    check::same(&line[from..to], name)
+}
+
+// Whether the line begins with this name and has no more than this many fields.
+pub fn is_command(line: &[u8], name: &[u8], count: usize) -> bool {
+    if !is_named(line, name) {
         return false;
     }
     let Span::Missing = texts::field(line, count) else {
@@ -56,7 +64,7 @@ pub fn read_length(line: &[u8], k: usize, room: &[u8]) -> Field
     let Span::Found { from, to } = texts::field(line, k) else {
         return Field { good: false, n: 0 };
     };
-    let Taken::Took(n) = protocol::read_length(&line[from..to]) else {
+    let Taken::Took(n) = protocol::read_number(&line[from..to], LENGTHS) else {
         return Field { good: false, n: 0 };
     };
     if room.len() < n {

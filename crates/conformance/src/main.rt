@@ -5,6 +5,7 @@ mod commands;
 mod fields;
 mod output;
 mod page;
+mod sessions;
 
 ghost use Prim.Native.Nat.{_≤_};
 ghost use lib.ListN.{length};

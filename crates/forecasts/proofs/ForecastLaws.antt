@@ -1,32 +1,30 @@
--- What a forecast says: where it refuses, its two words, and that no rule has more full choices than the ceiling.
+-- What a forecast says: its two words, and that no rule has more full choices than the ceiling.
 -- Assumes nothing.
-use mathlib.Core.Path.{_≡_, refl, sym, ap, _∙_}
+use mathlib.Core.Path.{_≡_, ap, _∙_}
 use mathlib.Core.List.{[], _++_, append-assoc}
-use mathlib.Core.Option.{Option, none, some}
 use Prim.Native.Nat.{ℕ, _^_, _≤_}
 use native.Mathlib.Omega.{arith}
 use lib.Dec.{lit≤}
 use lib.ListN.{length, take, drop, length-append}
 use lib.Seq.{take-at, drop-at}
-use Rattle.answers.specs.Answer.{refused, wrote}
-use Rattle.answers.specs.declared.Refusal.{Refusal}
+use Rattle.answers.specs.Answer.{wrote}
 use Rattle.tables.specs.Tables.{Tables}
 use Rattle.tables.specs.Accepted.{Fits}
 use Rattle.tables.specs.Bytes.{lowestFirst, wordFrom}
-use Rattle.tables.specs.Reading.{Reading, rejected, taken, tablesOf}
 use Rattle.tables.proofs.BytesLaws.{lowest-length, word-lowest}
 use Rattle.tables.proofs.FitsLaws.{accepted-sound}
 use Rattle.syntax.specs.Bytes.{Bytes}
-use Rattle.syntax.specs.Rule.{Rule, ruleVars, formula, ruleOf}
-use Rattle.rules.specs.Accept.{refusal}
-use Rattle.rules.proofs.AcceptLaws.{accepted-gives, accepted-rule, accepted-tree, tree-few, formula-within}
+use Rattle.syntax.specs.Rule.{Rule, ruleVars, formula}
+use Rattle.rules.proofs.AcceptLaws.{accepted-gives, accepted-tree, tree-few, formula-within}
 use Rattle.walks.specs.Choices.{nothingChosen, each}
 use Rattle.walks.proofs.CeilingLaws.{full-ceiling}
 use Rattle.values.specs.Sets.{itemsOf, inSet}
 use Rattle.values.specs.Ceiling.{ceilingOf}
 use Rattle.values.proofs.CeilingLaws.{ceiling-items, ceiling-fits}
 use Rattle.verdicts.specs.Verdict.{fullCount}
-use Rattle.forecasts.specs.Forecast.{forecastSize, twoWords, forecastBytes, ruleForecast, tablesForecast, forecastOf, Given, Met, badTables, badRule, good}
+use Rattle.verdicts.specs.Both.{Given}
+use Rattle.verdicts.proofs.BothLaws.{given-answers}
+use Rattle.forecasts.specs.Forecast.{forecastSize, twoWords, forecastBytes, forecastOf}
 
 -- "Full is never above the ceiling."
 pub full-below : (T : Tables) → Fits T → (ρ : Rule) → fullCount T ρ ≤ ceilingOf T (ruleVars [] ρ)
@@ -45,27 +43,10 @@ module _ (size most : ℕ) (rest : Bytes) where
       rw (append-assoc, drop-at (lowestFirst 8 size) (lowestFirst 8 most ++ rest) 8 (lowest-length 8 size))
       (take-at (lowestFirst 8 most) rest 8 (lowest-length 8 most))
 
-module _ (tables rule : Bytes) where
-  pub tables-refused : {e : Refusal} → tablesOf tables ≡ rejected e → forecastOf tables rule ≡ refused e
-  unfolding forecastOf tablesForecast
-  tables-refused t = rw t
-
-  pub rule-refused : {T : Tables} {e : Refusal} → tablesOf tables ≡ taken T → refusal rule ≡ some e → forecastOf tables rule ≡ refused e
-  unfolding forecastOf tablesForecast ruleForecast
-  rule-refused t r = rw (t, r)
-
-  pub met : Met tables rule
-  met = go (tablesOf tables) (refusal rule) refl refl
-    where
-      go : (t : Reading) (r : Option Refusal) → tablesOf tables ≡ t → refusal rule ≡ r → Met tables rule
-      go (rejected e) r p q = badTables e p
-      go (taken T) (some e) p q = badRule T e p q
-      go (taken T) none p q = let (ρ, h, _) = accepted-rule rule q in good T ρ (record { reads = p; accepts = q; tree = h })
-
 module _ {tables rule : Bytes} {T : Tables} {ρ : Rule} (g : Given tables rule T ρ) where
   pub given-wrote : forecastOf tables rule ≡ wrote (forecastBytes T ρ)
-  unfolding forecastOf tablesForecast ruleForecast
-  given-wrote = rw (g .reads, g .accepts, g .tree)
+  unfolding forecastOf
+  given-wrote = given-answers tables rule (λ T ρ. wrote (forecastBytes T ρ)) g
 
   pub given-length : length (forecastBytes T ρ) ≡ forecastSize
   given-length = rw (length-append, lowest-length 8 (length (formula ρ)), lowest-length 8 (ceilingOf T (ruleVars [] ρ)))

@@ -13,7 +13,6 @@ use Rattle.answers.specs.declared.Written.the-variants.{Refused}
 use Rattle.answers.proofs.AnswerLaws.{kept-refused}
 use Rattle.tables.specs.Tables.{Tables}
 use Rattle.tables.specs.Bytes.{lowestFirst}
-use Rattle.tables.specs.Reading.{rejected, tablesOf}
 use Rattle.syntax.specs.Bytes.{Bytes}
 use Rattle.syntax.specs.Rule.{ruleVars, formula}
 use Rattle.rules.specs.declared.Found.{Found}
@@ -23,16 +22,15 @@ use Rattle.rules.specs.code.Lengths.{FormulaIn}
 use Rattle.rules.proofs.ParseLaws.{as-rejected, as-found, formula-exact}
 use Rattle.values.specs.Ceiling.{ceilingOf}
 use Rattle.values.specs.code.Multiplied.{CeilingBy}
+use Rattle.texts.specs.code.Overwritten.{Behind}
 use Rattle.texts.proofs.OverwrittenLaws.{none-written}
-use Rattle.verdicts.specs.code.Writing.{Behind}
-use Rattle.verdicts.proofs.LoadedLaws.{Took}
-use Rattle.forecasts.specs.Forecast.{forecastSize, twoWords, ruleForecast, tablesForecast, forecastOf}
+use Rattle.verdicts.specs.Both.{ofBoth}
+use Rattle.forecasts.specs.Forecast.{forecastSize, twoWords}
 use Rattle.forecasts.specs.code.Telling.{ForecastsOn}
-use Rattle.forecasts.proofs.ForecastLaws.{tables-refused}
 
 -- 11 to 15.
 pub told-rejected : {ts s ns ks vs : List ℕ} {f : Found} {r : Refusal} (old : Bytes) → Finds s ns ks vs f → f ≡ Rejected r → ForecastsOn ts s old old (Refused r)
-unfolding ruleForecast
+unfolding ofBoth
 told-rejected {r = r} old p e T t = rw (as-rejected p e) (kept-refused (length old) old r)
 
 -- The two words are those of the rule that was found.
@@ -42,21 +40,12 @@ module _ {s ns ks vs : List ℕ} {f : Found} {n root count : ℕ} (p : Finds s n
 
   pub told-found : {ts : List ℕ} {size most : ℕ} → FormulaIn ns n (take count vs) root size → CeilingBy ts ks (take count vs) most → {old new : Bytes} {w : Written}
       → Answers (lent (length old) (wrote (twoWords size most))) old new w → ForecastsOn ts s old new w
-  unfolding ruleForecast
+  unfolding ofBoth
   told-found {ts} {size} {most} x y {old} a T t =
       let long : size ≡ length (formula (at .tree)) = formula-exact (as-found p e .0) at x in
       let high : most ≡ ceilingOf T (ruleVars [] (at .tree))
       = y T ns n (ruleVars [] (at .tree)) (record { fits = t .passes .sound .fits; words = t .words; kinds = at .kinds; variables = at .knows }) in
       rw (as-found p e .0, at .reads, ← long, ← high) a
-
--- On tables that are refused, and on those that are taken.
-module _ (b s : Bytes) where
-  pub told-refused : {e : Refusal} (old : Bytes) → tablesOf b ≡ rejected e → Answers (lent (length old) (forecastOf b s)) old old (Refused e)
-  told-refused {e} old t = rw (tables-refused b s t) (kept-refused (length old) old e)
-
-  pub told-taken : {ts old new : List ℕ} {w : Written} (q : Took b ts) → ForecastsOn ts s old new w → Answers (lent (length old) (forecastOf b s)) old new w
-  unfolding forecastOf tablesForecast
-  told-taken q p = rw (q .is) (p (q .tables) (q .holds))
 
 -- The two words one behind the other are all there is.
 pub two-written : {zeros mid new : List ℕ} (size most : ℕ) → length zeros ≡ forecastSize → Behind 0 (lowestFirst 8 size) zeros mid → Behind 8 (lowestFirst 8 most) mid new

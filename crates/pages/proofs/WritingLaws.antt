@@ -12,13 +12,12 @@ use lib.ListN.{length, getD, getElem?, take, drop, set, length-drop, drop-of-len
 use lib.Seq.{take-at, take-append-add, drop-at, length-take-le}
 use borrow.Rule.Slice.PartMut.{midOf, postOf, putMid}
 use Rattle.tables.specs.Bytes.{lowestFirst}
-use Rattle.texts.specs.code.Overwritten.{Overwritten}
+use Rattle.texts.specs.code.Overwritten.{Overwritten, Behind}
 use Rattle.texts.proofs.OverwrittenLaws.{none-written, written-byte, written-rest}
 use Rattle.verdicts.specs.declared.Outcome.the-variants.{Held, Idle, Broken}
 use Rattle.verdicts.specs.declared.Verdict.{Verdict}
 use Rattle.verdicts.specs.Verdict.{wordNumber, outcomeOf, written}
 use Rattle.verdicts.specs.code.Judging.{ruledBy}
-use Rattle.verdicts.specs.code.Writing.{Behind}
 use Rattle.verdicts.proofs.SheetLaws.{length-written}
 use Rattle.pages.specs.Page.{someLine, pageOutcome, fullSum, breakingSum, lineBytes, pageBytes}
 use Rattle.pages.specs.code.Tallies.{tallyAt, Rows, worseOf, Summed, headRoom, headBytes}

@@ -3,7 +3,6 @@ use crate::CHOICE;
 use crate::PAGE_HEAD;
 use crate::PAGE_ROOM;
 use answers::Written;
-use verdicts::Outcome;
 use verdicts::Verdict;
 use verdicts::ruling;
 use verdicts::sheet;
@@ -13,7 +12,6 @@ ghost use mathlib.Core.List.{List};
 ghost use Prim.Native.Nat.{_≤_, _<_, _+_, _*_, _-_, _^_};
 ghost use lib.ListN.{length, getD, drop};
 ghost use Rattle.texts.specs.code.Overwritten.{Overwritten};
-ghost use Rattle.verdicts.specs.Verdict.{wordNumber};
 ghost use Rattle.verdicts.specs.code.Judging.{ruledBy};
 ghost use Rattle.verdicts.specs.declared.Verdict.{Verdict as VerdictSpec};
 ghost use Rattle.pages.specs.Page.{pageLimit, lineBytes};
@@ -27,17 +25,6 @@ struct Sums {
     word: u8,
     full: u64,
     breaking: u64,
-}
-
-fn word_of(outcome: Outcome) -> u8
-    ensures { λ r. ⌜ r ≡ wordNumber outcome ⌝ }
-{
-    match outcome {
-        Outcome::Refused(_) => 255,
-        Outcome::Held => 0,
-        Outcome::Idle => 1,
-        Outcome::Broken => 2,
-    }
 }
 
 fn worse(a: u8, b: u8) -> u8
@@ -93,7 +80,7 @@ fn write_from(
     }
     let verdict = verdict_of(fulls, breakings, firsts, k);
     let outcome = verdict.outcome;
-    let word = word_of(outcome);
+    let word = sheet::word_of(outcome);
     let n = sheet::write(word, verdict, out);
     let rest = write_from(fulls, breakings, firsts, k + 1, many, &mut out[n..]);
     Sums {

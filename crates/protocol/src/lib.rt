@@ -1,12 +1,12 @@
-// The fields of a command: bytes in hexadecimal, and lengths in decimal digits.
+// The fields of a command: bytes in hexadecimal, and numbers in decimal digits.
 // A function that writes puts its text over the beginning of the lent bytes.
 ghost use mathlib.Core.Path.{_≡_};
 ghost use Prim.Native.Nat.{_≤_, _<_, _+_, _*_};
 ghost use lib.ListN.{length};
 ghost use Rattle.texts.specs.code.Overwritten.{Overwritten};
 ghost use Rattle.protocol.specs.Hex.{hexDigit, hexValue, hexOf, fieldOf, pairs, fromHex};
-ghost use Rattle.protocol.specs.Numbers.{lengthOf};
-ghost use Rattle.protocol.specs.code.Taken.{Bytes, took};
+ghost use Rattle.protocol.specs.Numbers.{valueOf};
+ghost use Rattle.protocol.specs.code.Taken.{Bytes, took, AtMost};
 
 // A field that was read: how many bytes it gave, or what number.
 pub enum Taken {
@@ -109,9 +109,10 @@ fn digit(d: u8) -> u8
     if d < 10 { 48 + d } else { 87 + d }
 }
 
-// The number that a field stands for.
-pub fn read_length(field: &[u8]) -> Taken
-    ensures { λ r. ⌜ r ≡ took (lengthOf (now (field .entry))) ⌝ }
+// The number that a field stands for, where it is at most so much.
+pub fn read_number(field: &[u8], most: usize) -> Taken
+    requires { ⌜ most ≤ 4294967295 ⌝ }
+    ensures { λ r. ⌜ (r ≡ took (valueOf most (now (field .entry)))) × AtMost most r ⌝ }
 {
     if field.len() == 0 {
         return Taken::Malformed;
@@ -127,7 +128,7 @@ pub fn read_length(field: &[u8]) -> Taken
             return Taken::Malformed;
         }
         let more = 10 * n + digit_value(c);
-        if 65536 < more {
+        if most < more {
             return Taken::Malformed;
         }
         n = more;

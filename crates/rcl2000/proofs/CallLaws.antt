@@ -13,13 +13,13 @@ use borrow.Author.Tests.{leb-true}
 use Rattle.answers.specs.Refusal.{numberOf}
 use Rattle.answers.specs.Answer.{Answer, refused, wrote, ifRoom, lent, reply, outputAfter}
 use Rattle.answers.specs.declared.Refusal.{Refusal}
-use Rattle.answers.proofs.AnswerLaws.{number-some, number-few, same-number, lent-wrote}
+use Rattle.answers.proofs.AnswerLaws.{number-some, same-number, lent-wrote}
 use Rattle.answers.specs.Written.{Answers}
 use Rattle.answers.specs.declared.Written.{Written}
 use Rattle.syntax.specs.Bytes.{Bytes}
 use Rattle.rcl2000.specs.code.Reply.{replyOf}
 use Rattle.rcl2000.proofs.ReplyLaws.{reply-fits, reply-is}
-use Rattle.rcl2000.specs.Calls.{Sees, Refuses, Writes, NotOfPages, Ends, answers, refuses}
+use Rattle.rcl2000.specs.Calls.{Sees, Refuses, Writes, Ends, answers, refuses}
 
 pub through : {A B C : Type 0} → A ↔ B → B ↔ C → A ↔ C
 through f g = (λ a. g .0 (f .0 a), λ c. f .1 (g .1 c))
@@ -34,9 +34,9 @@ lent-room n (wrote b) w q = go (leb (length b) n) refl q
     go true e q = let s : b ≡ w = cc in rw (← s) (leb-true (length b) n e)
     go false e q = let z : _≡_ {A = ℕ} 0 1 = cc in absurd (omega arith)
 
--- A call that never writes more than 4,096 bytes.
+-- A call that never writes so many bytes that their number could be taken for a refusal's.
 abbrev pub Short : Answer → Type 0
-Short a = (w : Bytes) → a ≡ wrote w → length w ≤ 4096
+Short a = (w : Bytes) → a ≡ wrote w → length w < 65536
 
 -- What a call of the crates below said, as the tracker's number: it fits, and the tracker sees the answer.
 module _ {a : Answer} {old new : Bytes} {w : Written} (p : Answers (lent (length old) a) old new w) where
@@ -56,7 +56,7 @@ module _ {a : Answer} {old new : Bytes} {r : ℕ} (s : Sees a old new r) where
   sees-wrote h {w} q =
       let number : r ≡ length w = s .number ∙ ap reply q in
       let bytes : new ≡ w ++ drop (length w) old = s .bytes ∙ ap (λ (b : Answer). outputAfter b old) q in
-      let few : length w ≤ 4096 = h w (lent-wrote (length old) a w q) in
+      let few : length w < 65536 = h w (lent-wrote (length old) a w q) in
       let room : length w ≤ length old = lent-room (length old) a w q in
       record {
         number = number;
@@ -83,10 +83,10 @@ module _ {a : Answer} {old new : Bytes} {r : ℕ} (s : Sees a old new r) where
       go (refused f) is q = absurd (omega (arith, sees-refused is .number, number-some f))
       go (wrote w) is q = (w, is)
 
-  -- "an answer or a numbered refusal", of a call that is for no page
-  pub call-ends : Short a → ((e : Refusal) → lent (length old) a ≡ refused e → NotOfPages e) → Ends old new r
-  call-ends h other = go (lent (length old) a) refl
+  -- "an answer or a numbered refusal", by a number of the call's
+  pub call-ends : (Number : ℕ → Type 0) → Short a → ((e : Refusal) → lent (length old) a ≡ refused e → Number (numberOf e)) → Ends Number old new r
+  call-ends Number h own = go (lent (length old) a) refl
     where
-      go : (b : Answer) → lent (length old) a ≡ b → Ends old new r
-      go (refused e) is = refuses e (number-some e) (number-few e) (other e is) (sees-refused is)
+      go : (b : Answer) → lent (length old) a ≡ b → Ends Number old new r
+      go (refused e) is = refuses e (own e is) (sees-refused is)
       go (wrote w) is = answers w (sees-wrote h is)

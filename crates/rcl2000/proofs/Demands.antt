@@ -9,14 +9,14 @@ use native.Mathlib.Omega.{arith}
 use lib.ListN.{length, take}
 use Rattle.answers.specs.Refusal.{numberOf}
 use Rattle.answers.specs.declared.Refusal.{Refusal}
-use Rattle.answers.specs.declared.Refusal.the-variants.{NoRulesFormula}
+use Rattle.answers.specs.declared.Refusal.the-variants.{NoRulesFormula, NotAnOrder}
 use Rattle.tables.specs.Tables.{Tables}
 use Rattle.tables.specs.Reading.{taken, tablesOf}
 use Rattle.syntax.specs.Bytes.{Bytes}
 use Rattle.syntax.specs.Rule.{Rule, ruleText, formula}
 use Rattle.verdicts.specs.Report.{OrderOf, Admitted, SharesIn}
 use Rattle.verdicts.proofs.ReportLaws.{reported-share}
-use Rattle.rcl2000.specs.Calls.{Reduces, GivesBack, Judges, Refuses, Writes, Ends, ReduceRefuses, RebuildRefuses, JudgeRefuses, noRule, LongEnough, Reported}
+use Rattle.rcl2000.specs.Calls.{Reduces, GivesBack, Judges, Refuses, Writes, ReduceNumber, RebuildNumber, BesidesNumber, Ends, ReduceRefuses, RebuildRefuses, JudgeRefuses, noRule, LongEnough, Reported}
 use Rattle.answers.specs.Answer.{wrote, lent}
 use Rattle.answers.proofs.AnswerLaws.{lent-fits, lent-wrote}
 use Rattle.rules.specs.Accept.{refusal, accepted}
@@ -27,19 +27,19 @@ use Rattle.formulas.proofs.Theorems.{rule-given}
 use Rattle.rcl2000.proofs.CallLaws.{through, sees-refused, sees-wrote, refuses-exactly, writes-exactly, call-ends}
 use Rattle.rcl2000.proofs.FormulaLaws.{reduced-short, rebuilt-short, formula-answered, long-enough, reduce-refused, rebuild-refused}
 use Rattle.rcl2000.proofs.JudgeLaws.{judged-short, judge-refused, admitted-reported, written-admitted}
-use Rattle.rcl2000.proofs.RefusalLaws.{reduce-other, rebuild-other, judge-other}
+use Rattle.rcl2000.proofs.RefusalLaws.{reduce-own, rebuild-own, judge-own}
 
 -- DEMAND 1. "every public entry point, on every input, finishes with an answer or a numbered refusal; a refusal carries no result and changes no
 -- lent byte": that the calls finish is what the proof of a contract with no `requires` says; whatever they return is an answer or a refusal.
 
-pub reduce-ends : (rule old new : Bytes) (r : ℕ) → Reduces rule old new r → Ends old new r
-reduce-ends rule old new r s = call-ends s (reduced-short rule) (λ e q. reduce-other (reduce-refused rule (length old) e .0 q))
+pub reduce-ends : (rule old new : Bytes) (r : ℕ) → Reduces rule old new r → Ends ReduceNumber old new r
+reduce-ends rule old new r s = call-ends s ReduceNumber (reduced-short rule) (λ e q. reduce-own (reduce-refused rule (length old) e .0 q))
 
-pub rebuild-ends : (formula old new : Bytes) (r : ℕ) → GivesBack formula old new r → Ends old new r
-rebuild-ends formula old new r g = call-ends (g .sees) (rebuilt-short (g .rebuilds)) (λ e q. rebuild-other (rebuild-refused (g .rebuilds) (length old) e .0 q))
+pub rebuild-ends : (formula old new : Bytes) (r : ℕ) → GivesBack formula old new r → Ends RebuildNumber old new r
+rebuild-ends formula old new r g = call-ends (g .sees) RebuildNumber (rebuilt-short (g .rebuilds)) (λ e q. rebuild-own (rebuild-refused (g .rebuilds) (length old) e .0 q))
 
-pub judge-ends : (tables rule order old new : Bytes) (r : ℕ) → Judges tables rule order old new r → Ends old new r
-judge-ends tables rule order old new r s = call-ends s (judged-short tables rule order) (λ e q. judge-other (judge-refused tables rule order (length old) e .0 q))
+pub judge-ends : (tables rule order old new : Bytes) (r : ℕ) → Judges tables rule order old new r → Ends (BesidesNumber NotAnOrder) old new r
+judge-ends tables rule order old new r s = call-ends s (BesidesNumber NotAnOrder) (judged-short tables rule order) (λ e q. judge-own (judge-refused tables rule order (length old) e .0 q))
 
 -- DEMAND 2. "input is refused exactly where [document 01] says, by the number given there".
 

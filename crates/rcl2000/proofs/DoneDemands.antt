@@ -21,7 +21,7 @@ use Rattle.forecasts.proofs.AlikeLaws.{forecast-alike}
 use Rattle.pages.specs.Page.{PageAnswer, pageLent, pageReply, pageAfter}
 use Rattle.pages.proofs.AlikeLaws.{page-alike}
 use Rattle.rcl2000.specs.Calls.{Sees, Judges, JudgesPage, Forecasts, GivesStep}
-use Rattle.rcl2000.specs.Calls.{tablesRefused, forecastTables, pageTables}
+use Rattle.rcl2000.specs.Calls.{tablesRefused, bothTables, pageTables}
 use Rattle.rcl2000.proofs.Demands.{judge-refuses}
 use Rattle.rcl2000.proofs.ForecastDemands.{forecast-refuses}
 use Rattle.rcl2000.proofs.PageDemands.{page-refuses}
@@ -68,7 +68,7 @@ module _ (T : Tables) (sound : Sound T) where
   nine-judged rule order old new r j = judge-refuses (nineBytes T) rule order old new r j CutShort .1 (tablesRefused (nine-sections T sound))
 
   pub nine-foretold : (rule old new : Bytes) (r : ℕ) → Forecasts (nineBytes T) rule old new r → r ≡ 65536 * numberOf CutShort
-  nine-foretold rule old new r f = forecast-refuses (nineBytes T) rule old new r f CutShort .1 (forecastTables (nine-sections T sound))
+  nine-foretold rule old new r f = forecast-refuses (nineBytes T) rule old new r f CutShort .1 (bothTables (nine-sections T sound))
 
   pub nine-paged : (page old new : Bytes) (r : ℕ) → JudgesPage (nineBytes T) page old new r → r ≡ 65536 * numberOf CutShort + 0
   nine-paged page old new r j = page-refuses (nineBytes T) page old new r j CutShort 0 (omega arith) .1 (pageTables (nine-sections T sound))

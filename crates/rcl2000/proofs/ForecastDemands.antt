@@ -17,17 +17,19 @@ use Rattle.syntax.specs.Bytes.{Bytes}
 use Rattle.syntax.specs.Rule.{Rule, ruleVars, formula}
 use Rattle.values.specs.Ceiling.{ceilingOf}
 use Rattle.values.proofs.CeilingLaws.{no-variables}
-use Rattle.forecasts.specs.Forecast.{forecastSize, Given}
+use Rattle.verdicts.specs.Both.{Given}
+use Rattle.forecasts.specs.Forecast.{forecastSize}
 use Rattle.forecasts.proofs.ForecastLaws.{full-below, given-fits, given-ceiling}
-use Rattle.rcl2000.specs.Calls.{Reduces, Judges, Ends, formulaLonger, Forecasts, ForecastRefuses, toldLength, toldCeiling, Foretold}
+use Rattle.rcl2000.specs.Calls.{Reduces, Judges, BothNumber, Ends, formulaLonger, Forecasts, ForecastRefuses, toldLength, toldCeiling, Foretold}
 use Rattle.rcl2000.proofs.CallLaws.{through, sees-wrote, refuses-exactly, writes-exactly, call-ends}
+use Rattle.rcl2000.proofs.RefusalLaws.{both-own}
 use Rattle.rcl2000.proofs.FormulaLaws.{reduced-short, formula-answered}
-use Rattle.rcl2000.proofs.ForecastLaws.{forecast-short, forecast-refused, forecast-other, given-formula, given-foretold, written-given}
+use Rattle.rcl2000.proofs.ForecastLaws.{forecast-short, forecast-refused, given-formula, given-foretold, written-given}
 use Rattle.rcl2000.proofs.Demands.{reduce-refuses, judge-writes}
 
 -- DEMAND 1. "finishes with an answer or a numbered refusal; a refusal carries no result and changes no lent byte".
-pub forecast-ends : (tables rule old new : Bytes) (r : ℕ) → Forecasts tables rule old new r → Ends old new r
-forecast-ends tables rule old new r s = call-ends s (forecast-short tables rule) (λ e q. forecast-other (forecast-refused tables rule (length old) e .0 q))
+pub forecast-ends : (tables rule old new : Bytes) (r : ℕ) → Forecasts tables rule old new r → Ends BothNumber old new r
+forecast-ends tables rule old new r s = call-ends s BothNumber (forecast-short tables rule) (λ e q. both-own (forecast-refused tables rule (length old) e .0 q))
 
 -- DEMAND 2. "Refused tables and rules give document 01's numbers."
 pub forecast-refuses : (tables rule old new : Bytes) (r : ℕ) → Forecasts tables rule old new r → (e : Refusal)
@@ -41,7 +43,7 @@ pub forecast-writes : (tables rule old new : Bytes) (r : ℕ) → Forecasts tabl
 forecast-writes tables rule old new r s = (
   λ q.
       let w = writes-exactly s (forecast-short tables rule) .0 q in
-      let (T, ρ, g, room) = written-given (length old) (w .0) (w .1) in
+      let (T, ρ, g, room) = written-given tables rule (length old) (w .0) (w .1) in
       let (n, told) = given-foretold g s room in
       (T, ρ, g, room, n, told),
   λ (T, ρ, g, room, n, told). omega arith,

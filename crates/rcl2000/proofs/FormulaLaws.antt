@@ -47,7 +47,9 @@ module _ (n : ℕ) {a : Answer} {d : Refusal} (is : a ≡ refused d) where
 
 -- The texts written are short.
 pub reduced-short : (rule : Bytes) → Short (reduced rule)
-reduced-short rule w q = formula-at-most rule w (length w) (ap (lent (length w)) q ∙ lent-fits (length w) w (omega arith))
+reduced-short rule w q =
+    let l = formula-at-most rule w (length w) (ap (lent (length w)) q ∙ lent-fits (length w) w (omega arith)) in
+    omega arith
 
 pub rebuilt-short : {f : Bytes} {a : Answer} → Rebuilds f a → Short a
 rebuilt-short {f} {a} x w q =

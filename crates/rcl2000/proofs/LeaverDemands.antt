@@ -33,7 +33,7 @@ use Rattle.verdicts.specs.Verdict.{turnOrder}
 use Rattle.verdicts.specs.Report.{Admitted, ReportsIn}
 use Rattle.pages.specs.Met.{PageAdmitted}
 use Rattle.rcl2000.specs.Calls.{LeftBehind, NamesPresent, Judges, JudgeRefuses, tablesRefused, judgedRefused, orderRefused, verdictLonger}
-use Rattle.rcl2000.specs.Calls.{Forecasts, ForecastRefuses, forecastTables, forecastRule, forecastLonger}
+use Rattle.rcl2000.specs.Calls.{Forecasts, ForecastRefuses, bothTables, bothRule, bothLonger}
 use Rattle.rcl2000.specs.Calls.{JudgesPage, pageSize, PageRefuses, pageTables, pageUnsized, pageLine, pageLonger, GivesStep}
 use Rattle.rcl2000.proofs.CallLaws.{through}
 use Rattle.rcl2000.proofs.Demands.{judge-refuses}
@@ -68,12 +68,12 @@ module _ (tables : Bytes) where
       back (verdictLonger a l) q = own-not (omega arith) q
 
   pub left-foretold : (rule old new : Bytes) (r : ℕ) → Forecasts tables rule old new r → (r ≡ 65536 * numberOf Left) ↔ LeftBehind tables
-  left-foretold rule old new r f = through (forecast-refuses tables rule old new r f Left) (λ h. left-exactly tables .0 (back h refl), λ b. forecastTables (left-exactly tables .1 b))
+  left-foretold rule old new r f = through (forecast-refuses tables rule old new r f Left) (λ h. left-exactly tables .0 (back h refl), λ b. bothTables (left-exactly tables .1 b))
     where
       back : {e : Refusal} → ForecastRefuses tables rule (length old) e → e ≡ Left → tablesOf tables ≡ rejected Left
-      back (forecastTables t) q = t ∙ ap rejected q
-      back (forecastRule t h) q = rule-not rule h q
-      back (forecastLonger g l) q = own-not (omega arith) q
+      back (bothTables t) q = t ∙ ap rejected q
+      back (bothRule t h) q = rule-not rule h q
+      back (bothLonger g l) q = own-not (omega arith) q
 
   -- Of a page it has position 0.
   pub left-paged : (page old new : Bytes) (r : ℕ) → JudgesPage tables page old new r → (r ≡ 65536 * numberOf Left + 0) ↔ LeftBehind tables

@@ -8,8 +8,11 @@ pub mod PageLaws
 pub mod Demands
 pub mod PageDemands
 pub mod StepDemands
+pub mod BothLaws
 pub mod ForecastLaws
 pub mod ForecastDemands
 pub mod LeaverDemands
 pub mod DoneDemands
+pub mod SessionLaws
+pub mod SessionDemands
 pub mod Examples

@@ -18,6 +18,7 @@ use Rattle.verdicts.proofs.ReportLaws.{reported-share}
 use Rattle.pages.specs.Met.{PageAdmitted}
 use Rattle.rcl2000.specs.Calls.{JudgesPage, PageEnds, pageSize, PageRefuses, PageReported, AsJudged}
 use Rattle.rcl2000.proofs.CallLaws.{through}
+use Rattle.rcl2000.proofs.RefusalLaws.{page-own}
 use Rattle.rcl2000.proofs.PageLaws.{bounded, page-call-ends, page-refuses-exactly, page-writes-exactly, page-refused, page-written-admitted}
 use Rattle.rcl2000.proofs.PageLaws.{page-number, page-reported, page-as-judged, page-line-told}
 
@@ -25,7 +26,7 @@ module _ (tables page old new : Bytes) (r : ℕ) (s : JudgesPage tables page old
   -- DEMAND 1. "every public entry point, on every input, finishes with an answer or a numbered refusal; a refusal carries no result and changes no lent
   -- byte": so a refused page "carries counts 0 and no quantifier parts".
   pub page-ends : PageEnds old new r
-  page-ends = page-call-ends s (bounded tables page)
+  page-ends = page-call-ends s (bounded tables page) (λ e p q. page-own (page-refused tables page (length old) e p .0 q))
 
   -- DEMAND 2. "It is refused with the refusal number of its first refused line, and with that line's position, counted from 1. Every other refusal has
   -- position 0": exactly where document 02 says, by that number and at that position.

@@ -14,7 +14,7 @@ use borrow.Author.Tests.{leb-true, leb-false, le-leb, lt-leb}
 use Rattle.answers.specs.Refusal.{numberOf}
 use Rattle.answers.specs.Answer.{lent}
 use Rattle.answers.specs.declared.Refusal.{Refusal}
-use Rattle.answers.specs.declared.Refusal.the-variants.{ShortSheet}
+use Rattle.answers.specs.declared.Refusal.the-variants.{ShortSheet, Page}
 use Rattle.answers.proofs.AnswerLaws.{number-some, number-few, same-number, lent-fits}
 use Rattle.tables.specs.Tables.{Tables}
 use Rattle.tables.specs.Reading.{wordFrom}
@@ -31,7 +31,7 @@ use Rattle.pages.proofs.PageLaws.{tables-refused}
 use Rattle.pages.proofs.MetLaws.{size-refused, line-refused-at, page-admitted, page-met}
 use Rattle.pages.proofs.ReportLaws.{page-length, page-word, page-full, page-breaking, page-walks, page-line, lineOf, turn-admitted, line-judged, line-length}
 use Rattle.rcl2000.specs.code.Reply.{pageReplyOf}
-use Rattle.rcl2000.specs.Calls.{Writes, SeesPage, JudgesPage, RefusesPage, PageEnds, answersPage, refusesPage, pageSize, PageRefuses, pageTables, pageUnsized}
+use Rattle.rcl2000.specs.Calls.{Writes, BesidesNumber, SeesPage, JudgesPage, RefusesPage, PageEnds, answersPage, refusesPage, pageSize, PageRefuses, pageTables, pageUnsized}
 use Rattle.rcl2000.specs.Calls.{pageLine, pageLonger, PageReported, AsJudged}
 use Rattle.rcl2000.proofs.CallLaws.{sees-wrote}
 use Rattle.rcl2000.proofs.JudgeLaws.{judged-short}
@@ -155,11 +155,11 @@ module _ {a : PageAnswer} {old new : Bytes} {r : ℕ} (s : SeesPage a old new r)
       go (wrote b) is q = (b, is)
 
   -- "an answer or a numbered refusal"
-  pub page-call-ends : PageEnds old new r
-  page-call-ends = go (pageLent (length old) a) refl
+  pub page-call-ends : ((e : Refusal) (p : ℕ) → pageLent (length old) a ≡ refusedAt e p → BesidesNumber Page (numberOf e)) → PageEnds old new r
+  page-call-ends own = go (pageLent (length old) a) refl
     where
       go : (b : PageAnswer) → pageLent (length old) a ≡ b → PageEnds old new r
-      go (refusedAt e p) is = refusesPage e p (number-some e) (number-few e) (page-sees-refused is)
+      go (refusedAt e p) is = refusesPage e p (own e p is) (page-sees-refused is)
       go (wrote b) is = answersPage b (page-sees-wrote is)
 
 -- A page is refused exactly where document 02 says.

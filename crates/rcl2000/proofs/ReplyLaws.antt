@@ -21,14 +21,14 @@ unfolding reply
 written-reply (refused r) = refl
 written-reply (wrote b) = refl
 
-small : (a : Answer) → ((b : Bytes) → a ≡ wrote b → length b ≤ 4096) → reply a < 4294967296
+small : (a : Answer) → ((b : Bytes) → a ≡ wrote b → length b < 65536) → reply a < 4294967296
 unfolding reply
 small (refused r) h = refusal-small r
 small (wrote b) h = omega (arith, h b refl)
 
--- What a call that writes at most 4,096 bytes returned, and what the tracker is told.
+-- What a call that writes fewer than 65,536 bytes returned, and what the tracker is told.
 module _ {a : Answer} {old new : Bytes} {w : Written} (p : Answers a old new w) where
-  pub reply-fits : ((b : Bytes) → a ≡ wrote b → length b ≤ 4096) → replyOf w < 4294967296
+  pub reply-fits : ((b : Bytes) → a ≡ wrote b → length b < 65536) → replyOf w < 4294967296
   reply-fits h = rw (ap replyOf (answered-case p) ∙ written-reply a) (small a h)
 
   pub reply-is : {r : ℕ} → r ≡ replyOf w → r ≡ reply a

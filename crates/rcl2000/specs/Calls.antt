@@ -3,15 +3,17 @@
 use mathlib.Core.Path.{_≡_}
 use mathlib.Core.Bool.{true, false}
 use mathlib.Core.List.{[]}
+use mathlib.Core.Logic.{_⊎_}
 use mathlib.Core.Option.{none, some}
 use Prim.Native.Nat.{ℕ, suc, _+_, _*_, _≤_, _<_}
 use lib.ListN.{length, getD, getElem?, take, drop}
 use Rattle.answers.specs.Refusal.{numberOf}
 use Rattle.answers.specs.Answer.{Answer, lent, reply, outputAfter}
 use Rattle.answers.specs.declared.Refusal.{Refusal}
-use Rattle.answers.specs.declared.Refusal.the-variants.{Rank, NoRulesFormula, ShortSheet, NotAnOrder, Page}
+use Rattle.answers.specs.declared.Refusal.the-variants.{CutShort, Rank, NoRulesFormula, ShortSheet, NotAnOrder, Page, Left, FullHouse, NotOpen}
 use Rattle.tables.specs.Tables.{Tables}
 use Rattle.tables.specs.Checks.{reflexive, transitive, antisymmetric}
+use Rattle.tables.specs.Encode.{encode}
 use Rattle.tables.specs.Leavers.{LeaverRemains}
 use Rattle.tables.specs.Reading.{took, sections, rejected, taken, tablesOf, rankStepOf, wordFrom}
 use Rattle.texts.specs.Pieces.{lines}
@@ -23,7 +25,12 @@ use Rattle.values.specs.Sets.{TakesPresent}
 use Rattle.values.specs.Ceiling.{ceilingOf}
 use Rattle.verdicts.specs.Verdict.{wordNumber, turnOrder, judged}
 use Rattle.verdicts.specs.Report.{OrderOf, ReportsIn, Admitted}
-use Rattle.forecasts.specs.Forecast.{forecastSize, forecastOf, Given}
+use Rattle.verdicts.specs.Both.{Given}
+use Rattle.forecasts.specs.Forecast.{forecastSize, forecastOf}
+use Rattle.changes.specs.declared.Change.{Change}
+use Rattle.changes.specs.declared.Change.the-variants.{Opening, Closing}
+use Rattle.changes.specs.Change.{changed, changeRefusal}
+use Rattle.sessions.specs.State.{started, ruleIn, tablesIn, isCut, stepped}
 use Rattle.pages.specs.Page.{PageAnswer, pageOf, pageLent, pageReply, pageAfter, walksOf, verdictsOn, pageOutcome, fullSum, breakingSum}
 use Rattle.pages.specs.Met.{Sized, FirstRefused, PageAdmitted}
 
@@ -60,14 +67,33 @@ pub record Writes (w old new : Bytes) (r : ℕ) : Type 0 where
   pub kept : drop r new ≡ drop r old
   pub same : length new ≡ length old
 
--- 19 is said of a page alone.
-abbrev pub NotOfPages : Refusal → Type 0
-NotOfPages e = numberOf e ≡ numberOf Page → ⊥
+-- Each call has its own numbers. Tables are refused by 1 to 10 and by 20, rules by 11 to 15;
+abbrev pub OfTables : ℕ → Type 0
+OfTables n = ((1 ≤ n) × (n ≤ 10)) ⊎ (n ≡ numberOf Left)
 
--- "finishes with an answer or a numbered refusal"
-pub data Ends (old new : Bytes) (r : ℕ) : Type 0 where
-  answers : (w : Bytes) → Writes w old new r → Ends old new r
-  refuses : (e : Refusal) → 1 ≤ numberOf e → numberOf e ≤ 20 → NotOfPages e → Refuses e old new r → Ends old new r
+abbrev pub OfRules : ℕ → Type 0
+OfRules n = (11 ≤ n) × (n ≤ 15)
+
+abbrev pub OfBoth : ℕ → Type 0
+OfBoth n = OfTables n ⊎ OfRules n
+
+-- beside what they are handed, the calls refuse by 17, and some by a number of their own.
+abbrev pub ReduceNumber : ℕ → Type 0
+ReduceNumber n = OfRules n ⊎ (n ≡ numberOf ShortSheet)
+
+abbrev pub RebuildNumber : ℕ → Type 0
+RebuildNumber n = (n ≡ numberOf NoRulesFormula) ⊎ (n ≡ numberOf ShortSheet)
+
+abbrev pub BothNumber : ℕ → Type 0
+BothNumber n = OfBoth n ⊎ (n ≡ numberOf ShortSheet)
+
+abbrev pub BesidesNumber : Refusal → ℕ → Type 0
+BesidesNumber e n = BothNumber n ⊎ (n ≡ numberOf e)
+
+-- "finishes with an answer or a numbered refusal", by a number of the call's
+pub data Ends (Number : ℕ → Type 0) (old new : Bytes) (r : ℕ) : Type 0 where
+  answers : (w : Bytes) → Writes w old new r → Ends Number old new r
+  refuses : (e : Refusal) → Number (numberOf e) → Refuses e old new r → Ends Number old new r
 
 -- Where a call refuses, and by which refusal, n bytes of output lent.
 
@@ -117,7 +143,7 @@ pub record RefusesPage (e : Refusal) (p : ℕ) (old new : Bytes) (r : ℕ) : Typ
 -- "finishes with an answer or a numbered refusal"
 pub data PageEnds (old new : Bytes) (r : ℕ) : Type 0 where
   answersPage : (w : Bytes) → Writes w old new r → PageEnds old new r
-  refusesPage : (e : Refusal) (p : ℕ) → 1 ≤ numberOf e → numberOf e ≤ 20 → RefusesPage e p old new r → PageEnds old new r
+  refusesPage : (e : Refusal) (p : ℕ) → BesidesNumber Page (numberOf e) → RefusesPage e p old new r → PageEnds old new r
 
 -- A page of n lines takes as many bytes.
 abbrev pub pageSize : ℕ → ℕ
@@ -169,11 +195,14 @@ pub data StepOf (tables : Bytes) : ℕ → Type 0 where
 abbrev pub Forecasts : Bytes → Bytes → Bytes → Bytes → ℕ → Type 0
 Forecasts tables rule old new r = Sees (forecastOf tables rule) old new r
 
--- "Refused tables and rules give document 01's numbers", the tables' first; 17 after all others, where n bytes are lent.
-pub data ForecastRefuses (tables rule : Bytes) (n : ℕ) : Refusal → Type 0 where
-  forecastTables : {e : Refusal} → tablesOf tables ≡ rejected e → ForecastRefuses tables rule n e
-  forecastRule : {T : Tables} {e : Refusal} → tablesOf tables ≡ taken T → refusal rule ≡ some e → ForecastRefuses tables rule n e
-  forecastLonger : {T : Tables} {ρ : Rule} → Given tables rule T ρ → n < forecastSize → ForecastRefuses tables rule n ShortSheet
+-- "Refused tables and rules give document 01's numbers", the tables' first; 17 after all others, where n bytes are lent and `size` are to be written.
+pub data BothRefuses (size : Tables → Rule → ℕ) (tables rule : Bytes) (n : ℕ) : Refusal → Type 0 where
+  bothTables : {e : Refusal} → tablesOf tables ≡ rejected e → BothRefuses size tables rule n e
+  bothRule : {T : Tables} {e : Refusal} → tablesOf tables ≡ taken T → refusal rule ≡ some e → BothRefuses size tables rule n e
+  bothLonger : {T : Tables} {ρ : Rule} → Given tables rule T ρ → n < size T ρ → BothRefuses size tables rule n ShortSheet
+
+abbrev pub ForecastRefuses : Bytes → Bytes → ℕ → Refusal → Type 0
+ForecastRefuses tables rule n e = BothRefuses (λ T ρ. forecastSize) tables rule n e
 
 -- The first word of a forecast, and the second.
 abbrev pub toldLength : Bytes → ℕ
@@ -198,3 +227,34 @@ pub record LeftBehind (tables : Bytes) : Type 0 where
 -- Where the 26 bytes b of a verdict on ρ count a breaking choice, the one in bytes 17 to 24 takes no leaver.
 abbrev pub NamesPresent : Tables → Rule → Bytes → Type 0
 NamesPresent T ρ b = 0 < wordFrom (take 8 (drop 9 b)) → TakesPresent T ρ (take 8 (drop 17 b))
+
+-- DOCUMENT 02, N9. r and new are what `sessions_start` gives for tables and a rule;
+abbrev pub Starts : Bytes → Bytes → Bytes → Bytes → ℕ → Type 0
+Starts tables rule old new r = Sees (started tables rule) old new r
+
+-- what a call on the state s gives that asks for the change c: `session_open` for `Opening user roles`, `session_close` for `Closing number`.
+abbrev pub Changes : Bytes → Change → Bytes → Bytes → ℕ → Type 0
+Changes s c old new r = Sees (stepped s c) old new r
+
+-- A state has 28 bytes, the rule and the tables.
+abbrev pub stateSize : Bytes → Tables → ℕ
+stateSize rule T = 28 + length rule + length (encode T)
+
+abbrev pub StartRefuses : Bytes → Bytes → ℕ → Refusal → Type 0
+StartRefuses tables rule n e = BothRefuses (λ T ρ. stateSize rule T) tables rule n e
+
+-- What is refused of any state, n bytes of output lent: "shorter than 28 or than 28 and the rule is 1", then the tables' own number, the rule's, the
+-- change's, and 17.
+pub data ChangeRefuses (s : Bytes) (c : Change) (n : ℕ) : Refusal → Type 0 where
+  stateCut : isCut s ≡ true → ChangeRefuses s c n CutShort
+  stateTables : {e : Refusal} → isCut s ≡ false → tablesOf (tablesIn s) ≡ rejected e → ChangeRefuses s c n e
+  stateRule : {T : Tables} {e : Refusal} → isCut s ≡ false → tablesOf (tablesIn s) ≡ taken T → refusal (ruleIn s) ≡ some e → ChangeRefuses s c n e
+  changeRefused : {T : Tables} {ρ : Rule} {e : Refusal} → isCut s ≡ false → Given (tablesIn s) (ruleIn s) T ρ → changeRefusal T c ≡ some e
+      → ChangeRefuses s c n e
+  nextLonger : {T : Tables} {ρ : Rule} → isCut s ≡ false → Given (tablesIn s) (ruleIn s) T ρ → changeRefusal T c ≡ none
+      → n < stateSize (ruleIn s) (changed T c) → ChangeRefuses s c n ShortSheet
+
+-- The numbers of a call on a state: an opening has 21 beside those of tables and rules, a closing 22.
+abbrev pub ChangeNumber : Change → ℕ → Type 0
+ChangeNumber (Opening u w) n = BesidesNumber FullHouse n
+ChangeNumber (Closing k) n = BesidesNumber NotOpen n

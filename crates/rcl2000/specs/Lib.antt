@@ -1,4 +1,5 @@
 -- The tracker's calls.
 pub mod Calls
+pub mod Day
 pub mod Examples
 pub mod code

@@ -2,9 +2,11 @@
 // `rank_step` alone refuses nothing. Below these nothing knows the tracker's numbers.
 ghost use mathlib.Core.Path.{_≡_};
 ghost use Prim.Native.Nat.{_<_};
-ghost use Rattle.rcl2000.specs.Calls.{Reduces, GivesBack, Judges, JudgesPage, GivesStep, Forecasts};
+ghost use Rattle.changes.specs.declared.Change.the-variants.{Opening, Closing};
+ghost use Rattle.rcl2000.specs.Calls.{Reduces, GivesBack, Judges, JudgesPage, GivesStep, Forecasts, Starts, Changes};
 ghost use Rattle.rcl2000.specs.code.Reply.{replyOf, pageReplyOf};
 use answers::Written;
+use changes::Change;
 use pages::Answered;
 
 // The tracker's number of what was written.
@@ -76,4 +78,28 @@ pub extern "C" fn forecast(tables: &[u8], rule: &[u8], out: &mut [u8]) -> u32
     ensures { λ r. ⌜ Forecasts (now (tables .entry)) (now (rule .entry)) (now (out .entry)) (now (out .exit)) r ⌝ }
 {
     number(forecasts::forecast(tables, rule, out))
+}
+
+// The first state of a rule on tables: its verdict, the rule and the tables.
+#[no_mangle]
+pub extern "C" fn sessions_start(tables: &[u8], rule: &[u8], out: &mut [u8]) -> u32
+    ensures { λ r. ⌜ Starts (now (tables .entry)) (now (rule .entry)) (now (out .entry)) (now (out .exit)) r ⌝ }
+{
+    number(sessions::start(tables, rule, out))
+}
+
+// The next state, with a session of this user with these active roles behind the last.
+#[no_mangle]
+pub extern "C" fn session_open(state: &[u8], user: u32, roles: u64, out: &mut [u8]) -> u32
+    ensures { λ r. ⌜ Changes (now (state .entry)) (Opening user roles) (now (out .entry)) (now (out .exit)) r ⌝ }
+{
+    number(sessions::step(state, Change::Opening { user, roles }, out))
+}
+
+// The next state, without the session of this number, from 0.
+#[no_mangle]
+pub extern "C" fn session_close(state: &[u8], session: u32, out: &mut [u8]) -> u32
+    ensures { λ r. ⌜ Changes (now (state .entry)) (Closing session) (now (out .entry)) (now (out .exit)) r ⌝ }
+{
+    number(sessions::step(state, Change::Closing(session), out))
 }

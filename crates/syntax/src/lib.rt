@@ -10,7 +10,7 @@ ghost use Rattle.syntax.specs.code.Reading.{mk, Agree, Reads, clauseRoom
 
 mod arena;
 mod formulas;
-mod names;
+pub mod names;
 pub mod nodes;
 pub mod places;
 mod terms;

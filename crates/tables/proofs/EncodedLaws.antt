@@ -17,7 +17,7 @@ use Rattle.tables.proofs.EncodeLaws.{below-every, below-assigned}
 
 -- Rows of k bytes each, after their count.
 module _ {A : Type 0} (k : ℕ) (row : A → Bytes) (h : (x : A) → length (row x) ≡ k) where
-  rows-length : (xs : List A) → length (joined (map row xs)) ≡ k * length xs
+  pub rows-length : (xs : List A) → length (joined (map row xs)) ≡ k * length xs
   unfolding joined
   rows-length [] = omega arith
   rows-length (x ∷ xs) = omega (arith, length-append (row x) (joined (map row xs)), h x, rows-length xs, mul-suc k (length xs))
@@ -26,11 +26,11 @@ module _ {A : Type 0} (k : ℕ) (row : A → Bytes) (h : (x : A) → length (row
   unfolding counted
   counted-length xs = omega (arith, rows-length xs)
 
-words-length : (ws : List ℕ) → length (counted wordBytes ws) ≡ 1 + 8 * length ws
+pub words-length : (ws : List ℕ) → length (counted wordBytes ws) ≡ 1 + 8 * length ws
 unfolding wordBytes
 words-length ws = counted-length 8 wordBytes (λ w. lowest-length 8 w) ws
 
-users-length : (us : List User) → length (counted userBytes us) ≡ 1 + 9 * length us
+pub users-length : (us : List User) → length (counted userBytes us) ≡ 1 + 9 * length us
 unfolding userBytes
 users-length us = counted-length 9 userBytes (λ u. ap suc (lowest-length 8 (u .assigned))) us
 

@@ -1,11 +1,11 @@
 -- Laws of the flat tables: word i of section k stands at room × k + i, and is 0 past the section's list.
 -- Assumes nothing.
-use mathlib.Core.Path.{_≡_, refl, ap, _∙_}
+use mathlib.Core.Path.{_≡_, refl, sym, ap, _∙_}
 use mathlib.Core.List.{List, [], _∷_, _++_, map}
 use Prim.Native.Nat.{ℕ, zero, suc, _+_, _*_, _/_, _%_, _<_}
 use native.Mathlib.Omega.{arith}
 use lib.ListN.{length, getD, drop, length-append, length-map, List·getD-append}
-use lib.Seq.{getD-append-add, getD-drop}
+use lib.Seq.{getD-append-add, getD-drop, ext-getD}
 use Rattle.words.specs.Words.{itemOf}
 use Rattle.tables.specs.Tables.{Tables}
 use Rattle.tables.specs.code.Layout.{Whole, sectionAt}
@@ -81,3 +81,11 @@ unfolding sections
 count-at T n l =
     let e : n ≡ room * 0 + n = omega arith in
     ap (λ (i : ℕ). getD (flat T) i 0) e ∙ flat-at T 0 n l
+
+-- Words whose sections are those of T are T's.
+pub flat-words : (T : Tables) (ws : List ℕ) → Whole ws → ((k i : ℕ) → i < room → getD ws (room * k + i) 0 ≡ getD (getD (sections T) k []) i 0) → ws ≡ flat T
+flat-words T ws whole h =
+    ext-getD 0 ws (flat T) (whole ∙ sym (length-flat T))
+    (λ j l.
+    let e : room * (j / room) + j % room ≡ j = omega arith in
+    rw e at (h (j / room) (j % room) (omega arith) ∙ sym (flat-at T (j / room) (j % room) (omega arith))))

@@ -11,7 +11,7 @@ use Rattle.tables.specs.Tables.{User, Session, Deed, Tables, userRows, p
 use Rattle.tables.specs.Accepted.{Fits}
 use Rattle.tables.specs.Flat.{wholeLength, room, padded, tabulate, counts, objectRows, operationRows, sections, laid, flat}
 use Rattle.tables.specs.Reading.{Rights, Collections}
-use Rattle.tables.specs.code.Reads.{put, putUsers, putSessions, withCount, withSection, withUsers, withSessions, withNames, withRights, withCollections, Filled}
+use Rattle.tables.specs.code.Reads.{put, putUsers, putSessions, withCount, withSection, withUsers, withSessionRows, withNames, withRights, withCollections, Filled}
 use Rattle.tables.specs.code.Reads.{putDeeds, withDeeds}
 use Rattle.tables.proofs.FlatLaws.{length-padded, numbers-long, length-tabulate}
 use Rattle.tables.proofs.SectionsLaws.{product-few}
@@ -93,7 +93,7 @@ users-laid x r us l =
 
 module _ (x y h : ℕ) (r u : List ℕ) where
   sessions-laid : (ss : List Session) → length ss ≤ room
-      → withSessions (laid ((x ∷ y ∷ h ∷ []) ∷ ten r u [] [] [] [] [] [] [] [])) ss
+      → withSessionRows (laid ((x ∷ y ∷ h ∷ []) ∷ ten r u [] [] [] [] [] [] [] [])) ss
       ≡ laid ((x ∷ y ∷ h ∷ length ss ∷ []) ∷ ten r u (map itemOf (map (λ s. s .user) ss)) (map (λ s. s .active) ss) [] [] [] [] [] [])
   unfolding withCount putSessions
   sessions-laid ss l =

@@ -3,15 +3,14 @@
 use mathlib.Core.Path.{_≡_, refl, ap, _∙_}
 use mathlib.Core.Bool.{Bool, true, false}
 use mathlib.Core.List.{[], _∷_}
-use Prim.Native.Nat.{ℕ, suc, _+_, _*_, _-_, _/_, _^_, _≤_, _<_}
+use Prim.Native.Nat.{ℕ, suc, _+_, _*_, _-_, _^_, _≤_, _<_}
 use native.Mathlib.Omega.{arith}
 use native.Mathlib.Numerals.{add-one}
 use lib.Dec.{ltb, leb}
 use lib.ListN.{length, getD, take, drop, length-drop, drop-of-length-le}
-use native.Mathlib.Nat.{pow-suc, pow-le-pow-right, div-lt-iff-lt-mul, le-div-iff-mul-le}
-use lib.Pow.{pow-pos}
+use native.Mathlib.Nat.{pow-suc, pow-le-pow-right}
 use lib.Seq.{drop-cons, length-take-le, drop-drop, getD-drop, getD-take}
-use borrow.Author.Tests.{lt-ltb, le-ltb, le-leb, lt-leb, eq-eqb, ne-eqb, leb-true, leb-false}
+use borrow.Author.Tests.{lt-ltb, le-ltb, le-leb, lt-leb, eq-eqb, ne-eqb}
 use Rattle.answers.specs.declared.Refusal.{Refusal}
 use Rattle.answers.specs.declared.Refusal.the-variants.{CutShort, Overfull, NotEntered, BadMark, NoSuchItem}
 use Rattle.tables.specs.declared.Step.{Step}
@@ -141,25 +140,6 @@ module _ (s : Bytes) (at : ℕ) (h : at + 8 ≤ length s) where
 
   pub word-all : {w i : ℕ} → i ≤ 0 → WordRead s at w i → w ≡ wordFrom (take 8 (drop at s))
   word-all {w} {i} l r = let q : i ≡ 0 = omega arith in rw q at (r .is)
-
--- A word shifted by n is not 0 exactly where the word is 2 ^ n or more.
-pub outside-shift : (w n : ℕ) → ltb 0 (w / 2 ^ n) ≡ leb (2 ^ n) w
-outside-shift w n = go (leb (2 ^ n) w) refl
-  where
-    go : (b : Bool) → leb (2 ^ n) w ≡ b → ltb 0 (w / 2 ^ n) ≡ leb (2 ^ n) w
-    go false e =
-        let h = leb-false (2 ^ n) w e in
-        let q : w / 2 ^ n < 1 = div-lt-iff-lt-mul (pow-pos n) .1 (omega arith) in
-        rw (e, le-ltb 0 (w / 2 ^ n) (omega arith))
-    go true e =
-        let h = leb-true (2 ^ n) w e in
-        let q : 1 ≤ w / 2 ^ n = le-div-iff-mul-le (pow-pos n) .1 (omega arith) in
-        rw (e, lt-ltb 0 (w / 2 ^ n) (omega arith))
-
-pub outside-none : (w n : ℕ) → 64 ≤ n → n ≤ 64 → w < 2 ^ 64 → leb (2 ^ n) w ≡ false
-outside-none w n l h k =
-    let q : n ≡ 64 = omega arith in
-    rw (q) (lt-leb (2 ^ 64) w k)
 
 -- The word of a row, held against its count.
 pub within-over : (n : ℕ) (b t : Bytes) {w : ℕ} {r : Bool} → w ≡ wordFrom b → r ≡ leb (2 ^ n) w → r ≡ true → wordWithin n b t ≡ stop NoSuchItem

@@ -69,3 +69,19 @@ doneObjects T = map (λ d. d .object) (T .done)
 
 abbrev pub doneOperations : Tables → List ℕ
 doneOperations T = map (λ d. d .operation) (T .done)
+
+-- Document 02, N9: "the tables with that list as section 3".
+abbrev pub withSessions : Tables → List Session → Tables
+withSessions T ss =
+    record {
+      roleRows = T .roleRows;
+      users = T .users;
+      sessions = ss;
+      operationCount = T .operationCount;
+      objectCount = T .objectCount;
+      permissionRows = T .permissionRows;
+      cr = T .cr;
+      cu = T .cu;
+      cp = T .cp;
+      done = T .done;
+    }

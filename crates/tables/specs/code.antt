@@ -1,3 +1,4 @@
 -- What only the code needs: nobody has to believe these definitions to read what the entry points promise.
 pub mod Layout
 pub mod Reads
+pub mod Loaded

@@ -1,8 +1,7 @@
 // Counts and rows at a place in the bytes: a row is complete before it is examined.
 // Nothing is stored here.
 ghost use mathlib.Core.Path.{_≡_};
-ghost use Prim.Native.Nat.{_+_, _≤_, _<_, _^_};
-ghost use lib.Dec.{leb};
+ghost use Prim.Native.Nat.{_+_, _≤_, _<_};
 ghost use lib.ListN.{length, drop, take};
 ghost use Rattle.tables.specs.Reading.{wordFrom, byte as byteOf, count as countOf, wordWithin, wordRow, markedRow, sessionRow, doneRow};
 ghost use Rattle.tables.specs.code.Reads.{Reads, Is, IsCount, IsMarked, IsSession, IsDeed, rowOf, RowFits};
@@ -62,24 +61,13 @@ pub fn word(bytes: &[u8], at: usize) -> u64
     w
 }
 
-// A bit at or above n.
-pub fn outside(w: u64, n: u64) -> bool
-    requires { ⌜ n ≤ 64 ⌝ }
-    ensures { λ r. ⌜ r ≡ leb (2 ^ n) w ⌝ }
-{
-    if n < 64 {
-        return 0 < w >> n;
-    }
-    false
-}
-
 pub fn word_within(bytes: &[u8], at: usize, n: u64) -> Step
     requires { ⌜ at + 8 ≤ length (now bytes) ⌝ }
     requires { ⌜ n ≤ 64 ⌝ }
     ensures { λ r. ⌜ Reads (now (bytes .entry)) Is r (wordWithin n (take 8 (drop at (now (bytes .entry)))) (drop (at + 8) (now (bytes .entry)))) ⌝ }
 {
     let w = word(bytes, at);
-    if outside(w, n) {
+    if words::outside(w, n) {
         return Step::Stopped(Refusal::NoSuchItem);
     }
     Step::Took {

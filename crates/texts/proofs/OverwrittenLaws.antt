@@ -7,7 +7,7 @@ use native.Mathlib.Omega.{arith}
 use lib.ListN.{length, take, drop, getD, set, length-append, length-drop, length-take, drop-of-length-le}
 use borrow.Rule.Slice.PartMut.{midOf, postOf, putMid}
 use lib.Seq.{drop-cons, set-at, take-length, take-all, take-at, drop-at, drop-drop}
-use Rattle.texts.specs.code.Overwritten.{Overwritten, over}
+use Rattle.texts.specs.code.Overwritten.{Overwritten, over, Added}
 
 pub over-length : (w old : List ℕ) → length w ≤ length old → length (over w old) ≡ length old
 over-length w old h = simp (length-append, length-drop) (omega arith)
@@ -69,3 +69,10 @@ written-part {w} {n = n} r = rw (r .bytes, take-at w _ n (sym (r .count)))
 
 pub part-length : {w old new : List ℕ} {n : ℕ} → Overwritten w old new n → n ≡ length (take n new)
 part-length r = rw (written-part r) (r .count)
+
+-- Pieces that are added one behind the other: the first, and one more.
+pub add-first : {w mid new : List ℕ} {r : ℕ} → Added 0 w mid new r → Overwritten w mid new r
+add-first {w} {mid} p = rw (p .0) (p .1 [] mid (none-written mid))
+
+pub add-more : {v old w mid new : List ℕ} {n r : ℕ} → Overwritten v old mid n → Added n w mid new r → Overwritten (v ++ w) old new r
+add-more {v} {old} o p = rw (p .0) (p .1 v old o)

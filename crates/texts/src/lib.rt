@@ -3,7 +3,7 @@
 ghost use mathlib.Core.Path.{_≡_};
 ghost use Prim.Native.Nat.{_≤_, _<_, _+_};
 ghost use lib.ListN.{length, getElem?};
-ghost use Rattle.texts.specs.code.Overwritten.{Overwritten};
+ghost use Rattle.texts.specs.code.Overwritten.{Overwritten, Added};
 ghost use Rattle.texts.specs.Decimal.{digitsTo, decimalOf};
 ghost use Rattle.texts.specs.Pieces.{lines, fields};
 ghost use Rattle.texts.specs.code.Spans.{Spans, Starts, Sought};
@@ -14,6 +14,15 @@ pub fn put(w: &[u8], out: &mut [u8]) -> usize
     ensures { λ r. ⌜ Overwritten (now (w .entry)) (now (out .entry)) (now (out .exit)) r ⌝ }
 {
     bytes::copy(w, out)
+}
+
+// Writes the bytes of w behind the first n: the place behind them.
+pub fn add(n: usize, w: &[u8], out: &mut [u8]) -> usize
+    requires { ⌜ n + length (now w) ≤ length (now out) ⌝ }
+    ensures { λ r. ⌜ Added n (now (w .entry)) (now (out .entry)) (now (out .exit)) r ⌝ }
+{
+    let m = put(w, &mut out[n..]);
+    n + m
 }
 
 // Writes n's decimal digits.

@@ -59,7 +59,7 @@ module _ {T U : Tables} (a : Alike T U) (pass : Passes T) (σ : Choices) (c : Li
       ap₂ (opValue o) (value-alike x (q .0) (q .1) (r .0)) (value-alike y (p .0) (p .1) (r .1))
 
 module _ (T U : Tables) (σ : Choices) (c : List ℕ) where
-  abbrev Same : Term → Type 0
+  abbrev pub Same : Term → Type 0
   Same t = value U σ c t ≡ value T σ c t
 
   -- and a rule the same truth, where its terms have the same values.
@@ -80,7 +80,7 @@ module _ (T U : Tables) (σ : Choices) (c : List ℕ) where
   clause-alike (plain p) h = test-alike p h
   clause-alike (when p q) h = ap₂ (λ (x y : Bool). not (x && not y)) (test-alike p (h .0)) (test-alike q (h .1))
 
-  rule-alike : (ρ : Rule) → RuleHas Same ρ → ruleTrue U σ c ρ ≡ ruleTrue T σ c ρ
+  pub rule-alike : (ρ : Rule) → RuleHas Same ρ → ruleTrue U σ c ρ ≡ ruleTrue T σ c ρ
   unfolding ruleTrue
   rule-alike (last k) h = clause-alike k h
   rule-alike (also k ρ) h = ap₂ (λ (x y : Bool). x && y) (clause-alike k (h .0)) (rule-alike ρ (h .1))

@@ -11,3 +11,4 @@ pub mod CountedLaws
 pub mod JudgedLaws
 pub mod ReportLaws
 pub mod AlikeLaws
+pub mod BothLaws

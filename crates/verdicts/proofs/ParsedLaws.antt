@@ -32,9 +32,12 @@ checked-some (some p) h = cc
 
 module _ {s : Bytes} {ns ks vs : List ℕ} {o : Checked} {n root count : ℕ} (p : Parses s ns ks vs o n root count) where
   -- A refused rule has its refusal;
+  pub parsed-rejects : {e : Refusal} → o ≡ Refused e → refusal s ≡ some e
+  parsed-rejects h = checked-some (refusal s) (sym (p .outcome) ∙ h)
+
   pub parsed-refused : {e : Refusal} → o ≡ Refused e → (T : Tables) (order : Bytes) → refusedBy e ≡ acceptedVerdict T (refusal s) s order
   unfolding acceptedVerdict
-  parsed-refused h T order = rw (checked-some (refusal s) (sym (p .outcome) ∙ h))
+  parsed-refused h T order = rw (parsed-rejects h)
 
   -- there are never more than 8 variables.
   pub parsed-few : count ≤ 8

@@ -9,11 +9,11 @@ use lib.ListN.{length, set, length-set, length-append, drop-of-length-le}
 use lib.Seq.{append-snoc}
 use borrow.Rule.Slice.PartMut.{midOf, putMid}
 use Rattle.tables.specs.Bytes.{lowestFirst}
-use Rattle.texts.specs.code.Overwritten.{Overwritten}
+use Rattle.texts.specs.code.Overwritten.{Overwritten, Behind}
 use Rattle.texts.proofs.OverwrittenLaws.{none-written, written-byte, written-length, written-rest}
 use Rattle.verdicts.specs.declared.Verdict.{Verdict}
 use Rattle.verdicts.specs.Verdict.{written}
-use Rattle.verdicts.specs.code.Writing.{Behind, Wording}
+use Rattle.verdicts.specs.code.Writing.{Wording}
 
 -- The bytes of a word: none, one more, all.
 pub word-none : (n w : ℕ) (mid : List ℕ) → Wording n w mid mid w 0

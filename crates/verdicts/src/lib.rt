@@ -12,7 +12,8 @@ ghost use lib.ListN.{length};
 ghost use Rattle.rules.specs.declared.Checked.the-variants.{Accepted as AcceptedRule};
 ghost use Rattle.answers.specs.Answer.{lent};
 ghost use Rattle.verdicts.specs.Verdict.{Gives, verdictOf, judged};
-ghost use Rattle.verdicts.specs.code.Judging.{Loaded, SomeRule, KnownCounts, JudgesOn, JudgesInTurn, JudgesParsed};
+ghost use Rattle.verdicts.specs.code.Judging.{Loaded, SomeRule, ParsedFrom, KnownCounts, JudgesOn, JudgesInTurn, JudgesParsed};
+ghost use Rattle.syntax.specs.Bytes.{Bytes};
 ghost use Rattle.answers.specs.Written.{Answers};
 ghost use Rattle.verdicts.specs.code.Writing.{PutsVerdict};
 
@@ -66,18 +67,31 @@ pub fn on_tables(words: &[u64], rule: &[u8], order: &[u8]) -> Verdict
     of_parsed(words, rules::parse(rule), order)
 }
 
-// The same along 1, 2, ..
+// The verdict of a parsed rule along 1, 2, .. That is always an order, so nothing tests it.
+pub fn parsed_in_turn(words: &[u64], parsed: Parsed) -> Verdict
+    requires { ⌜ Loaded (now words) ⌝ }
+    requires { ⌜ SomeRule parsed ⌝ }
+    ensures { λ r. ⌜ ((rule : Bytes) → ParsedFrom rule parsed → JudgesInTurn (now (words .entry)) rule r) ⌝ }
+{
+    let count = parsed.count;
+    let variables = [0u8, 1, 2, 3, 4, 5, 6, 7];
+    let listed = &variables[..count];
+    let outcome = parsed.outcome;
+    match outcome {
+        Checked::Refused(e) => ruling::refused(e),
+        Checked::Accepted => ruling::ruled(walking::whole(words, parsed, listed)),
+    }
+}
+
+// The same of a rule's text.
 pub fn in_turn(words: &[u64], rule: &[u8]) -> Verdict
     requires { ⌜ Loaded (now words) ⌝ }
     ensures { λ r. ⌜ JudgesInTurn (now (words .entry)) (now (rule .entry)) r ⌝ }
 {
-    let parsed = rules::parse(rule);
-    let count = parsed.count;
-    let order = [1u8, 2, 3, 4, 5, 6, 7, 8];
-    of_parsed(words, parsed, &order[..count])
+    parsed_in_turn(words, rules::parse(rule))
 }
 
-// The verdict along 1, 2, .. of a rule whose counts are known already. That is always an order, so nothing tests it.
+// The verdict along 1, 2, .. of a rule whose counts are known already.
 pub fn counted_in_turn(words: &[u64], rule: &[u8], full: u64, breaking: u64) -> Verdict
     requires { ⌜ Loaded (now words) ⌝ }
     requires { ⌜ KnownCounts (now words) (now rule) full breaking ⌝ }

@@ -3,3 +3,4 @@ pub mod WordsLaws
 pub mod RelationLaws
 pub mod BitsLaws
 pub mod LoopLaws
+pub mod OutsideLaws

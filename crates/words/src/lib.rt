@@ -1,7 +1,8 @@
 // Sets as u64 words, and the two ways to go from a set to another: image and preimage.
 // Each function is told by bits; nothing here knows tables.
 ghost use mathlib.Core.Path.{_≡_};
-ghost use Prim.Native.Nat.{_<_, _≤_, min};
+ghost use Prim.Native.Nat.{_<_, _≤_, _^_, min};
+ghost use lib.Dec.{leb};
 ghost use lib.ListN.{getD};
 ghost use Rattle.words.specs.Words.{has, Lowest, sizeOf, allOf, itemOf, meetOf, joinOf, lessOf, imageOf, preimageOf};
 
@@ -60,6 +61,17 @@ pub fn size(w: u64) -> usize
     ensures { λ r. ⌜ r ≡ sizeOf w ⌝ }
 {
     ones(w) as usize
+}
+
+// A bit at or above n is set.
+pub fn outside(w: u64, n: u64) -> bool
+    requires { ⌜ n ≤ 64 ⌝ }
+    ensures { λ r. ⌜ r ≡ leb (2 ^ n) w ⌝ }
+{
+    if n < 64 {
+        return 0 < w >> n;
+    }
+    false
 }
 
 // The smallest item, or 64.

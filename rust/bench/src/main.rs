@@ -1,8 +1,10 @@
-//! Times the proved library beside the reference's fast modules, in the same run, pages beside calls of
-//! `judge`, and calls by their ceilings, and prints the tables of docs/BENCHMARKS.md. `bench ROUNDS` sets
-//! how many rounds each median is of; `bench ROUNDS calls`, `pages` or `waits` prints that table alone.
+//! Times the proved library beside the reference's fast modules, in the same run, pages and sessions that come and
+//! go beside calls of `judge`, and calls by their ceilings, and prints the tables of docs/BENCHMARKS.md. `bench
+//! ROUNDS` sets how many rounds each median is of; `bench ROUNDS calls`, `pages`, `sessions` or `waits` prints that
+//! table alone.
 
 mod pages;
+mod sessions;
 mod waits;
 
 use std::hint::black_box;
@@ -66,6 +68,9 @@ fn main() {
     }
     if wanted("pages") {
         pages::table(&random, &office, rounds);
+    }
+    if wanted("sessions") {
+        sessions::table(&random, &office, rounds);
     }
     if wanted("waits") {
         waits::table();
@@ -233,16 +238,25 @@ fn beside(question: &Question, rounds: usize) -> (f64, f64, f64) {
     let expected = question.fast().expect("an accepted question");
     question.hold(&Ok(expected.clone()), expected.len(), 0);
     let mut out = vec![0; expected.len()];
-    let (mut ours, mut fast, mut ratios) = (Vec::new(), Vec::new(), Vec::new());
+    let ours = || black_box(question).ask(&mut out);
+    alternating(rounds, ours, || black_box(question).fast())
+}
+
+/// Nanoseconds for one call and for another, timed in turn, and the ratio: medians.
+fn alternating<A, B>(
+    rounds: usize,
+    mut one: impl FnMut() -> A,
+    mut other: impl FnMut() -> B,
+) -> (f64, f64, f64) {
+    let (mut ones, mut others, mut ratios) = (Vec::new(), Vec::new(), Vec::new());
     let start = Instant::now();
-    while ours.len() < rounds && (ours.is_empty() || start.elapsed() < ROW) {
-        let a = time(ROUND, || black_box(question).ask(&mut out));
-        let b = time(ROUND, || black_box(question).fast());
+    while ones.len() < rounds && (ones.is_empty() || start.elapsed() < ROW) {
+        let (a, b) = (time(ROUND, &mut one), time(ROUND, &mut other));
         ratios.push(a / b);
-        ours.push(a);
-        fast.push(b);
+        ones.push(a);
+        others.push(b);
     }
-    (median(ours), median(fast), median(ratios))
+    (median(ones), median(others), median(ratios))
 }
 
 /// Nanoseconds for a call of ours, the median of some rounds.

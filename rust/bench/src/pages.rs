@@ -8,7 +8,7 @@ use differential::rules::COMMITTEE;
 use differential::tables::Plain;
 use rcl2000::{Page, Verdict};
 
-use crate::{median, shown, time, ROUND};
+use crate::{alternating, shown};
 
 /// What a user's roles are, in four ways.
 const OWN: [&str; 4] = [
@@ -115,19 +115,15 @@ fn row(name: &str, walks: u8, text: &str, tables: &Plain, rounds: usize) {
     let calls: Vec<Question> = text.lines().map(call).collect();
     assert_eq!(compared(&page, &calls), walks, "{name}");
     let (mut whole, mut one_by_one) = ([0; Page::MAX_BYTES], [0; Verdict::BYTES]);
-    let (mut ours, mut theirs, mut ratios) = (Vec::new(), Vec::new(), Vec::new());
-    for _ in 0..rounds {
-        let a = time(ROUND, || black_box(&page).ask(&mut whole));
-        let b = time(ROUND, || {
+    let (ours, theirs, ratio) = alternating(
+        rounds,
+        || black_box(&page).ask(&mut whole),
+        || {
             for call in black_box(&calls) {
                 let _ = black_box(call.ask(&mut one_by_one));
             }
-        });
-        ratios.push(a / b);
-        ours.push(a);
-        theirs.push(b);
-    }
-    let (ours, theirs, ratio) = (median(ours), median(theirs), median(ratios));
+        },
+    );
     println!(
         "| {name} | {walks} | {} | {} | {ratio:.2} |",
         shown(ours),

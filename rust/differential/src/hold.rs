@@ -3,6 +3,7 @@
 use rcl2000::{PageRefusal, RankStep};
 use reference::page::{FAST, PLAIN};
 use reference::protocol::{hex, FILL};
+use reference::sessions::Change;
 use reference::Refused;
 
 use crate::random::Random;
@@ -38,6 +39,9 @@ pub enum Question {
     JudgePage(Box<[u8]>, Box<[u8]>),
     RankStep(Box<[u8]>),
     Forecast(Box<[u8]>, Box<[u8]>),
+    SessionsStart(Box<[u8]>, Box<[u8]>),
+    /// A session to be opened or closed in a state.
+    Session(Box<[u8]>, Change),
 }
 
 impl Question {
@@ -61,6 +65,29 @@ impl Question {
         Question::Forecast(tables.into(), rule.into())
     }
 
+    pub fn sessions_start(tables: Vec<u8>, rule: Vec<u8>) -> Question {
+        Question::SessionsStart(tables.into(), rule.into())
+    }
+
+    pub fn session(state: Vec<u8>, change: Change) -> Question {
+        Question::Session(state.into(), change)
+    }
+
+    /// The name of the call that it is asked by.
+    pub fn call(&self) -> &'static str {
+        match self {
+            Question::Reduce(_) => "reduce",
+            Question::Rebuild(_) => "rebuild",
+            Question::Judge(..) => "judge",
+            Question::JudgePage(..) => "judge_page",
+            Question::RankStep(_) => "rank_step",
+            Question::Forecast(..) => "forecast",
+            Question::SessionsStart(..) => "sessions_start",
+            Question::Session(_, Change::Open { .. }) => "session_open",
+            Question::Session(_, Change::Close { .. }) => "session_close",
+        }
+    }
+
     /// The library's answer into lent bytes; a step alone.
     pub fn ask(&self, out: &mut [u8]) -> Result<usize, PageRefusal> {
         let answer = match self {
@@ -72,6 +99,15 @@ impl Question {
             }
             Question::RankStep(tables) => Ok(step(rcl2000::rank_step(tables)) as usize),
             Question::Forecast(tables, rule) => rcl2000::forecast_into(tables, rule, out),
+            Question::SessionsStart(tables, rule) => {
+                rcl2000::sessions_start_into(tables, rule, out)
+            }
+            Question::Session(state, Change::Open { user, roles }) => {
+                rcl2000::session_open_into(state, *user, *roles, out)
+            }
+            Question::Session(state, Change::Close { number }) => {
+                rcl2000::session_close_into(state, *number, out)
+            }
         };
         answer.map_err(PageRefusal::from)
     }
@@ -91,6 +127,8 @@ impl Question {
             Question::Forecast(tables, rule) => {
                 reference::fast::forecast(tables, rule).map(|told| told.bytes())
             }
+            Question::SessionsStart(tables, rule) => reference::fast::sessions::start(tables, rule),
+            Question::Session(state, change) => reference::fast::sessions::next(state, *change),
         };
         answer.map_err(Refused::from)
     }
@@ -110,6 +148,8 @@ impl Question {
             Question::Forecast(tables, rule) => {
                 reference::forecast::forecast(tables, rule).map(|told| told.bytes())
             }
+            Question::SessionsStart(tables, rule) => reference::sessions::start(tables, rule),
+            Question::Session(state, change) => reference::sessions::next(state, *change),
         };
         answer.map_err(Refused::from)
     }
@@ -131,8 +171,8 @@ impl Question {
         }
     }
 
-    /// The command that asks this, as the vectors write it; those of a page, a step and a forecast have no
-    /// length.
+    /// The command that asks this, as the vectors write it; those of a page, a step, a forecast and a start have no
+    /// length. They have none for a state by itself, so that it is written in their manner.
     pub fn command(&self, length: usize) -> String {
         match self {
             Question::Reduce(rule) => format!("reduce {} {length}", hex(rule)),
@@ -144,6 +184,16 @@ impl Question {
             Question::JudgePage(tables, page) => format!("page {} {}", hex(tables), hex(page)),
             Question::RankStep(tables) => format!("rankstep {}", hex(tables)),
             Question::Forecast(tables, rule) => format!("forecast {} {}", hex(tables), hex(rule)),
+            Question::SessionsStart(tables, rule) => {
+                format!("sessions {} {}", hex(tables), hex(rule))
+            }
+            Question::Session(state, Change::Open { user, roles }) => {
+                let roles = hex(&roles.to_le_bytes());
+                format!("session_open {} {user} {roles} {length}", hex(state))
+            }
+            Question::Session(state, Change::Close { number }) => {
+                format!("session_close {} {number} {length}", hex(state))
+            }
         }
     }
 
@@ -190,7 +240,7 @@ impl Question {
 
 /// How often each answer was met, by its number.
 #[derive(Default)]
-pub struct Met([u64; 21]);
+pub struct Met([u64; 23]);
 
 impl Met {
     pub fn note(&mut self, number: usize) {

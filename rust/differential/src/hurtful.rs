@@ -1,41 +1,43 @@
 //! Inputs that are meant to hurt: long, deep, endless when written out, on the largest tables.
 
 use rcl2000::{MAX_RULE, MIN_TABLES};
+use reference::sessions::Change;
 
 use crate::formulas::doubling;
 use crate::hold::Question;
 use crate::leavers::STILL;
 use crate::random::Random;
 use crate::tables::Plain;
-use crate::{formulas, orders, pages, rules, scaled, tables};
+use crate::{formulas, orders, pages, rules, scaled, sessions, tables};
 
 /// The length of the longest inputs.
 const MEGABYTES: usize = 4 << 20;
 
-/// All of them.
-pub fn questions() -> Vec<Question> {
-    [
-        repeated(),
-        brackets(),
-        nested(),
-        deepest_rules(),
-        deepest_candidates(),
-        exponential(),
-        generated(),
-        largest(),
-        second_plans(),
-        long_pages(),
-        last_roles(),
-        long_forecasts(),
-        nothing_to_choose(),
-        nobody_present(),
-        named_last(),
-    ]
-    .concat()
+/// All of them, each made when it is asked for: together they have hundreds of megabytes.
+pub fn questions() -> impl Iterator<Item = Question> {
+    let parts: [fn() -> Vec<Question>; 15] = [
+        brackets,
+        nested,
+        deepest_rules,
+        deepest_candidates,
+        exponential,
+        generated,
+        largest,
+        second_plans,
+        long_pages,
+        last_roles,
+        long_forecasts,
+        nothing_to_choose,
+        nobody_present,
+        named_last,
+        long_states,
+    ];
+    repeated().chain(parts.into_iter().flat_map(|part| part()))
 }
 
 /// The same text as a rule, as a formula, as tables, a rule and an order, and as a page; as tables for the
-/// rank test, too, and as tables and as a rule of a forecast.
+/// rank test, too, and as tables and as a rule of a forecast and of a start; as a state, and as the rule and the tables
+/// in one.
 fn everywhere(text: Vec<u8>) -> Vec<Question> {
     let nobody = vec![0; MIN_TABLES];
     vec![
@@ -48,19 +50,36 @@ fn everywhere(text: Vec<u8>) -> Vec<Question> {
         Question::judge_page(nobody.clone(), text.clone()),
         Question::RankStep(text.clone().into()),
         Question::forecast(text.clone(), b"U=U".to_vec()),
-        Question::forecast(nobody, text),
+        Question::forecast(nobody.clone(), text.clone()),
+        Question::sessions_start(text.clone(), b"S=S".to_vec()),
+        Question::sessions_start(nobody.clone(), text.clone()),
+        Question::session(text.clone(), OPEN),
+        Question::session(text.clone(), CLOSE),
+        Question::session(sessions::state(b"S=S", &text), OPEN),
+        Question::session(sessions::state(longest_part(&text), &nobody), CLOSE),
     ]
 }
 
+/// A session of the first user, with all roles that there may be; and the first session.
+const OPEN: Change = Change::Open {
+    user: 0,
+    roles: u64::MAX,
+};
+const CLOSE: Change = Change::Close { number: 0 };
+
+/// As much of a text as a state can have as its rule.
+fn longest_part(text: &[u8]) -> &[u8] {
+    &text[..text.len().min(u16::MAX.into())]
+}
+
 /// Megabytes of one thing.
-fn repeated() -> Vec<Question> {
+fn repeated() -> impl Iterator<Item = Question> {
     [
         "(", ")", "[", "[v1@", "[v1@U]", ":", "U", "^U=U", "OE(", "AO(", "v1", "-{v1})", "9", "\0",
         "\u{1}", "@", "\n", "U=U\n",
     ]
-    .iter()
+    .into_iter()
     .flat_map(|piece| everywhere(piece.repeat(MEGABYTES / piece.len()).into_bytes()))
-    .collect()
 }
 
 /// Brackets nested as deep as 4,096 and 4,097 bytes allow, and as 256 and 257 do.
@@ -131,18 +150,26 @@ fn nested() -> Vec<Question> {
 const WRAPS: [(&str, &str); 3] = [("(U&", ")"), ("(U+", ")"), ("(", "&U)")];
 
 /// Rules whose last term has as many brackets as are allowed, all others of all others innermost or not, behind as
-/// many clauses as 256 bytes hold, and their formulas: clauses are written one inside the other, too.
-fn deepest_rules() -> Vec<Question> {
-    let mut questions = Vec::new();
+/// many clauses as 256 bytes hold.
+fn deepest() -> Vec<String> {
+    let mut rules = Vec::new();
     for (open, close) in WRAPS {
         for (choices, depth) in [(0, 1), (0, 16), (0, 31), (0, 32), (8, 23), (8, 24)] {
             let last = open.repeat(depth) + &rules::inside(choices) + &close.repeat(depth) + "={}";
-            let rule = "U=U^".repeat((MAX_RULE - last.len()) / 4) + &last;
-            let formula = reference::fast::reduce(rule.as_bytes());
-            let formula = formula.expect("made to be accepted");
-            questions.push(Question::Rebuild(formula.into()));
-            questions.extend(everywhere(rule.into_bytes()));
+            rules.push("U=U^".repeat((MAX_RULE - last.len()) / 4) + &last);
         }
+    }
+    rules
+}
+
+/// Such rules, and their formulas: clauses are written one inside the other, too.
+fn deepest_rules() -> Vec<Question> {
+    let mut questions = Vec::new();
+    for rule in deepest() {
+        let formula = reference::fast::reduce(rule.as_bytes());
+        let formula = formula.expect("made to be accepted");
+        questions.push(Question::Rebuild(formula.into()));
+        questions.extend(everywhere(rule.into_bytes()));
     }
     questions
 }
@@ -213,18 +240,22 @@ const SECOND_PLANS: [&str; 4] = [
     "OE(OP)@operations(OE(R),OE(OBJ))^|(user(OE(R))&OE(CU))|<1",
 ];
 
-/// Such rules in the order 1, 2, .. and in others, as lines alone, and on pages whose lines share a walk, on tables in
-/// which all have all roles.
-fn second_plans() -> Vec<Question> {
-    let random = &mut Random::new(26);
-    let tables = Plain {
+/// The largest tables, in which all have all roles.
+fn all_roles(random: &mut Random) -> Plain {
+    Plain {
         roles: (0..64).map(|role| 1 << role).collect(),
         users: vec![u64::MAX; 64],
         sessions: (0..64).map(|user| (user, u64::MAX)).collect(),
         permissions: vec![u64::MAX; 64],
         ..tables::full(random)
     }
-    .bytes();
+}
+
+/// Such rules in the order 1, 2, .. and in others, as lines alone, and on pages whose lines share a walk, on tables in
+/// which all have all roles.
+fn second_plans() -> Vec<Question> {
+    let random = &mut Random::new(26);
+    let tables = all_roles(random).bytes();
     let mut questions = Vec::new();
     for rule in SECOND_PLANS {
         let read = reference::rule::read(rule.as_bytes()).expect("an accepted rule");
@@ -241,6 +272,45 @@ fn second_plans() -> Vec<Question> {
             questions.push(Question::judge_page(tables.clone(), page.into()));
         }
     }
+    questions
+}
+
+/// What sessions that come and go are judged by at the greatest length or depth: rules that mention S, on a few sessions,
+/// and those that need another plan, or are source document 002's, on as many as there may be.
+fn long_states() -> Vec<Question> {
+    let random = &mut Random::new(27);
+    let few = Plain {
+        roles: vec![1],
+        users: vec![1],
+        sessions: vec![(0, 1); 2],
+        ..Plain::default()
+    };
+    let all = all_roles(random);
+    let longest = (1..=8).map(rules::longest_formula);
+    let of_sessions = deepest().into_iter().chain(longest);
+    let of_sessions = of_sessions.map(|rule| (&few, rule.replace('U', "S")));
+    let paper = rules::PAPER.iter().filter(|rule| rule.len() < 45);
+    let on_all = SECOND_PLANS.iter().chain(paper);
+    let on_all = on_all.map(|rule| (&all, rule.to_string()));
+    of_sessions
+        .chain(on_all)
+        .flat_map(|(plain, rule)| coming_and_going(plain, &rule))
+        .collect()
+}
+
+/// A start; on its state, where there may be no room for one more, a session opened and one closed; and both where one
+/// was closed.
+fn coming_and_going(plain: &Plain, rule: &str) -> Vec<Question> {
+    let start = Question::sessions_start(plain.bytes(), rule.into());
+    let state = start.fast().expect("made to be accepted");
+    let closed = reference::fast::sessions::next(&state, CLOSE).expect("a session is open");
+    let roles = plain.users[0];
+    let open = Change::Open { user: 0, roles };
+    let states = [state, closed];
+    let calls = states.map(|state| [open, CLOSE].map(|change| (state.clone(), change)));
+    let calls = calls.into_iter().flatten();
+    let mut questions = vec![start];
+    questions.extend(calls.map(|(state, change)| Question::session(state, change)));
     questions
 }
 
@@ -344,7 +414,10 @@ fn named_last() -> Vec<Question> {
             Question::judge(tables.clone(), b"U=U".to_vec(), vec![]),
             Question::judge_page(tables.clone(), b"U=U".to_vec()),
             Question::RankStep(tables.clone().into()),
-            Question::forecast(tables, b"U=U".to_vec()),
+            Question::forecast(tables.clone(), b"U=U".to_vec()),
+            Question::sessions_start(tables.clone(), b"U=U".to_vec()),
+            Question::session(sessions::state(b"U=U", &tables), OPEN),
+            Question::session(sessions::state(b"U=U", &tables), CLOSE),
         ]
     };
     kept.into_iter().flat_map(asked).collect()

@@ -12,6 +12,7 @@ pub mod orders;
 pub mod pages;
 pub mod random;
 pub mod rules;
+pub mod sessions;
 pub mod small_stack;
 pub mod subjects;
 pub mod tables;

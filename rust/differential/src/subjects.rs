@@ -5,7 +5,7 @@ use reference::verdict::steps;
 
 use crate::hold::{Expected, Met, Question};
 use crate::random::Random;
-use crate::{done, formulas, leavers, orders, pages, rules, tables};
+use crate::{done, formulas, leavers, orders, pages, rules, sessions, tables};
 
 /// The most steps of a walk where every choice is tried.
 pub const FEW: u64 = 2_000;
@@ -34,8 +34,9 @@ pub struct Subject {
     ask: fn(&mut Random) -> Question,
 }
 
-/// Tables, rules, formulas, verdicts, pages, steps of the rank test, forecasts, leavers and who did what, in turn.
-pub const SUBJECTS: [Subject; 13] = [
+/// Tables, rules, formulas, verdicts, pages, steps of the rank test, forecasts, leavers, who did what, and sessions that
+/// come and go, in turn.
+pub const SUBJECTS: [Subject; 14] = [
     Subject {
         name: "tables",
         count: 50_000,
@@ -54,7 +55,7 @@ pub const SUBJECTS: [Subject; 13] = [
     },
     Subject {
         name: "formulas",
-        count: 60_000,
+        count: 50_000,
         seed: 3,
         answers: &[0, 16],
         plain: true,
@@ -116,7 +117,7 @@ pub const SUBJECTS: [Subject; 13] = [
     },
     Subject {
         name: "rank steps",
-        count: 33_000,
+        count: 23_000,
         seed: 10,
         answers: &[0, 1, 2, 3],
         plain: true,
@@ -147,6 +148,15 @@ pub const SUBJECTS: [Subject; 13] = [
         answers: &[0, 1, 2, 5, 7, 9, 10, 20],
         plain: true,
         ask: done::asked,
+    },
+    // Starts, and calls on states of every sort.
+    Subject {
+        name: "sessions",
+        count: 20_000,
+        seed: 14,
+        answers: &[0, 1, 2, 3, 5, 7, 8, 9, 10, 11, 12, 13, 14, 20, 21, 22],
+        plain: true,
+        ask: |random| sessions::asked(random, FEW),
     },
 ];
 

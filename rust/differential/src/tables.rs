@@ -35,7 +35,7 @@ pub fn filled(random: &mut Random, most: usize) -> Plain {
 }
 
 fn sized(random: &mut Random, least: usize, most: usize) -> Plain {
-    let mut size = |limit: usize| random.between(least, limit);
+    let mut size = |limit: usize| random.between(least.min(limit), limit);
     let (roles, users, sessions) = (size(most), size(most), size(most));
     let (operations, objects) = (size(most.min(8)), size(most.min(8)));
     let (cr, cu, cp, done) = (size(most), size(most), size(most), size(most));
@@ -304,13 +304,16 @@ impl Plain {
         }
     }
 
+    /// The roles that a user is assigned and those junior to them, which sessions may have active.
+    pub fn reached(&self, user: usize) -> u64 {
+        items(self.users[user]).fold(0, |word, role| word | self.roles[role])
+    }
+
     /// Opens each session anew, with some of the roles that its user has or that are junior to them.
     pub fn open_juniors(&mut self, random: &mut Random) {
-        for (user, active) in &mut self.sessions {
-            let assigned = items(self.users[*user as usize]);
-            let reached = assigned.fold(0, |word, role| word | self.roles[role]);
-            *active = reached & random.items(64);
-        }
+        let users = self.sessions.iter().map(|&(user, _)| user);
+        let open = |user: u8| (user, self.reached(user.into()) & random.items(64));
+        self.sessions = users.map(open).collect();
     }
 
     /// How many sessions have a role active that their user is not assigned.

@@ -1,8 +1,9 @@
 //! Commands with the answers that are expected, line for line.
 
-use rcl2000::Word;
+use rcl2000::{Refusal, Word};
 use reference::forecast::forecast;
-use reference::protocol::{answer, hex, Command, FILL};
+use reference::protocol::{answer, followed, hex, Command, FILL};
+use reference::sessions::Change;
 
 use crate::hold::{reply, step, Question};
 
@@ -84,15 +85,17 @@ fn differing(command: &[u8], expected: &[u8]) -> Option<String> {
 
 /// Whether the command is for a verdict on more choices than can be tried one by one.
 fn endless(command: &[u8]) -> bool {
-    let Some(Command::Judge([tables, rule, _], _)) = Command::read(command) else {
-        return false;
+    let (tables, rule) = match Command::read(command) {
+        Some(Command::Judge([tables, rule, _], _)) => (tables, rule),
+        Some(Command::Sessions(tables, rule, _)) => (tables, rule),
+        _ => return false,
     };
     forecast(&tables, &rule).is_ok_and(|told| told.ceiling > TRIED)
 }
 
 /// The library's answer: that of the call, or the day sheet made of its verdicts.
 fn library(command: &Command) -> String {
-    let checked = |answer: Result<(), rcl2000::Refusal>| {
+    let checked = |answer: Result<(), Refusal>| {
         let number = answer.err().map_or(0, |refusal| refusal.number());
         number.to_string()
     };
@@ -109,6 +112,8 @@ fn library(command: &Command) -> String {
         Command::JudgePage(tables, page) => return page_fields(tables, page),
         Command::RankStep(tables) => return step(rcl2000::rank_step(tables)).to_string(),
         Command::Forecast(tables, rule) => return told(tables, rule),
+        Command::Sessions(tables, rule, calls) => return counts(tables, rule, calls),
+        Command::Session(state, call, length) => (Question::session(state.clone(), *call), *length),
     };
     let mut out = vec![FILL; length].into_boxed_slice();
     let returned = reply(question.ask(&mut out));
@@ -142,6 +147,18 @@ fn told(tables: &[u8], rule: &[u8]) -> String {
         Err(refusal) => format!("refused {}", refusal.number()),
         Ok(told) => format!("{} {}", told.length, told.ceiling),
     }
+}
+
+/// The counts that the library's states have.
+fn counts(tables: &[u8], rule: &[u8], calls: &[Change]) -> String {
+    let start = rcl2000::sessions_start(tables, rule);
+    followed(start.map_err(Refusal::number), calls, |state, change| {
+        let next = match change {
+            Change::Open { user, roles } => rcl2000::session_open(state, user, roles),
+            Change::Close { number } => rcl2000::session_close(state, number),
+        };
+        next.map_err(Refusal::number)
+    })
 }
 
 /// The most bytes of rules that are listed.

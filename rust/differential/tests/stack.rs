@@ -11,6 +11,7 @@ use differential::random::Random;
 use differential::small_stack::Stack;
 use rcl2000::{Page, STACK_FORECAST, STACK_JUDGE, STACK_JUDGE_PAGE};
 use rcl2000::{STACK_RANK_STEP, STACK_REBUILD, STACK_REDUCE};
+use rcl2000::{STACK_SESSIONS_START, STACK_SESSION_CLOSE, STACK_SESSION_OPEN};
 
 /// Held while a small stack is tried: a frame that reaches beyond the page that guards the stack may
 /// else land in another test's, and not end the process.
@@ -24,51 +25,53 @@ const LONGEST: Duration = Duration::from_secs(5);
 
 #[test]
 fn reducing_on_a_small_stack() {
-    on_stack(STACK_REDUCE, |question| {
-        matches!(question, Question::Reduce(_))
-    });
+    on_stack(STACK_REDUCE, "reduce");
 }
 
 #[test]
 fn rebuilding_on_a_small_stack() {
-    on_stack(STACK_REBUILD, |question| {
-        matches!(question, Question::Rebuild(_))
-    });
+    on_stack(STACK_REBUILD, "rebuild");
 }
 
 #[test]
 fn judging_on_a_small_stack() {
-    on_stack(STACK_JUDGE, |question| {
-        matches!(question, Question::Judge(..))
-    });
+    on_stack(STACK_JUDGE, "judge");
 }
 
 #[test]
 fn judging_pages_on_a_small_stack() {
-    on_stack(STACK_JUDGE_PAGE, |question| {
-        matches!(question, Question::JudgePage(..))
-    });
+    on_stack(STACK_JUDGE_PAGE, "judge_page");
 }
 
 #[test]
 fn steps_of_the_rank_test_on_a_small_stack() {
-    on_stack(STACK_RANK_STEP, |question| {
-        matches!(question, Question::RankStep(_))
-    });
+    on_stack(STACK_RANK_STEP, "rank_step");
 }
 
 #[test]
 fn forecasting_on_a_small_stack() {
-    on_stack(STACK_FORECAST, |question| {
-        matches!(question, Question::Forecast(..))
-    });
+    on_stack(STACK_FORECAST, "forecast");
+}
+
+#[test]
+fn starting_sessions_on_a_small_stack() {
+    on_stack(STACK_SESSIONS_START, "sessions_start");
+}
+
+#[test]
+fn opening_sessions_on_a_small_stack() {
+    on_stack(STACK_SESSION_OPEN, "session_open");
+}
+
+#[test]
+fn closing_sessions_on_a_small_stack() {
+    on_stack(STACK_SESSION_CLOSE, "session_close");
 }
 
 /// What a page takes and what the thread needs for itself, 5,632 bytes on one machine.
 #[test]
 fn a_thread_of_256_kib_judges_pages() {
-    let mut questions = hurtful::questions();
-    questions.retain(|question| matches!(question, Question::JudgePage(..)));
+    let questions = asked_by("judge_page");
     let mut out = vec![0; Page::MAX_BYTES];
     let _alone = ALONE.lock();
     let thread = thread::Builder::new()
@@ -81,10 +84,17 @@ fn a_thread_of_256_kib_judges_pages() {
     thread.unwrap().join().unwrap();
 }
 
-/// The chosen questions are answered rightly where no more of the stack is left.
-fn on_stack(left: usize, chosen: fn(&Question) -> bool) {
-    let mut questions = hurtful::questions();
-    questions.retain(chosen);
+/// The questions that one call is asked.
+fn asked_by(call: &str) -> Vec<Question> {
+    let questions = hurtful::questions().filter(|question| question.call() == call);
+    let questions: Vec<Question> = questions.collect();
+    assert!(!questions.is_empty(), "{call} is asked nothing");
+    questions
+}
+
+/// A call's questions are answered rightly where no more of the stack is left.
+fn on_stack(left: usize, call: &str) {
+    let questions = asked_by(call);
     let _alone = ALONE.lock();
     let large = thread::Builder::new().stack_size(left + BESIDES);
     let thread = large.spawn(move || {

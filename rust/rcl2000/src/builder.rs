@@ -179,7 +179,7 @@ impl TablesBuilder {
 
     /// Adds a session of a user with its active roles: any that are in `roles*` of the user, which
     /// are the assigned ones and their juniors. A leader may work under the hand's role, and not the
-    /// other way round.
+    /// other way round. With a [`LiveRule`](crate::LiveRule) sessions come and go afterwards.
     ///
     /// ```
     /// let mut tables = rcl2000::TablesBuilder::new();

@@ -14,6 +14,9 @@ pub const MIN_TABLES: usize = 10;
 /// The most bytes that accepted tables have.
 pub const MAX_TABLES: usize = 3_978;
 
+/// The most bytes that a state has: a verdict, the rule's length, the longest rule and the largest tables.
+pub const MAX_STATE: usize = Verdict::BYTES + 2 + MAX_RULE + MAX_TABLES;
+
 /// The most variables that an accepted rule has.
 pub const MAX_VARIABLES: usize = 8;
 
@@ -34,6 +37,15 @@ pub const STACK_RANK_STEP: usize = 16 * 1024;
 
 /// The stack that [`forecast`] takes at the most, in bytes.
 pub const STACK_FORECAST: usize = 24 * 1024;
+
+/// The stack that [`sessions_start`](crate::sessions_start) takes at the most, in bytes.
+pub const STACK_SESSIONS_START: usize = 64 * 1024;
+
+/// The stack that [`session_open`](crate::session_open) takes at the most, in bytes.
+pub const STACK_SESSION_OPEN: usize = 64 * 1024;
+
+/// The stack that [`session_close`](crate::session_close) takes at the most, in bytes.
+pub const STACK_SESSION_CLOSE: usize = 64 * 1024;
 
 /// The order that lists every variable in turn.
 const IN_TURN: [u8; MAX_VARIABLES] = [1, 2, 3, 4, 5, 6, 7, 8];
@@ -507,7 +519,7 @@ fn accepted(reply: Result<usize, Refusal>) -> Result<(), Refusal> {
 }
 
 /// What `write` puts into a buffer that is as long as any of its answers.
-fn allocated(
+pub(crate) fn allocated(
     longest: usize,
     write: impl FnOnce(&mut [u8]) -> Result<usize, Refusal>,
 ) -> Result<Vec<u8>, Refusal> {
@@ -518,7 +530,7 @@ fn allocated(
 }
 
 /// The library's one number: a length, or 65,536 times a refusal's number, and then a position.
-fn length(reply: u32) -> Result<usize, Refusal> {
+pub(crate) fn length(reply: u32) -> Result<usize, Refusal> {
     match Refusal::from_number(reply >> 16) {
         None => Ok(reply as usize),
         Some(refusal) => Err(refusal),
@@ -534,7 +546,7 @@ mod tests {
         assert_eq!(length(0), Ok(0));
         assert_eq!(length(65_535), Ok(65_535));
         assert_eq!(length(13 << 16), Err(Refusal::NotARule));
-        for number in 21..=25 {
+        for number in 23..=25 {
             let refusal = length(number << 16).unwrap_err();
             assert_eq!(refusal, Refusal::Unknown { number });
         }

@@ -54,7 +54,7 @@ item! {
 }
 
 item! {
-    /// A session of the tables.
+    /// A session of the tables. Where a [`LiveRule`](crate::LiveRule) closes one before it, its number falls.
     Session
 }
 

@@ -33,25 +33,29 @@
 //! [`reduce`], [`rebuild`], [`judge`] and [`judge_page`] allocate their answers; [`reduce_into`],
 //! [`rebuild_into`], [`judge_into`] and [`judge_page_into`] write them into bytes that the caller
 //! lends and allocate nothing. [`forecast`] and [`forecast_into`] tell of a rule, before it is judged, how
-//! long its formula is and how many full choices it has at the most. Any of them gives a [`Refusal`] where
-//! the input is turned back, a page's with the line that it is for, and then no lent byte has changed.
-//! [`rank_step`] refuses nothing: of tables that are refused 7 it says what their hierarchy of roles is
-//! not. Nothing here panics, whatever the input.
+//! long its formula is and how many full choices it has at the most. [`LiveRule`] keeps a verdict current
+//! while sessions come and go, by [`sessions_start`], [`session_open`] and [`session_close`], which lend too.
+//! Any of them gives a [`Refusal`] where the input is turned back, a page's with the line that it is for,
+//! and then no lent byte has changed. [`rank_step`] refuses nothing: of tables that are refused 7 it says
+//! what their hierarchy of roles is not. Nothing here panics, whatever the input.
 //!
 //! # What a call may cost
 //!
-//! - **Time.** All calls take microseconds but two: [`judge`] takes from microseconds to
+//! - **Time.** All calls take microseconds but those that judge: [`judge`] takes from microseconds to
 //!   milliseconds for most rules, but there are rules of many variables for which it has to walk the
 //!   full choices, and these grow as 64 to the power of the number of variables; [`judge_page`] takes
-//!   about what its lines do, or less. Neither can be interrupted, so ask first (below). Each call says
-//!   what it may cost.
+//!   about what its lines do, or less, and the calls of a [`LiveRule`] what [`judge`] does, or far less where
+//!   the rule mentions no session. None can be interrupted, so ask first (below). Each call says what it may
+//!   cost.
 //! - **Stack.** The library takes its memory from the stack of the thread that calls it:
 //!   at the most 16 KiB for [`reduce`], 48 KiB for [`rebuild`], 72 KiB for [`judge`], 248 KiB for
-//!   [`judge_page`], 16 KiB for [`rank_step`] and 24 KiB for [`forecast`], whatever the input
+//!   [`judge_page`], 16 KiB for [`rank_step`], 24 KiB for [`forecast`] and 64 KiB for [`sessions_start`],
+//!   [`session_open`] and [`session_close`], whatever the input
 //!   ([`STACK_REDUCE`], [`STACK_REBUILD`], [`STACK_JUDGE`], [`STACK_JUDGE_PAGE`], [`STACK_RANK_STEP`],
-//!   [`STACK_FORECAST`]; measured, not proved). Rust's threads have 2 MiB unless asked for less.
+//!   [`STACK_FORECAST`], [`STACK_SESSIONS_START`], [`STACK_SESSION_OPEN`], [`STACK_SESSION_CLOSE`];
+//!   measured, not proved). Rust's threads have 2 MiB unless asked for less.
 //! - **Threads.** The library keeps no state between calls and shares none: any number of threads
-//!   may call at once.
+//!   may call at once. What a [`LiveRule`] goes on from is bytes that the caller keeps.
 //! - **Aliasing.** The borrow checker sees to it that a lent output overlaps no input. Inputs may
 //!   overlap each other.
 //! - **Machine.** The archive is for x86-64 Linux, and so is this crate.
@@ -131,11 +135,44 @@
 //! # Ok::<(), Box<dyn std::error::Error>>(())
 //! ```
 //!
+//! # Sessions come and go
+//!
+//! A tracker opens and closes sessions all day, and wants one rule's counts current. [`LiveRule::start`] takes tables and
+//! a rule; from there on [`LiveRule::open`] and [`LiveRule::close`] change the sessions, [`LiveRule::verdict`] has the
+//! counts that judging afresh would give, and [`LiveRule::sessions`] and [`LiveRule::tables`] what they were counted on. A
+//! session is opened behind the last, and closing one moves those after it down by one: **its number falls**, so that no
+//! number may be kept across a close. A call that is refused changes nothing.
+//!
+//! ```
+//! use rcl2000::{LiveRule, Refusal, TablesBuilder};
+//!
+//! let mut tables = TablesBuilder::new();
+//! let hand = tables.role([]);
+//! let leader = tables.role([hand]);
+//! let (ana, berto) = (tables.user([leader]), tables.user([hand]));
+//! let gino = tables.user_left();
+//!
+//! // Whoever is a leader works as one.
+//! let mut live = LiveRule::start(&tables.build()?, b"roles(OE(S))=roles(user(OE(S)))")?;
+//! assert_eq!(live.verdict().to_string(), "idle 0 0 -");
+//! let of_berto = live.open(berto, [hand])?;
+//! assert_eq!(live.verdict().to_string(), "held 1 0 0");
+//! // A leader may open the role of a hand, and not the other way round. Whoever left opens nothing.
+//! live.open(ana, [hand])?;
+//! assert_eq!(live.verdict().to_string(), "broken 2 1 50 v1=1");
+//! assert_eq!(live.open(berto, [leader]), Err(Refusal::Overreach));
+//! assert_eq!(live.open(gino, []), Err(Refusal::Left));
+//! // Ana's session is number 0 now.
+//! live.close(of_berto)?;
+//! assert_eq!(live.verdict().to_string(), "broken 1 1 100 v1=0");
+//! # Ok::<(), Box<dyn std::error::Error>>(())
+//! ```
+//!
 //! # The archive
 //!
 //! The crate links `librcl2000.a`, which `rt staticlib rcl2000` writes. Its build script looks for
 //! it in `target/staticlib` of the repository that the crate is in, or in the folder that
-//! `RCL2000_LIB_DIR` names, and tries it before it links it: an archive without the six calls,
+//! `RCL2000_LIB_DIR` names, and tries it before it links it: an archive without the nine calls,
 //! or one that answers otherwise than this version of the crate says, is a build error.
 
 #![deny(missing_docs, unsafe_code)]
@@ -147,9 +184,11 @@ mod forecast;
 mod items;
 #[allow(unsafe_code)]
 mod library;
+mod live;
 mod page;
 mod rank;
 mod refusal;
+mod sessions;
 mod verdict;
 mod words;
 
@@ -158,13 +197,17 @@ pub use calls::{check_rule, check_tables, rank_step, variables};
 pub use calls::{forecast, forecast_into};
 pub use calls::{judge, judge_in_turn, judge_into, rebuild, rebuild_into, reduce, reduce_into};
 pub use calls::{judge_page, judge_page_into};
-pub use calls::{MAX_FORMULA, MAX_RULE, MAX_TABLES, MAX_VARIABLES, MIN_TABLES};
+pub use calls::{MAX_FORMULA, MAX_RULE, MAX_STATE, MAX_TABLES, MAX_VARIABLES, MIN_TABLES};
 pub use calls::{STACK_FORECAST, STACK_JUDGE, STACK_JUDGE_PAGE};
 pub use calls::{STACK_RANK_STEP, STACK_REBUILD, STACK_REDUCE};
+pub use calls::{STACK_SESSIONS_START, STACK_SESSION_CLOSE, STACK_SESSION_OPEN};
 pub use faults::{BuildError, Fault, Unencodable};
 pub use forecast::Forecast;
 pub use items::{Object, Operation, Permission, Role, Row, Section, Session, User};
+pub use live::{LiveRule, OpenSession};
 pub use page::{Page, PageRefusal, MAX_LINES};
 pub use rank::RankStep;
 pub use refusal::Refusal;
+pub use sessions::{session_close, session_close_into, session_open, session_open_into};
+pub use sessions::{sessions_start, sessions_start_into};
 pub use verdict::{Verdict, Word};

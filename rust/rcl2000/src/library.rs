@@ -1,4 +1,4 @@
-//! The archive's six functions. All the unsafe code of this crate stands here.
+//! The archive's nine functions. All the unsafe code of this crate stands here.
 
 mod archive {
     extern "C" {
@@ -37,10 +37,36 @@ mod archive {
             out: *mut u8,
             out_len: usize,
         ) -> u32;
+
+        pub fn sessions_start(
+            tables: *const u8,
+            tables_len: usize,
+            rule: *const u8,
+            rule_len: usize,
+            out: *mut u8,
+            out_len: usize,
+        ) -> u32;
+
+        pub fn session_open(
+            state: *const u8,
+            state_len: usize,
+            user: u32,
+            roles: u64,
+            out: *mut u8,
+            out_len: usize,
+        ) -> u32;
+
+        pub fn session_close(
+            state: *const u8,
+            state_len: usize,
+            number: u32,
+            out: *mut u8,
+            out_len: usize,
+        ) -> u32;
     }
 }
 
-// SAFETY of the six calls: the functions of the archive take a slice as a pointer and a length,
+// SAFETY of the nine calls: the functions of the archive take a slice as a pointer and a length,
 // ask nothing else of their arguments, read nothing but the inputs, write nothing but the first
 // bytes of `out`, and keep no pointer; that is proved of them. Every pointer here is that of a
 // Rust slice with its own length, so it is valid for that many bytes and never null, and `out`,
@@ -94,6 +120,44 @@ pub fn forecast(tables: &[u8], rule: &[u8], out: &mut [u8]) -> u32 {
             tables.len(),
             rule.as_ptr(),
             rule.len(),
+            out.as_mut_ptr(),
+            out.len(),
+        )
+    }
+}
+
+pub fn sessions_start(tables: &[u8], rule: &[u8], out: &mut [u8]) -> u32 {
+    unsafe {
+        archive::sessions_start(
+            tables.as_ptr(),
+            tables.len(),
+            rule.as_ptr(),
+            rule.len(),
+            out.as_mut_ptr(),
+            out.len(),
+        )
+    }
+}
+
+pub fn session_open(state: &[u8], user: u32, roles: u64, out: &mut [u8]) -> u32 {
+    unsafe {
+        archive::session_open(
+            state.as_ptr(),
+            state.len(),
+            user,
+            roles,
+            out.as_mut_ptr(),
+            out.len(),
+        )
+    }
+}
+
+pub fn session_close(state: &[u8], number: u32, out: &mut [u8]) -> u32 {
+    unsafe {
+        archive::session_close(
+            state.as_ptr(),
+            state.len(),
+            number,
             out.as_mut_ptr(),
             out.len(),
         )

@@ -5,9 +5,10 @@ use std::fs;
 use std::path::Path;
 
 use rcl2000::{Forecast, Page, RankStep, Refusal, Verdict};
-use rcl2000::{MAX_FORMULA, MAX_LINES, MAX_RULE, MAX_TABLES, MAX_VARIABLES, MIN_TABLES};
+use rcl2000::{MAX_FORMULA, MAX_LINES, MAX_RULE, MAX_STATE, MAX_TABLES, MAX_VARIABLES, MIN_TABLES};
 use rcl2000::{STACK_FORECAST, STACK_JUDGE, STACK_JUDGE_PAGE};
 use rcl2000::{STACK_RANK_STEP, STACK_REBUILD, STACK_REDUCE};
+use rcl2000::{STACK_SESSIONS_START, STACK_SESSION_CLOSE, STACK_SESSION_OPEN};
 
 /// Each name of the header that has a number, without its prefix: `NAME = N` and `NAME N`.
 fn numbers() -> BTreeMap<String, usize> {
@@ -45,7 +46,7 @@ fn the_header_has_every_refusal_by_its_word() {
         assert_eq!(numbers.get(&name), Some(&(number as usize)), "{name}");
         number += 1;
     }
-    assert!(number > 20);
+    assert!(number > 22);
 }
 
 #[test]
@@ -70,6 +71,7 @@ fn the_header_has_the_lengths_and_the_stacks() {
         ("MAX_RULE", MAX_RULE),
         ("MAX_FORMULA", MAX_FORMULA),
         ("MAX_VARIABLES", MAX_VARIABLES),
+        ("MAX_STATE", MAX_STATE),
         ("STACK_REDUCE", STACK_REDUCE),
         ("STACK_REBUILD", STACK_REBUILD),
         ("MAX_LINES", MAX_LINES),
@@ -77,11 +79,16 @@ fn the_header_has_the_lengths_and_the_stacks() {
         ("STACK_JUDGE_PAGE", STACK_JUDGE_PAGE),
         ("STACK_RANK_STEP", STACK_RANK_STEP),
         ("STACK_FORECAST", STACK_FORECAST),
+        ("STACK_SESSIONS_START", STACK_SESSIONS_START),
+        ("STACK_SESSION_OPEN", STACK_SESSION_OPEN),
+        ("STACK_SESSION_CLOSE", STACK_SESSION_CLOSE),
         ("VERDICT", Verdict::BYTES),
         ("PAGE_HEAD", Page::HEAD),
         ("FORECAST", Forecast::BYTES),
         ("FORECAST_LENGTH", 0),
         ("FORECAST_CEILING", 8),
+        ("STATE_RULE_LENGTH", Verdict::BYTES),
+        ("STATE_RULE", Verdict::BYTES + 2),
         ("HELD", 0),
         ("IDLE", 1),
         ("BROKEN", 2),

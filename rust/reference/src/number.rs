@@ -20,3 +20,5 @@ pub const SHORT_SHEET: u32 = 17;
 pub const ORDER: u32 = 18;
 pub const PAGE: u32 = 19;
 pub const LEFT: u32 = 20;
+pub const FULL_HOUSE: u32 = 21;
+pub const NOT_OPEN: u32 = 22;

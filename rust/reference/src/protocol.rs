@@ -1,6 +1,7 @@
 //! The commands of the vectors: one to a line, with an answer to each.
 
 use crate::page::{self, Page};
+use crate::sessions::{self, Change};
 use crate::{fast, forecast, formula, lend, rule, sheet, tables, verdict, Answer, Refused};
 
 /// The byte that fills a lent output before the call.
@@ -32,13 +33,17 @@ pub enum Command {
     RankStep(Vec<u8>),
     /// The forecast for tables and a rule.
     Forecast(Vec<u8>, Vec<u8>),
+    /// The counts of a rule on tables, and after each of these calls.
+    Sessions(Vec<u8>, Vec<u8>, Vec<Change>),
+    /// The state after one call, into so many bytes.
+    Session(Vec<u8>, Change, usize),
 }
 
 use Command::*;
 
 impl Command {
     /// The command of a line: fields with one blank between them, bytes as [`hex`] writes them, a
-    /// length in decimal digits.
+    /// number in decimal digits.
     pub fn read(line: &[u8]) -> Option<Command> {
         if line.len() > LONGEST_LINE {
             return None;
@@ -47,16 +52,23 @@ impl Command {
         Some(match fields[..] {
             [b"tables", tables] => Tables(unhex(tables)?),
             [b"rule", rule] => Rule(unhex(rule)?),
-            [b"reduce", rule, length] => Reduce(unhex(rule)?, number(length)?),
-            [b"rebuild", formula, length] => Rebuild(unhex(formula)?, number(length)?),
+            [b"reduce", rule, length] => Reduce(unhex(rule)?, length_of(length)?),
+            [b"rebuild", formula, length] => Rebuild(unhex(formula)?, length_of(length)?),
             [b"judge", tables, rule, order, length] => Judge(
                 [unhex(tables)?, unhex(rule)?, unhex(order)?],
-                number(length)?,
+                length_of(length)?,
             ),
             [b"sheet", tables, rules] => Sheet(unhex(tables)?, unhex(rules)?),
             [b"page", tables, page] => JudgePage(unhex(tables)?, unhex(page)?),
             [b"rankstep", tables] => RankStep(unhex(tables)?),
             [b"forecast", tables, rule] => Forecast(unhex(tables)?, unhex(rule)?),
+            [b"sessions", tables, rule, ref calls @ ..] => {
+                let calls = calls.iter().map(|call| change(call));
+                Sessions(unhex(tables)?, unhex(rule)?, calls.collect::<Option<_>>()?)
+            }
+            [b"session", state, call, length] => {
+                Session(unhex(state)?, change(call)?, length_of(length)?)
+            }
             _ => return None,
         })
     }
@@ -76,6 +88,10 @@ impl Command {
             JudgePage(tables, page) => shown(page::PLAIN.judge_page(tables, page)),
             RankStep(tables) => tables::rank_step(tables).to_string(),
             Forecast(tables, rule) => told(forecast::forecast(tables, rule)),
+            Sessions(tables, rule, calls) => {
+                followed(sessions::start(tables, rule), calls, sessions::next)
+            }
+            Session(state, call, length) => lent(sessions::next(state, *call), *length),
         }
     }
 
@@ -92,6 +108,11 @@ impl Command {
             JudgePage(tables, page) => shown(page::FAST.judge_page(tables, page)),
             RankStep(tables) => fast::rank_step(tables).to_string(),
             Forecast(tables, rule) => told(fast::forecast(tables, rule)),
+            Sessions(tables, rule, calls) => {
+                let start = fast::sessions::start(tables, rule);
+                followed(start, calls, fast::sessions::next)
+            }
+            Session(state, call, length) => lent(fast::sessions::next(state, *call), *length),
             Rule(_) | Sheet(..) => self.plain(),
         }
     }
@@ -136,6 +157,35 @@ fn told(answer: Answer<forecast::Forecast>) -> String {
     }
 }
 
+/// `refused N` where the start is refused; else the counts after it and after each call, `rN` for one that is refused.
+pub fn followed(
+    start: Answer<Vec<u8>>,
+    calls: &[Change],
+    next: impl Fn(&[u8], Change) -> Answer<Vec<u8>>,
+) -> String {
+    let mut state = match start {
+        Err(number) => return format!("refused {number}"),
+        Ok(state) => state,
+    };
+    let mut fields = vec![counts(&state)];
+    for &call in calls {
+        match next(&state, call) {
+            Err(number) => fields.push(format!("r{number}")),
+            Ok(next) => {
+                state = next;
+                fields.push(counts(&state));
+            }
+        }
+    }
+    fields.join(" ")
+}
+
+/// `FULL:BREAKING`, from where a verdict has them.
+fn counts(state: &[u8]) -> String {
+    let word = |at: usize| u64::from_le_bytes(std::array::from_fn(|i| state[at + i]));
+    format!("{}:{}", word(1), word(9))
+}
+
 /// Lowercase hexadecimal; `-` for no bytes.
 pub fn hex(bytes: &[u8]) -> String {
     if bytes.is_empty() {
@@ -166,12 +216,32 @@ fn digit(byte: u8) -> Option<u8> {
     }
 }
 
-/// Decimal digits and nothing else, of at most the longest output.
-fn number(text: &[u8]) -> Option<usize> {
+/// The length of an output.
+fn length_of(text: &[u8]) -> Option<usize> {
+    let length = usize::try_from(decimal(text)?).ok()?;
+    (length <= LONGEST_OUTPUT).then_some(length)
+}
+
+/// A call on a state: `o:USER:WORD` opens, `c:NUMBER` closes. A number has as many bits as the calls take, 32, and a
+/// word has all of its eight bytes.
+fn change(text: &[u8]) -> Option<Change> {
+    let parts: Vec<&[u8]> = text.split(|&byte| byte == b':').collect();
+    Some(match parts[..] {
+        [b"o", user, word] => Change::Open {
+            user: decimal(user)?.try_into().ok()?,
+            roles: u64::from_le_bytes(unhex(word)?.try_into().ok()?),
+        },
+        [b"c", number] => Change::Close {
+            number: decimal(number)?.try_into().ok()?,
+        },
+        _ => return None,
+    })
+}
+
+/// A number in decimal digits and nothing else, with or without zeros in front.
+fn decimal(text: &[u8]) -> Option<u64> {
     if text.is_empty() || !text.iter().all(u8::is_ascii_digit) {
         return None;
     }
-    let text = std::str::from_utf8(text).ok()?;
-    let number = text.parse().ok()?;
-    (number <= LONGEST_OUTPUT).then_some(number)
+    std::str::from_utf8(text).ok()?.parse().ok()
 }

@@ -21,6 +21,12 @@ impl Set {
         Set::of(|i| i == item)
     }
 
+    /// The eight bytes of the set as a word, lowest first.
+    pub fn word(&self) -> Vec<u8> {
+        let byte = |bits: &[bool]| (0..8).fold(0, |byte, bit| byte | u8::from(bits[bit]) << bit);
+        self.0.chunks(8).map(byte).collect()
+    }
+
     pub fn contains(&self, item: usize) -> bool {
         self.0[item]
     }

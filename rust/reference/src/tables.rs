@@ -1,4 +1,4 @@
-//! Document 01, "Tables" and "Functions": reading tables front to back, and Figure 2 on them.
+//! Document 01, "Tables" and "Functions": reading tables front to back, writing them, and Figure 2 on them.
 //! Document 02, N2: which roles a session may have active; N4: the steps of the rank test; N6: who left;
 //! N8: who already did what.
 
@@ -122,7 +122,7 @@ impl<'a> Rest<'a> {
 }
 
 /// A word of eight bytes, lowest first: its bits, all of which must be below `items`.
-fn word(bytes: &[u8], items: usize) -> Answer<Set> {
+pub fn word(bytes: &[u8], items: usize) -> Answer<Set> {
     let set = Set::of(|i| bytes[i / 8] >> (i % 8) & 1 == 1);
     if set.within(&Set::below(items)) {
         Ok(set)
@@ -191,8 +191,11 @@ impl Tables {
         if self.failing_step() != 0 {
             return Err(RANK);
         }
-        let overreaches = |s: &Session| !s.roles.within(&self.juniors(&self.assigned[s.user]));
-        if self.sessions.iter().any(overreaches) {
+        if self
+            .sessions
+            .iter()
+            .any(|session| self.overreaches(session))
+        {
             return Err(OVERREACH);
         }
         if [&self.cr, &self.cu, &self.cp]
@@ -211,6 +214,39 @@ impl Tables {
         leavers.any(|user| !self.assigned[user].is_empty())
             || self.sessions.iter().any(|session| left(&session.user))
             || self.cu.iter().any(|users| !users.within(&self.present))
+    }
+
+    /// "an active role is not in `roles*` of the session's user"
+    pub fn overreaches(&self, session: &Session) -> bool {
+        let assigned = &self.assigned[session.user];
+        !session.roles.within(&self.juniors(assigned))
+    }
+
+    /// The bytes that are read as these tables.
+    pub fn bytes(&self) -> Vec<u8> {
+        let marked = |mark: u8, set: &Set| [vec![mark], set.word()].concat();
+        let user = |user: usize| match self.present.contains(user) {
+            true => marked(ENTERED, &self.assigned[user]),
+            false => marked(GONE, &self.assigned[user]),
+        };
+        let done = |row: &Done| {
+            [row.user, row.operation, row.object]
+                .map(|n| n as u8)
+                .to_vec()
+        };
+        let sessions = self.sessions.iter();
+        [
+            section(self.dominated.iter().map(Set::word)),
+            section((0..self.assigned.len()).map(user)),
+            section(sessions.map(|session| marked(session.user as u8, &session.roles))),
+            vec![self.operations as u8, self.objects as u8],
+            section(self.holders.iter().map(|roles| marked(ENTERED, roles))),
+            section(self.cr.iter().map(Set::word)),
+            section(self.cu.iter().map(Set::word)),
+            section(self.cp.iter().map(Set::word)),
+            section(self.done.iter().map(done)),
+        ]
+        .concat()
     }
 
     /// "reflexive, transitive and antisymmetric, in that sequence": the first step that some roles
@@ -304,6 +340,13 @@ impl Tables {
         let rows = self.done.iter().filter(by_them);
         rows.fold(Set::EMPTY, |all, row| all.or(&Set::single(row.operation)))
     }
+}
+
+/// The count and the rows of a section.
+fn section(rows: impl ExactSizeIterator<Item = Vec<u8>>) -> Vec<u8> {
+    let mut bytes = vec![rows.len() as u8];
+    rows.for_each(|row| bytes.extend(row));
+    bytes
 }
 
 fn twins(words: &[Set]) -> bool {

@@ -66,10 +66,18 @@ returns-19 c = ap numberOf (sym (c .enum-told19 .given .1))
 returns-20 : tie.Need-returns-20
 returns-20 c = ap numberOf (sym (c .enum-told20 .given .1))
 
+returns-21 : tie.Need-returns-21
+returns-21 c = ap numberOf (sym (c .enum-told21 .given .1))
+
+returns-22 : tie.Need-returns-22
+returns-22 c = ap numberOf (sym (c .enum-told22 .given .1))
+
 pub number-spec : {M : Type 1} → statement M
 number-spec =
     tie.close
     (tie.spec
+    (λ c. search needs)
+    (λ c. search needs)
     (λ c. search needs)
     (λ c. search needs)
     (λ c. search needs)
@@ -109,4 +117,6 @@ number-spec =
     returns-17
     returns-18
     returns-19
-    returns-20)
+    returns-20
+    returns-21
+    returns-22)

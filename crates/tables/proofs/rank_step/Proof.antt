@@ -2,9 +2,10 @@
 -- Assumes nothing.
 use mathlib.Core.Path.{sym, ap, _∙_}
 use mathlib.Core.List.{List, _++_}
-use Prim.Native.Nat.{ℕ, _+_}
+use Prim.Native.Nat.{ℕ, _+_, _-_}
 use types.Run.{miss}
 use borrow.Author.Needs.{needs}
+use Rattle.answers.specs.Refusal.{lastNumber}
 use Rattle.tables.specs.declared.Outcome.the-variants.{Refused}
 use Rattle.tables.specs.Flat.{tabulate}
 use Rattle.tables.specs.code.Reads.{readingOutcome}
@@ -20,7 +21,7 @@ returns c = sym (rank-other (c .before .before .before .before .before .before .
 
 -- The other refusals' places in their enum, in which rank has 6.
 abbrev others : List ℕ
-others = tabulate 6 (λ i. i) ++ tabulate 13 (λ i. i + 7)
+others = tabulate 6 (λ i. i) ++ tabulate (lastNumber - 7) (λ i. i + 7)
 
 returns-2 : tie.Need-returns-2
 unfolding tabulate

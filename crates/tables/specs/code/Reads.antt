@@ -109,8 +109,8 @@ withSection ws place to = withCount (rowsFrom to) place ws
 abbrev pub withUsers : List ℕ → List User → List ℕ
 withUsers = withCount putUsers userCountAt
 
-abbrev pub withSessions : List ℕ → List Session → List ℕ
-withSessions = withCount putSessions sessionCountAt
+abbrev pub withSessionRows : List ℕ → List Session → List ℕ
+withSessionRows = withCount putSessions sessionCountAt
 
 abbrev pub withDeeds : List ℕ → List Deed → List ℕ
 withDeeds = withCount putDeeds doneCountAt
@@ -153,7 +153,7 @@ pub record CollectionsAt (old new : List ℕ) (c : Collections) (v : ℕ) : Type
 -- All ten sections, in the order in which they are read.
 pub record Filled (old new : List ℕ) (T : Tables) (v : ℕ) : Type 0 where
   pub words :
-      new ≡ withDeeds (withCollections (withRights (withSessions (withUsers (withSection old roleCountAt roleRowsAt (T .roleRows)) (T .users)) (T .sessions))
+      new ≡ withDeeds (withCollections (withRights (withSessionRows (withUsers (withSection old roleCountAt roleRowsAt (T .roleRows)) (T .users)) (T .sessions))
       (record { operationCount = T .operationCount; objectCount = T .objectCount; permissionRows = T .permissionRows }))
       (record { cr = T .cr; cu = T .cu; cp = T .cp }))
       (T .done)

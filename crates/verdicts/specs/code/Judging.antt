@@ -4,9 +4,13 @@ use mathlib.Core.Path.{_≡_}
 use mathlib.Core.List.{List}
 use mathlib.Core.Option.{some}
 use Prim.Native.Nat.{ℕ}
+use lib.ListN.{length}
+use Rattle.answers.specs.Answer.{Answer, lent}
+use Rattle.answers.specs.Written.{Answers}
+use Rattle.answers.specs.declared.Written.{Written}
 use Rattle.tables.specs.Tables.{Tables}
-use Rattle.tables.specs.Flat.{flat}
-use Rattle.tables.specs.Accepted.{Passes}
+use Rattle.tables.specs.Reading.{taken}
+pub use Rattle.tables.specs.code.Loaded.{TablesAt, Loaded}
 use Rattle.syntax.specs.Bytes.{Bytes}
 use Rattle.syntax.specs.Rule.{Rule, ruleOf}
 use Rattle.rules.specs.Accept.{refusal}
@@ -16,6 +20,7 @@ use Rattle.walks.specs.declared.Tally.{Tally}
 use Rattle.walks.specs.Share.{shareOf}
 use Rattle.judging.specs.code.Lent.{CaseBy}
 use Rattle.verdicts.specs.Verdict.{outcomeOf, fullCount, breakingCount, orderVerdict, acceptedVerdict, turnVerdict}
+use Rattle.verdicts.specs.Both.{ofBoth}
 use Rattle.verdicts.specs.declared.Verdict.{Verdict}
 
 -- The verdict of a tally.
@@ -27,16 +32,6 @@ ruledBy a = record {
   first = a .first;
   share = shareOf (a .full) (a .breaking);
 }
-
--- The words hold the tables T, which pass the checks;
-pub record TablesAt (ts : List ℕ) (T : Tables) : Type 0 where
-  pub passes : Passes T
-  pub words : ts ≡ flat T
-
--- some such tables.
-pub record Loaded (ts : List ℕ) : Type 0 where
-  pub tables : Tables
-  pub holds : TablesAt ts tables
 
 -- The parsed rule is that of the text s;
 abbrev pub ParsedFrom : Bytes → Parsed → Type 0
@@ -65,3 +60,7 @@ JudgesInTurn ts rule r = (T : Tables) → TablesAt ts T → r ≡ turnVerdict T 
 
 abbrev pub JudgesParsed : List ℕ → Parsed → Bytes → Verdict → Type 0
 JudgesParsed ts p order r = (rule : Bytes) → ParsedFrom rule p → JudgesOn ts rule order r
+
+-- Whatever tables the words hold, that is what f answers of them and of the rule, which may be refused.
+abbrev pub AnswersOn : List ℕ → Bytes → (Tables → Rule → Answer) → Bytes → Bytes → Written → Type 0
+AnswersOn ts rule f old new w = (T : Tables) → TablesAt ts T → Answers (lent (length old) (ofBoth (taken T) (refusal rule) (ruleOf rule) f)) old new w

@@ -2,19 +2,15 @@
 -- Internal: the entry points' contracts speak of `Answers`. Assumes nothing.
 use mathlib.Core.Path.{_≡_}
 use mathlib.Core.List.{List, _++_}
-use Prim.Native.Nat.{ℕ, _+_, _-_, _≤_}
+use Prim.Native.Nat.{ℕ, _-_, _≤_}
 use lib.ListN.{length}
 use Rattle.answers.specs.Answer.{wrote, lent}
 use Rattle.answers.specs.Written.{Answers}
 use Rattle.answers.specs.declared.Written.{Written}
 use Rattle.tables.specs.Bytes.{lowestFirst}
-use Rattle.texts.specs.code.Overwritten.{Overwritten}
+use Rattle.texts.specs.code.Overwritten.{Behind}
 use Rattle.verdicts.specs.declared.Verdict.{Verdict}
 use Rattle.verdicts.specs.Verdict.{written}
-
--- Whatever the n bytes v in front were written over, w stands behind them now.
-abbrev pub Behind : ℕ → List ℕ → List ℕ → List ℕ → Type 0
-Behind n w mid new = (v old : List ℕ) → Overwritten v old mid n → Overwritten (v ++ w) old new (n + length w)
 
 -- The first i bytes of the word w stand behind the first n, and those of the rest are still to come.
 pub record Wording (n w : ℕ) (mid new : List ℕ) (rest i : ℕ) : Type 0 where

@@ -12,7 +12,7 @@ use std::thread;
 use differential::hold::Question;
 use differential::hurtful;
 use differential::small_stack::Stack;
-use rcl2000::MAX_FORMULA;
+use rcl2000::MAX_STATE;
 
 /// More than any call needs, in bytes.
 const ENOUGH: usize = 512 * 1024;
@@ -27,7 +27,7 @@ fn main() {
     let words: Vec<String> = env::args().skip(1).collect();
     match &words[..] {
         [] => {
-            let calls: BTreeSet<&str> = hurtful::questions().iter().map(name).collect();
+            let calls: BTreeSet<&str> = hurtful::questions().map(|asked| asked.call()).collect();
             for call in calls {
                 println!("{call}: {} bytes", least(call));
             }
@@ -63,9 +63,9 @@ fn suffices(call: &str, left: usize) -> bool {
 
 /// Asks the call's questions where that much of a thread's stack is left.
 fn answer(call: &str, left: usize) {
-    let mut questions = hurtful::questions();
-    questions.retain(|question| name(question) == call);
-    let mut out = vec![0; MAX_FORMULA];
+    let questions = hurtful::questions().filter(|question| question.call() == call);
+    let questions: Vec<Question> = questions.collect();
+    let mut out = vec![0; MAX_STATE];
     let large = thread::Builder::new().stack_size(STACK);
     let thread = large.spawn(move || {
         Stack::here().with_left(left, || {
@@ -76,15 +76,4 @@ fn answer(call: &str, left: usize) {
     });
     let joined = thread.map(|thread| thread.join());
     exit(i32::from(!matches!(joined, Ok(Ok(())))));
-}
-
-fn name(question: &Question) -> &'static str {
-    match question {
-        Question::Reduce(_) => "reduce",
-        Question::Rebuild(_) => "rebuild",
-        Question::Judge(..) => "judge",
-        Question::JudgePage(..) => "judge_page",
-        Question::RankStep(_) => "rank_step",
-        Question::Forecast(..) => "forecast",
-    }
 }

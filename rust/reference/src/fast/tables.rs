@@ -202,7 +202,7 @@ impl Tables {
 
     /// Whether one of the roles is neither assigned to the user nor junior to such a role. A role
     /// that is ranked dominates itself, so that juniors are looked for only where it matters.
-    fn overreaches(&self, user: u32, roles: u64) -> bool {
+    pub fn overreaches(&self, user: u32, roles: u64) -> bool {
         let assigned = self.assigned[user as usize];
         let mut besides = roles & !assigned;
         let mut seniors = items(assigned);

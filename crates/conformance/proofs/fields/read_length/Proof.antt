@@ -7,14 +7,14 @@ use borrow.Author.Needs.{needs}
 use Rattle.conformance.proofs.fields.read_length.Statement.{statement}
 use Rattle.conformance.proofs.fields.read_length.Tie as tie
 
-sub-read-length : tie.Need-sub-read-length
-sub-read-length c = let l = lies (c .before .before .before .field .ensures) (c .before .from .given .1) in l .low
+sub-read-number : tie.Need-sub-read-number
+sub-read-number c = let l = lies (c .before .before .before .field .ensures) (c .before .from .given .1) in l .low
 
-part-read-length-start : tie.Need-part-read-length-start
-part-read-length-start c = let l = lies (c .before .before .before .field .ensures) (c .before .from .given .1) in l .low
+part-read-number-start : tie.Need-part-read-number-start
+part-read-number-start c = let l = lies (c .before .before .before .field .ensures) (c .before .from .given .1) in l .low
 
-part-read-length-end : tie.Need-part-read-length-end
-part-read-length-end c = let l = lies (c .before .before .before .field .ensures) (c .before .from .given .1) in l .high
+part-read-number-end : tie.Need-part-read-number-end
+part-read-number-end c = let l = lies (c .before .before .before .field .ensures) (c .before .from .given .1) in l .high
 
 returns-4 : tie.Need-returns-4
 returns-4 c = (c .if1 .left, sym (length-take-le _ _ (c .if1 .left)))
@@ -27,9 +27,9 @@ read-length-spec =
     (λ c. search needs)
     (λ c. search needs)
     (λ c. search needs)
-    sub-read-length
-    part-read-length-start
-    part-read-length-end
+    sub-read-number
+    part-read-number-start
+    part-read-number-end
     (λ c κs. search needs)
     (λ c. search needs)
     (λ c. search needs)

@@ -15,7 +15,7 @@ use Rattle.pages.proofs.writing.write_from.Reads as write-from
 use Rattle.pages.proofs.writing.write_from.Kinds as write-from-kinds
 use Rattle.pages.proofs.writing.+write_from.Lts-write_from as write-from-lts
 use Rattle.pages.proofs.writing.verdict_of.Reads as verdict-of-reads
-use Rattle.pages.proofs.writing.word_of.Reads as word-of-reads
+use Rattle.verdicts.proofs.sheet.word_of.Reads as word-of-reads
 use Rattle.pages.proofs.writing.worse.Reads as worse-reads
 use Rattle.verdicts.proofs.sheet.write.Reads as write-reads
 use Rattle.pages.proofs.writing.+write_from.{statement}

@@ -1,10 +1,10 @@
--- `tables::rows::outside`: what is left of a word shifted by n.
+-- `words::outside`: what is left of a word shifted by n.
 -- Assumes nothing.
 use mathlib.Core.Path.{sym}
-use Rattle.tables.proofs.ReadLaws.{outside-shift, outside-none}
+use Rattle.words.proofs.OutsideLaws.{outside-shift, outside-none}
 use borrow.Author.Needs.{needs}
-use Rattle.tables.proofs.rows.outside.Statement.{statement}
-use Rattle.tables.proofs.rows.outside.Tie as tie
+use Rattle.words.proofs.outside.Statement.{statement}
+use Rattle.words.proofs.outside.Tie as tie
 
 returns : tie.Need-returns
 returns c = outside-shift (c .before .args .w) (c .before .args .n)

@@ -1,0 +1,2 @@
+-- Which rules mention sessions.
+pub mod Mention
