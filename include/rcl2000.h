@@ -22,9 +22,10 @@
  *   to 2 microseconds with many calls inside each other, and there may be as many as 64 to the power of the number of
  *   variables: 16 million with four, 2.8e14 with eight, which takes months. A call cannot be interrupted. Whoever
  *   judges rules that others wrote asks forecast first, for a ceiling on the full choices: a small one is a promise, a
- *   large one says nothing, and where it is 0 the rule is idle, which judge sees at once. judge_page takes about what
- *   judge takes for its lines, and less where many lines choose alike. sessions_start, session_open and session_close take
- *   about what judge does, and the last two microseconds where the rule mentions neither S nor sessions.
+ *   large one says nothing, and where it is 0 the rule is idle, which judge sees at once. It is for the tables that
+ *   forecast is handed, and may be higher once a session is opened. judge_page takes about what judge takes for its
+ *   lines, and less where many lines choose alike. sessions_start, session_open and session_close take about what judge
+ *   does; where the rule mentions neither S nor sessions, opening and closing take microseconds.
  * - Stack. All memory comes from the stack of the thread that calls, at the most RCL2000_STACK_REDUCE,
  *   RCL2000_STACK_REBUILD, RCL2000_STACK_JUDGE, RCL2000_STACK_JUDGE_PAGE, RCL2000_STACK_RANK_STEP,
  *   RCL2000_STACK_FORECAST, RCL2000_STACK_SESSIONS_START, RCL2000_STACK_SESSION_OPEN and RCL2000_STACK_SESSION_CLOSE

@@ -172,7 +172,7 @@ impl Question {
     }
 
     /// The command that asks this, as the vectors write it; those of a page, a step, a forecast and a start have no
-    /// length. They have none for a state by itself, so that it is written in their manner.
+    /// length. They have none for a call on a state by itself, which only the program `conformance` is asked.
     pub fn command(&self, length: usize) -> String {
         match self {
             Question::Reduce(rule) => format!("reduce {} {length}", hex(rule)),
@@ -187,12 +187,14 @@ impl Question {
             Question::SessionsStart(tables, rule) => {
                 format!("sessions {} {}", hex(tables), hex(rule))
             }
-            Question::Session(state, Change::Open { user, roles }) => {
-                let roles = hex(&roles.to_le_bytes());
-                format!("session_open {} {user} {roles} {length}", hex(state))
-            }
-            Question::Session(state, Change::Close { number }) => {
-                format!("session_close {} {number} {length}", hex(state))
+            Question::Session(state, change) => {
+                let call = match change {
+                    Change::Open { user, roles } => {
+                        format!("o:{user}:{}", hex(&roles.to_le_bytes()))
+                    }
+                    Change::Close { number } => format!("c:{number}"),
+                };
+                format!("session {} {call} {length}", hex(state))
             }
         }
     }

@@ -13,7 +13,7 @@ use crate::{formulas, orders, pages, rules, scaled, sessions, tables};
 /// The length of the longest inputs.
 const MEGABYTES: usize = 4 << 20;
 
-/// All of them, each made when it is asked for: together they have hundreds of megabytes.
+/// All of them, made part by part while they are asked for: together they have more than a gigabyte.
 pub fn questions() -> impl Iterator<Item = Question> {
     let parts: [fn() -> Vec<Question>; 15] = [
         brackets,

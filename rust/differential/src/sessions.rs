@@ -87,7 +87,8 @@ impl Plain {
         Change::Close { number }
     }
 
-    /// One in three has a user or a role that is not there, left or beyond reach, or two of these.
+    /// Three in ten are given a user who may not be there or may have left, or roles that may not be there or may be
+    /// beyond reach, or both.
     fn opening(&self, random: &mut Random) -> Change {
         let (users, roles) = (self.users.len(), self.roles.len());
         let mut user = match &self.present()[..] {

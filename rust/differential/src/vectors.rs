@@ -3,7 +3,7 @@
 use rcl2000::{Refusal, Word};
 use reference::forecast::forecast;
 use reference::protocol::{answer, followed, hex, Command, FILL};
-use reference::sessions::Change;
+use reference::sessions::{Change, State};
 
 use crate::hold::{reply, step, Question};
 
@@ -85,12 +85,16 @@ fn differing(command: &[u8], expected: &[u8]) -> Option<String> {
 
 /// Whether the command is for a verdict on more choices than can be tried one by one.
 fn endless(command: &[u8]) -> bool {
-    let (tables, rule) = match Command::read(command) {
-        Some(Command::Judge([tables, rule, _], _)) => (tables, rule),
-        Some(Command::Sessions(tables, rule, _)) => (tables, rule),
-        _ => return false,
-    };
-    forecast(&tables, &rule).is_ok_and(|told| told.ceiling > TRIED)
+    let many =
+        |tables: &[u8], rule: &[u8]| forecast(tables, rule).is_ok_and(|told| told.ceiling > TRIED);
+    match Command::read(command) {
+        Some(Command::Judge([tables, rule, _], _)) => many(&tables, &rule),
+        Some(Command::Sessions(tables, rule, _)) => many(&tables, &rule),
+        Some(Command::Session(state, ..)) => {
+            State::split(&state).is_ok_and(|parts| many(parts.tables, parts.rule))
+        }
+        _ => false,
+    }
 }
 
 /// The library's answer: that of the call, or the day sheet made of its verdicts.

@@ -8,6 +8,7 @@ use differential::tables::{self, Plain};
 use differential::{orders, rules, scaled};
 use rcl2000::{judge, judge_into, session_close, session_open, sessions_start};
 use rcl2000::{LiveRule, Refusal, Session, Verdict, MAX_RULE, MAX_STATE};
+use reference::protocol::Command;
 use reference::sessions::{Change, State, HEAD, VERDICT};
 
 /// The most steps of a walk that is tried after each call.
@@ -115,6 +116,23 @@ fn calls_in_a_row_choice_by_choice() {
                 0 => assert_eq!(expected.as_ref(), Ok(&run.state)),
                 number => assert_eq!(expected, Err(number as u32)),
             }
+        }
+    }
+}
+
+/// What is printed where a start or a call goes wrong is read as the command that asks it.
+#[test]
+fn questions_are_written_as_commands() {
+    let random = &mut Random::new(72);
+    for _ in 0..scaled(300) {
+        let question = sessions::asked(random, STEPS);
+        let command = question.command(MAX_STATE);
+        match (&question, Command::read(command.as_bytes())) {
+            (Question::SessionsStart(..), Some(Command::Sessions(..))) => {}
+            (Question::Session(state, change), Some(Command::Session(read, call, length))) => {
+                assert_eq!((&read[..], call, length), (&state[..], *change, MAX_STATE));
+            }
+            _ => panic!("{command}"),
         }
     }
 }

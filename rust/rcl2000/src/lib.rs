@@ -34,19 +34,20 @@
 //! [`rebuild_into`], [`judge_into`] and [`judge_page_into`] write them into bytes that the caller
 //! lends and allocate nothing. [`forecast`] and [`forecast_into`] tell of a rule, before it is judged, how
 //! long its formula is and how many full choices it has at the most. [`LiveRule`] keeps a verdict current
-//! while sessions come and go, by [`sessions_start`], [`session_open`] and [`session_close`], which lend too.
-//! Any of them gives a [`Refusal`] where the input is turned back, a page's with the line that it is for,
-//! and then no lent byte has changed. [`rank_step`] refuses nothing: of tables that are refused 7 it says
-//! what their hierarchy of roles is not. Nothing here panics, whatever the input.
+//! while sessions come and go, by [`sessions_start`], [`session_open`] and [`session_close`], each of which
+//! has its `_into` for lent bytes, too. Any of them gives a [`Refusal`] where the input is turned back, a
+//! page's with the line that it is for, and then no lent byte has changed. [`rank_step`] refuses nothing: of
+//! tables that are refused 7 it says what their hierarchy of roles is not. Nothing here panics, whatever the
+//! input.
 //!
 //! # What a call may cost
 //!
 //! - **Time.** All calls take microseconds but those that judge: [`judge`] takes from microseconds to
 //!   milliseconds for most rules, but there are rules of many variables for which it has to walk the
 //!   full choices, and these grow as 64 to the power of the number of variables; [`judge_page`] takes
-//!   about what its lines do, or less, and the calls of a [`LiveRule`] what [`judge`] does, or far less where
-//!   the rule mentions no session. None can be interrupted, so ask first (below). Each call says what it may
-//!   cost.
+//!   about what its lines do, or less. A [`LiveRule`] takes what [`judge`] does to start and for each session
+//!   that is opened or closed, and microseconds for these where the rule mentions no session. None can be
+//!   interrupted, so ask first (below). Each call says what it may cost.
 //! - **Stack.** The library takes its memory from the stack of the thread that calls it:
 //!   at the most 16 KiB for [`reduce`], 48 KiB for [`rebuild`], 72 KiB for [`judge`], 248 KiB for
 //!   [`judge_page`], 16 KiB for [`rank_step`], 24 KiB for [`forecast`] and 64 KiB for [`sessions_start`],
@@ -96,7 +97,7 @@
 //! - **A ceiling of 0 means idle.** Some variable has no item to choose. Judging sees it at once and walks
 //!   nothing, however many items the others have.
 //! - **A page** has the sum of its lines' ceilings.
-//! - **Other tables** have another ceiling. Ask again when they change.
+//! - **Other tables** have another ceiling. Ask again when they change, as where a session is opened.
 //!
 //! # Who already did what
 //!

@@ -10,7 +10,7 @@ const RULE: usize = Verdict::BYTES + 2;
 /// The bytes of a session's row: the user, and a word of active roles.
 const ROW: usize = 9;
 
-/// The number of a user whom no tables have, and of a session.
+/// The number of a user whom no tables have, and of a session that is never open.
 const NOBODY: u32 = u32::MAX;
 
 /// A rule whose verdict stays current while sessions come and go.

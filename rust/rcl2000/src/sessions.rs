@@ -105,8 +105,8 @@ pub fn sessions_start_into(tables: &[u8], rule: &[u8], out: &mut [u8]) -> Result
 /// # Cost
 ///
 /// As [`judge`](crate::judge) on the changed tables, and where the rule mentions neither `S` nor `sessions` about what
-/// reading the tables takes: then the verdict in the state stays, since no session has a part in it. At most 64 KiB of
-/// stack ([`STACK_SESSION_OPEN`](crate::STACK_SESSION_OPEN)).
+/// reading the tables and the rule takes: then the verdict in the state stays, since no session has a part in it. At
+/// most 64 KiB of stack ([`STACK_SESSION_OPEN`](crate::STACK_SESSION_OPEN)).
 pub fn session_open(state: &[u8], user: u32, roles: u64) -> Result<Vec<u8>, Refusal> {
     allocated(MAX_STATE, |out| session_open_into(state, user, roles, out))
 }

@@ -16,10 +16,9 @@ const IN_TURN: [u8; 8] = [1, 2, 3, 4, 5, 6, 7, 8];
 /// The first state, or the first refusal of the tables and the rule.
 pub fn start(tables: &[u8], text: &[u8]) -> Answer<Vec<u8>> {
     let verdict = &in_turn(tables, text)?;
-    let rule = text;
     let state = State {
         verdict,
-        rule,
+        rule: text,
         tables,
     };
     Ok(state.bytes())
