@@ -4,7 +4,7 @@ use Prim.Native.Nat.{ℕ}
 use Rattle.answers.specs.declared.Refusal.{Refusal}
 use Rattle.answers.specs.declared.Refusal.the-variants.{CutShort, Overfull, NotEntered, BadMark, NoSuchItem, Miscounted}
 use Rattle.answers.specs.declared.Refusal.the-variants.{Rank, Overreach, Twin, LeftOver, RuleLength, Deep, NotARule}
-use Rattle.answers.specs.declared.Refusal.the-variants.{KindMismatch, Choices, NoRulesFormula, ShortSheet, NotAnOrder, Page, Left, FullHouse, NotOpen}
+use Rattle.answers.specs.declared.Refusal.the-variants.{KindMismatch, Choices, NoRulesFormula, ShortSheet, NotAnOrder, Page, Left, FullHouse, NotOpen, Reader}
 
 -- "No.", with the table's word and condition beside each.
 abbrev pub numberOf : Refusal → ℕ
@@ -30,7 +30,8 @@ numberOf Page = 19  -- page: no line or above 32 (document 02, N3)
 numberOf Left = 20  -- left: a row of mark 2 with a word not zero, a session of a leaver, or a CU word naming one (document 02, N6)
 numberOf FullHouse = 21  -- full house: opening with 64 open (document 02, N9)
 numberOf NotOpen = 22  -- not open: closing a number that is not open (document 02, N9)
+numberOf Reader = 23  -- reader: bit at or above the user count (document 02, N10)
 
 -- No refusal has a higher number.
 abbrev pub lastNumber : ℕ
-lastNumber = 22
+lastNumber = 23

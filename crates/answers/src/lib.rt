@@ -32,6 +32,7 @@ pub enum Refusal {
     Left,
     FullHouse,
     NotOpen,
+    Reader,
 }
 
 // What a call that writes to a lent output says: a refusal, or the number of bytes written.
@@ -67,6 +68,7 @@ pub fn number(refusal: Refusal) -> u32
         Refusal::Left => 20,
         Refusal::FullHouse => 21,
         Refusal::NotOpen => 22,
+        Refusal::Reader => 23,
     }
 }
 

@@ -13,47 +13,22 @@ use Rattle.words.specs.Words.{has}
 use Rattle.words.proofs.WordsLaws.{and-true, and-both}
 use Rattle.answers.specs.declared.Refusal.{Refusal}
 use Rattle.tables.specs.Tables.{Session, Tables, userRows, isPresent, sessionUsers}
-use Rattle.tables.specs.declared.Outcome.{Outcome}
-use Rattle.tables.specs.declared.Outcome.the-variants.{Refused, Accepted}
 use Rattle.tables.specs.Functions.{juniorsOfUsers}
-use Rattle.tables.specs.Checks.{allTo, withdrawn, leaversGone, ranked, inReach, noTwin, lateChecks, firstFailing, late}
+use Rattle.tables.specs.Checks.{allTo, withdrawn, leaversGone, inReach}
 use Rattle.tables.specs.Accepted.{Known, Passes}
 use Rattle.tables.proofs.AllLaws.{all-every, all-at}
-use Rattle.tables.proofs.LoadLaws.{never}
+use Rattle.tables.proofs.EveryLaws.{each-all, all-each}
+use Rattle.tables.proofs.LateLaws.{late-each, each-late}
 use Rattle.changes.specs.declared.Change.{Change}
 use Rattle.changes.specs.declared.Change.the-variants.{Opening, Closing}
 use Rattle.changes.specs.Change.{newSession, sessionsBy, changed, reaches, changeChecks, firstDue, changeRefusal}
-use Rattle.changes.proofs.EveryLaws.{NewHas, every-changed, each-all, all-each}
+use Rattle.changes.proofs.EveryLaws.{NewHas, every-changed}
 
 -- ---- what the checks said
-
-held : (b : Bool) (o : Outcome) (e : Refusal) → cond b o (Refused e) ≡ Accepted → (b ≡ true) × (o ≡ Accepted)
-held true o e q = (refl, q)
-held false o e q = never q
 
 due : (b : Bool) (o : Option Refusal) (e : Refusal) → cond b o (some e) ≡ none → (b ≡ true) × (o ≡ none)
 due true o e q = (refl, q)
 due false o e q = let z : _≡_ {A = ℕ} 0 1 = cc in absurd (omega arith)
-
--- The four late checks.
-record Late (T : Tables) : Type 0 where
-  gone : leaversGone T ≡ true
-  rank : ranked (T .roleRows) ≡ true
-  reach : inReach T ≡ true
-  twin : noTwin T ≡ true
-
-late-each : (T : Tables) → late T ≡ Accepted → Late T
-unfolding lateChecks firstFailing
-late-each T e =
-    let a = held (leaversGone T) _ _ e in
-    let b = held (ranked (T .roleRows)) _ _ (a .1) in
-    let c = held (inReach T) _ _ (b .1) in
-    let d = held (noTwin T) _ _ (c .1) in
-    record { gone = a .0; rank = b .0; reach = c .0; twin = d .0 }
-
-each-late : (T : Tables) → Late T → late T ≡ Accepted
-unfolding lateChecks firstFailing
-each-late T l = rw (l .gone, l .rank, l .reach, l .twin)
 
 -- What is known of an opening, and of a closing, that nothing refuses.
 pub record Opens (T : Tables) (u w : ℕ) : Type 0 where

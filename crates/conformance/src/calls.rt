@@ -42,6 +42,13 @@ pub fn step(state: &[u8], change: Change, output: &mut [u8])
     print_reply(reply, output);
 }
 
+pub fn sheet_line(tables: &[u8], reader: u64, rules: &[u8], place: usize, output: &mut [u8])
+    requires { ⌜ length (now output) ≤ 65536 ⌝ }
+{
+    let reply = rcl2000::sheet_line(tables, reader, rules, place, output);
+    print_reply(reply, output);
+}
+
 // The call that asks for this change.
 pub fn next_state(state: &[u8], change: Change, output: &mut [u8]) -> u32 {
     match change {

@@ -7,6 +7,7 @@ use crate::fields::print_bytes;
 use crate::fields::read_bytes;
 use crate::fields::read_length;
 use crate::fields::room;
+use crate::reader;
 use crate::sessions;
 use crate::sessions::Asked;
 use crate::sessions::change_in;
@@ -39,7 +40,7 @@ pub fn answer(line: &[u8], long: bool) {
     command(line, &first[..n]);
 }
 
-// The command of a line, given the bytes of its first field.
+// The command of a line, given the bytes of its first field: those of document 01.
 fn command(line: &[u8], first: &[u8])
     requires { ⌜ length (now line) ≤ 80000 ⌝ }
 {
@@ -55,7 +56,16 @@ fn command(line: &[u8], first: &[u8])
         judge(line, first);
     } else if is_command(line, b"sheet", 3) {
         sheet(line, first);
-    } else if is_command(line, b"page", 3) {
+    } else {
+        later(line, first);
+    }
+}
+
+// The commands of document 02.
+fn later(line: &[u8], first: &[u8])
+    requires { ⌜ length (now line) ≤ 80000 ⌝ }
+{
+    if is_command(line, b"page", 3) {
         told(line, first, true);
     } else if is_command(line, b"forecast", 3) {
         told(line, first, false);
@@ -65,12 +75,14 @@ fn command(line: &[u8], first: &[u8])
         day(line, first);
     } else if is_command(line, b"session", 4) {
         session(line, first);
+    } else if is_command(line, b"line", 6) {
+        reader::answer(line, first);
     } else {
         unknown();
     }
 }
 
-fn unknown() {
+pub fn unknown() {
     io::write_all(STDOUT_FILENO, b"?\n");
 }
 

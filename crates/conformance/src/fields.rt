@@ -1,5 +1,6 @@
 // The fields of a line: reading them, and printing those of an answer.
 // Bytes are in hexadecimal, `-` where there are none.
+use crate::output::word;
 use libc::STDOUT_FILENO;
 use protocol::Taken;
 use texts::Span;
@@ -10,6 +11,12 @@ ghost use lib.ListN.{length};
 
 // No output is longer.
 const LENGTHS: usize = 65536;
+
+// The digits of a word.
+const DIGITS: usize = 16;
+
+// The highest number that a call takes.
+pub const MOST: usize = 4294967295;
 
 // Whether the line begins with this name.
 pub fn is_named(line: &[u8], name: &[u8]) -> bool {
@@ -57,20 +64,49 @@ pub fn read_bytes(line: &[u8], k: usize, out: &mut [u8]) -> Field
     Field { good: true, n }
 }
 
-// A length, of bytes that `room` has.
-pub fn read_length(line: &[u8], k: usize, room: &[u8]) -> Field
-    ensures { λ r. ⌜ Counts (r .n) (now (room .entry)) ⌝ }
+// A number that is at most so much.
+pub fn read_number(line: &[u8], k: usize, most: usize) -> Field
+    requires { ⌜ most ≤ 4294967295 ⌝ }
 {
     let Span::Found { from, to } = texts::field(line, k) else {
         return Field { good: false, n: 0 };
     };
-    let Taken::Took(n) = protocol::read_number(&line[from..to], LENGTHS) else {
+    let Taken::Took(n) = protocol::read_number(&line[from..to], most) else {
         return Field { good: false, n: 0 };
     };
-    if room.len() < n {
+    Field { good: true, n }
+}
+
+// A length, of bytes that `room` has.
+pub fn read_length(line: &[u8], k: usize, room: &[u8]) -> Field
+    ensures { λ r. ⌜ Counts (r .n) (now (room .entry)) ⌝ }
+{
+    let l = read_number(line, k, LENGTHS);
+    if room.len() < l.n {
         return Field { good: false, n: 0 };
     }
-    Field { good: true, n }
+    l
+}
+
+// A word that was read, 0 where it is malformed.
+pub struct Word {
+    pub good: bool,
+    pub w: u64,
+}
+
+// The word of 8 bytes, lowest first.
+pub fn read_word(text: &[u8]) -> Word {
+    let mut bytes = [0u8; 8];
+    if text.len() != DIGITS {
+        return Word { good: false, w: 0 };
+    }
+    let Taken::Took(_) = protocol::read_bytes(text, &mut bytes) else {
+        return Word { good: false, w: 0 };
+    };
+    Word {
+        good: true,
+        w: word(&bytes, 0),
+    }
 }
 
 pub fn print_bytes(b: &[u8])

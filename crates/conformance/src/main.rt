@@ -5,6 +5,7 @@ mod commands;
 mod fields;
 mod output;
 mod page;
+mod reader;
 mod sessions;
 
 ghost use Prim.Native.Nat.{_≤_};

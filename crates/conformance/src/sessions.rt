@@ -3,6 +3,8 @@
 use crate::calls::next_state;
 use crate::calls::print_refused;
 use crate::calls::untouched;
+use crate::fields::MOST;
+use crate::fields::read_word;
 use crate::output::word;
 use changes::Change;
 use libc::STDOUT_FILENO;
@@ -15,12 +17,6 @@ ghost use lib.ListN.{length};
 
 // The field of the first call.
 const FIRST: usize = 3;
-
-// The highest number that a call takes.
-const MOST: usize = 4294967295;
-
-// The digits of a word.
-const DIGITS: usize = 16;
 
 // What a field asks for.
 pub enum Asked {
@@ -40,20 +36,20 @@ fn closing(number: &[u8]) -> Asked {
 // A user's number, a colon and a word.
 fn opening(text: &[u8]) -> Asked {
     let colon = bytes::scan::find(text, 0, text.len(), b':');
-    if text.len() - colon != DIGITS + 1 {
+    if colon == text.len() {
         return Asked::Malformed;
     }
     let Taken::Took(user) = protocol::read_number(&text[..colon], MOST) else {
         return Asked::Malformed;
     };
-    let mut roles = [0u8; 8];
     let digits = colon + 1;
-    let Taken::Took(_) = protocol::read_bytes(&text[digits..], &mut roles) else {
+    let roles = read_word(&text[digits..]);
+    if !roles.good {
         return Asked::Malformed;
-    };
+    }
     Asked::Asks(Change::Opening {
         user: user as u32,
-        roles: word(&roles, 0),
+        roles: roles.w,
     })
 }
 

@@ -16,3 +16,5 @@ pub mod DoneDemands
 pub mod SessionLaws
 pub mod SessionDemands
 pub mod Examples
+pub mod ReaderLaws
+pub mod ReaderDemands

@@ -24,12 +24,13 @@ use Rattle.verdicts.specs.Report.{OrderOf, ReportsIn, Admitted}
 use Rattle.verdicts.specs.Both.{Given}
 use Rattle.verdicts.proofs.JudgedLaws.{admitted-wrote, bytes-length}
 use Rattle.verdicts.proofs.ReportLaws.{bytes-report}
+use Rattle.verdicts.proofs.GivenLaws.{turn-ordered, given-admitted}
 use Rattle.changes.specs.declared.Change.{Change}
 use Rattle.changes.specs.Change.{sessionsBy, changed, changeRefusal}
 use Rattle.mentions.specs.Mention.{mentions}
 use Rattle.mentions.proofs.SameLaws.{bytes-unmentioned}
 use Rattle.sessions.specs.State.{currentBytes, stateBytes, verdictIn, ruleIn, tablesIn, stepped}
-use Rattle.sessions.proofs.StateLaws.{turn-ordered, current-length, rule-short, given-encoded, given-admitted, given-changed, made-length, made-short, verdict-in, rule-in, tables-in, stepped-state}
+use Rattle.sessions.proofs.StateLaws.{current-length, rule-short, given-encoded, given-changed, made-length, made-short, verdict-in, rule-in, tables-in, stepped-state}
 use Rattle.rcl2000.specs.Calls.{Ends, answers, refuses, BothNumber, Judges, Starts, Changes, stateSize, StartRefuses, ChangeRefuses, ChangeNumber}
 use Rattle.rcl2000.specs.Day.{Day, morning, accepted, refused as refusedCall, sessionsAfter, tablesAfter, fullIn, breakingIn, Current, DayRefuses, dayChange, dayLonger}
 use Rattle.rcl2000.proofs.CallLaws.{through, lent-room, sees-refused, sees-wrote, refuses-exactly, writes-exactly, call-ends}

@@ -8,9 +8,9 @@ use mathlib.Core.Option.{none, some}
 use Prim.Native.Nat.{ℕ, suc, _+_, _*_, _≤_, _<_}
 use lib.ListN.{length, getD, getElem?, take, drop}
 use Rattle.answers.specs.Refusal.{numberOf}
-use Rattle.answers.specs.Answer.{Answer, lent, reply, outputAfter}
+use Rattle.answers.specs.Answer.{Answer, wrote, lent, reply, outputAfter}
 use Rattle.answers.specs.declared.Refusal.{Refusal}
-use Rattle.answers.specs.declared.Refusal.the-variants.{CutShort, Rank, NoRulesFormula, ShortSheet, NotAnOrder, Page, Left, FullHouse, NotOpen}
+use Rattle.answers.specs.declared.Refusal.the-variants.{CutShort, Rank, NoRulesFormula, ShortSheet, NotAnOrder, Page, Left, FullHouse, NotOpen, Reader}
 use Rattle.tables.specs.Tables.{Tables}
 use Rattle.tables.specs.Checks.{reflexive, transitive, antisymmetric}
 use Rattle.tables.specs.Encode.{encode}
@@ -31,6 +31,8 @@ use Rattle.changes.specs.declared.Change.{Change}
 use Rattle.changes.specs.declared.Change.the-variants.{Opening, Closing}
 use Rattle.changes.specs.Change.{changed, changeRefusal}
 use Rattle.sessions.specs.State.{started, ruleIn, tablesIn, isCut, stepped}
+use Rattle.sheets.specs.Sheet.{sheetOf, sheetLine}
+use Rattle.readers.specs.Reader.{readerSheet, Beyond, readerLine}
 use Rattle.pages.specs.Page.{PageAnswer, pageOf, pageLent, pageReply, pageAfter, walksOf, verdictsOn, pageOutcome, fullSum, breakingSum}
 use Rattle.pages.specs.Met.{Sized, FirstRefused, PageAdmitted}
 
@@ -258,3 +260,22 @@ pub data ChangeRefuses (s : Bytes) (c : Change) (n : ℕ) : Refusal → Type 0 w
 abbrev pub ChangeNumber : Change → ℕ → Type 0
 ChangeNumber (Opening u w) n = BesidesNumber FullHouse n
 ChangeNumber (Closing k) n = BesidesNumber NotOpen n
+
+-- DOCUMENT 02, N10. r and new are what `sheet_line` gives for tables, a reader's word w of users, rules and a place;
+abbrev pub ListsLine : Bytes → ℕ → Bytes → ℕ → Bytes → Bytes → ℕ → Type 0
+ListsLine tables w rules place old new r = Sees (readerLine tables w rules place) old new r
+
+-- they are the line at that place of the day sheet of these tables.
+abbrev pub DayLine : Bytes → Bytes → ℕ → Bytes → Bytes → ℕ → Type 0
+DayLine tables rules place old new r = Sees (wrote (sheetLine (sheetOf tables rules) place)) old new r
+
+-- "Refused tables give their number"; 23 "after the tables' checks and before the rules' length is looked at"; 17 where n bytes are lent and the line
+-- is longer, so that there is one.
+pub data LineRefuses (tables : Bytes) (w : ℕ) (rules : Bytes) (place n : ℕ) : Refusal → Type 0 where
+  lineTables : {e : Refusal} → tablesOf tables ≡ rejected e → LineRefuses tables w rules place n e
+  lineReader : {T : Tables} → tablesOf tables ≡ taken T → Beyond w T → LineRefuses tables w rules place n Reader
+  lineLonger : {T : Tables} → tablesOf tables ≡ taken T → (Beyond w T → ⊥) → n < length (sheetLine (readerSheet w T rules) place)
+      → LineRefuses tables w rules place n ShortSheet
+
+abbrev pub LineNumber : ℕ → Type 0
+LineNumber n = OfTables n ⊎ ((n ≡ numberOf Reader) ⊎ (n ≡ numberOf ShortSheet))

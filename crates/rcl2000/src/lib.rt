@@ -3,7 +3,7 @@
 ghost use mathlib.Core.Path.{_≡_};
 ghost use Prim.Native.Nat.{_<_};
 ghost use Rattle.changes.specs.declared.Change.the-variants.{Opening, Closing};
-ghost use Rattle.rcl2000.specs.Calls.{Reduces, GivesBack, Judges, JudgesPage, GivesStep, Forecasts, Starts, Changes};
+ghost use Rattle.rcl2000.specs.Calls.{Reduces, GivesBack, Judges, JudgesPage, GivesStep, Forecasts, Starts, Changes, ListsLine};
 ghost use Rattle.rcl2000.specs.code.Reply.{replyOf, pageReplyOf};
 use answers::Written;
 use changes::Change;
@@ -102,4 +102,18 @@ pub extern "C" fn session_close(state: &[u8], session: u32, out: &mut [u8]) -> u
     ensures { λ r. ⌜ Changes (now (state .entry)) (Closing session) (now (out .entry)) (now (out .exit)) r ⌝ }
 {
     number(sessions::step(state, Change::Closing(session), out))
+}
+
+// The line at a place, from 1, of the day sheet for a reader, who holds a word of users.
+#[no_mangle]
+pub extern "C" fn sheet_line(
+    tables: &[u8],
+    reader: u64,
+    rules: &[u8],
+    place: usize,
+    out: &mut [u8],
+) -> u32
+    ensures { λ r. ⌜ ListsLine (now (tables .entry)) reader (now (rules .entry)) place (now (out .entry)) (now (out .exit)) r ⌝ }
+{
+    number(readers::line(tables, reader, rules, place, out))
 }

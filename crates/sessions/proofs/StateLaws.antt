@@ -21,17 +21,13 @@ use Rattle.tables.proofs.EncodeLaws.{passes-accepted}
 use Rattle.tables.proofs.FitsLaws.{accepted-passes}
 use Rattle.tables.proofs.LocalLaws.{accepted-short}
 use Rattle.syntax.specs.Bytes.{Bytes}
-use Rattle.syntax.specs.Rule.{Rule, ruleVars}
+use Rattle.syntax.specs.Rule.{Rule}
 use Rattle.rules.proofs.AcceptLaws.{accepted-gives}
-use Rattle.walks.specs.Order.{variablesOf, upFrom}
-use Rattle.walks.proofs.OrderLaws.{order-admissible}
-use Rattle.values.specs.Sets.{names}
 use Rattle.verdicts.specs.Verdict.{turnOrder, unlessRefused, judged}
-use Rattle.verdicts.specs.Report.{OrderOf, Admitted}
 use Rattle.verdicts.specs.Both.{Given, ofTexts}
 use Rattle.verdicts.proofs.BothLaws.{given-answers}
-use Rattle.verdicts.proofs.VerdictLaws.{turn-order}
 use Rattle.verdicts.proofs.JudgedLaws.{bytes-length}
+use Rattle.verdicts.proofs.GivenLaws.{given-admitted}
 use Rattle.changes.specs.declared.Change.{Change}
 use Rattle.changes.specs.Change.{sessionsBy, changed, changeRefusal}
 use Rattle.changes.proofs.PassesLaws.{passes-changed}
@@ -43,16 +39,9 @@ use Rattle.sessions.proofs.SplitLaws.{step-whole, whole-long}
 
 -- ---- accepted tables, by their bytes, and an accepted rule
 
-pub turn-ordered : (ρ : Rule) → OrderOf ρ (turnOrder (some ρ))
-unfolding turnOrder
-turn-ordered ρ = order-admissible (names (ruleVars [] ρ)) (length (ruleVars [] ρ)) (variablesOf (upFrom 1 (length (ruleVars [] ρ)))) .0 (turn-order ρ)
-
 module _ {b rule : Bytes} {T : Tables} {ρ : Rule} (g : Given b rule T ρ) where
-  pub given-admitted : Admitted b rule (turnOrder (some ρ)) T ρ
-  given-admitted = record { reads = g .reads; accepts = g .accepts; tree = g .tree; ordered = turn-ordered ρ }
-
   pub current-length : length (currentBytes T ρ) ≡ 26
-  current-length = bytes-length given-admitted
+  current-length = bytes-length (given-admitted g)
 
   pub rule-short : length rule ≤ 256
   rule-short = accepted-gives rule (g .accepts) .short

@@ -2,7 +2,7 @@
 -- Assumes nothing.
 use mathlib.Core.Path.{_≡_, refl, sym, ap, _∙_}
 use mathlib.Core.List.{List, [], _++_}
-use mathlib.Core.Option.{some}
+use mathlib.Core.Option.{none, some}
 use mathlib.Core.Bool.{Bool, true, false}
 use mathlib.Core.Logic.{_⊎_, inl, inr}
 use Prim.Native.Nat.{ℕ, suc, _-_, _≤_, _<_}
@@ -17,7 +17,7 @@ use Rattle.answers.specs.Written.{numberIn, lengthIn}
 use Rattle.answers.specs.declared.Written.{Written}
 use Rattle.answers.specs.declared.Refusal.{Refusal}
 use Rattle.syntax.specs.Bytes.{Bytes, ascii}
-use Rattle.syntax.specs.Rule.{Rule, ruleText, ruleVars}
+use Rattle.syntax.specs.Rule.{Rule, ruleText, ruleOf}
 use Rattle.syntax.proofs.RuleLaws.{rule-text}
 use Rattle.rules.specs.Accept.{refusal, accepted}
 use Rattle.rules.proofs.AcceptLaws.{none-true, accepted-rule}
@@ -26,13 +26,9 @@ use Rattle.tables.specs.Reading.{rejected, taken, tablesOf}
 use Rattle.functions.specs.Done.{SameDone}
 use Rattle.texts.specs.Pieces.{lines}
 use Rattle.texts.specs.Decimal.{decimalOf}
-use Rattle.walks.specs.Order.{upFrom, variablesOf}
-use Rattle.walks.proofs.OrderLaws.{order-admissible}
-use Rattle.values.specs.Sets.{names}
-use Rattle.verdicts.specs.Verdict.{acceptedVerdict, turnOrder, turnVerdict, tablesVerdict, verdictOf}
-use Rattle.verdicts.specs.Report.{OrderOf}
-use Rattle.verdicts.proofs.VerdictLaws.{turn-order}
-use Rattle.verdicts.proofs.ReportLaws.{verdict-reports}
+use Rattle.verdicts.specs.Verdict.{acceptedVerdict, turnVerdict}
+use Rattle.verdicts.specs.Both.{Given}
+use Rattle.verdicts.proofs.GivenLaws.{turn-reports}
 use Rattle.verdicts.proofs.AlikeLaws.{done-twins}
 use Rattle.sheets.specs.Line.{labelled, saysOf, lineText}
 use Rattle.sheets.specs.Total.{isHeld, isIdle, isBroken, isRefused, totalOf}
@@ -72,24 +68,22 @@ module _ (tables rules : Bytes) (T : Tables) (t : tablesOf tables ≡ taken T) (
       rw (t, le-leb (length rules) 32768 short) (listed-some T (lines rules) (suc k) rule (λ e. omega arith) (rw m at))
 
   -- An accepted rule's line reports its verdict: broken, idle or held exactly as the counts say, the counts, the share, and if broken the first breaking choice.
+  pub line-tells : {ρ : Rule} → refusal rule ≡ none → ruleOf rule ≡ some ρ → LineReports T ρ (suc k) (sheetLine (sheetOf tables rules) (suc k))
+  line-tells h tree =
+      let g : Given tables rule T _ = record { reads = t; accepts = h; tree = tree } in
+      record { verdict = turnVerdict T rule; reports = turn-reports g; says = line-is }
+
   pub line-reports : accepted rule ≡ true → (ρ : Rule) × (rule ≡ ruleText [] ρ) × ((old new : List ℕ) (w : Written) → Lines tables rules (suc k) old new w
       → length (sheetLine (sheetOf tables rules) (suc k)) ≤ length old
       → (numberIn w ≡ 0) × LineReports T ρ (suc k) (take (lengthIn w) new) × (drop (lengthIn w) new ≡ drop (lengthIn w) old))
-  unfolding verdictOf tablesVerdict turnVerdict turnOrder
   line-reports h =
       let r = none-true (refusal rule) h in
-      let (ρ, tree, _) = accepted-rule rule r in
-      let order : OrderOf ρ (upFrom 1 (length (ruleVars [] ρ))) = order-admissible (names (ruleVars [] ρ)) (length (ruleVars [] ρ)) (variablesOf (upFrom 1 (length (ruleVars [] ρ)))) .0 (turn-order ρ) in
-      let reports = verdict-reports {tables = tables} (record { reads = t; accepts = r; tree = tree; ordered = order }) in
-      let same : turnVerdict T rule ≡ verdictOf tables rule (upFrom 1 (length (ruleVars [] ρ))) = rw (t, tree) in (
+      let (ρ, tree, _) = accepted-rule rule r in (
         ρ,
         rule-text rule ρ tree .0,
         λ old new w p room.
-            let x = line-written tables rules (suc k) p room in (
-              x .number,
-              record { verdict = verdictOf tables rule (upFrom 1 (length (ruleVars [] ρ))); reports = reports; says = rw (x .size) (x .front ∙ line-is ∙ ap (lineText (suc k)) same) },
-              rw (x .size) (x .kept),
-            ),
+            let x = line-written tables rules (suc k) p room in
+            (x .number, rw (x .size, x .front) (line-tells r tree), rw (x .size) (x .kept)),
       )
 
   -- A refused rule's line is its number behind `refused`: "or line number, `refused`, number".
@@ -115,7 +109,7 @@ module _ (tables rules : Bytes) (T : Tables) (t : tablesOf tables ≡ taken T) (
   listed-is = rw (t, le-leb (length rules) 32768 short)
 
   -- What the total says of the lines above it.
-  above-reports : TotalReports (length (lines rules)) (take (length (lines rules)) (sheetOf tables rules)) (sheetLine (sheetOf tables rules) (suc (length (lines rules))))
+  pub above-reports : TotalReports (length (lines rules)) (take (length (lines rules)) (sheetOf tables rules)) (sheetLine (sheetOf tables rules) (suc (length (lines rules))))
   above-reports =
       let ws : List Bytes = lines rules in
       let above : take (length ws) (listed T ws) ≡ judgedFrom 1 T ws = take-at (judgedFrom 1 T ws) _ (length ws) (judged-length 1 T ws) in

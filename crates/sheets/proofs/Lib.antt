@@ -1,5 +1,6 @@
 -- Laws on the lines of a sheet.
 pub mod LineLaws
+pub mod ShortLaws
 pub mod SheetLaws
 pub mod TotalLaws
 pub mod TurnLaws

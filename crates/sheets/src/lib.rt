@@ -78,7 +78,7 @@ fn write_line(tables: &[u8], rules: &[u8], place: usize, out: &mut [u8]) -> usiz
 }
 
 // The line of accepted tables, held as words.
-fn judged_line(words: &[u64], rules: &[u8], place: usize, out: &mut [u8]) -> usize
+pub fn judged_line(words: &[u64], rules: &[u8], place: usize, out: &mut [u8]) -> usize
     requires { ⌜ Loaded (now words) ⌝ }
     requires { ⌜ lineRoom ≤ length (now out) ⌝ }
     ensures { λ r. ⌜ LinesOn (now (words .entry)) (now (rules .entry)) place (now (out .entry)) (now (out .exit)) r ⌝ }

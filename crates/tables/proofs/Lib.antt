@@ -6,6 +6,7 @@ pub mod SectionLaws
 pub mod SectionsLaws
 pub mod FlatLaws
 pub mod AllLaws
+pub mod EveryLaws
 pub mod TwinLaws
 pub mod CheckLaws
 pub mod RankLaws
@@ -22,5 +23,7 @@ pub mod PageLaws
 pub mod LaidLaws
 pub mod OneLaws
 pub mod PartLaws
+pub mod ReplaceLaws
 pub mod LoadLaws
+pub mod LateLaws
 pub mod StopLaws

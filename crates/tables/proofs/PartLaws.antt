@@ -20,13 +20,13 @@ use Rattle.tables.proofs.FlatLaws.{length-padded, length-flat, count-at
 use Rattle.tables.proofs.ReachLaws.{reach-words}
 use Rattle.tables.proofs.LeaverLaws.{leavers-words, all-present}
 
-padded-front : (n : ℕ) (xs : List ℕ) → length xs ≤ n → take (length xs) (padded n xs) ≡ xs
+pub padded-front : (n : ℕ) (xs : List ℕ) → length xs ≤ n → take (length xs) (padded n xs) ≡ xs
 unfolding padded
 padded-front n [] l = refl
 padded-front zero (x ∷ xs) l = absurd (omega arith)
 padded-front (suc n) (x ∷ xs) l = ap (λ (r : List ℕ). x ∷ r) (padded-front n xs (omega arith))
 
-part-laid : (ss : List (List ℕ)) (k : ℕ) → length (getD ss k []) ≤ room → take (length (getD ss k [])) (drop (room * k) (laid ss)) ≡ getD ss k []
+pub part-laid : (ss : List (List ℕ)) (k : ℕ) → length (getD ss k []) ≤ room → take (length (getD ss k [])) (drop (room * k) (laid ss)) ≡ getD ss k []
 unfolding laid
 part-laid [] k l = refl
 part-laid (s ∷ ss) zero l =

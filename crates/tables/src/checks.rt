@@ -2,17 +2,16 @@
 // Each check takes the very rows that it is about.
 ghost use mathlib.Core.Path.{_≡_};
 ghost use mathlib.Core.Bool.{true};
-ghost use Prim.Native.Nat.{_+_, _≤_};
-ghost use lib.ListN.{length, take, drop};
+ghost use lib.ListN.{length};
 ghost use Rattle.tables.specs.Checks.{leaversGone, rankStep, ranked, inReach as inReachOf, noTwin, late};
 ghost use Rattle.tables.specs.code.Reads.{coveredBy, reaching, usersMet, CountsFit};
 ghost use Rattle.tables.specs.Tables.{Tables};
 ghost use Rattle.tables.specs.Accepted.{Fits, Bounded};
-ghost use Rattle.tables.specs.code.Layout.{Whole};
-ghost use Rattle.tables.specs.Flat.{wholeLength, room, flat};
+ghost use Rattle.tables.specs.Flat.{flat};
 use crate::Outcome;
 use crate::hierarchy::first_failing;
 use crate::layout;
+use crate::layout::part;
 use crate::twins::apart;
 use answers::Refusal;
 use words::all;
@@ -55,15 +54,6 @@ pub fn in_reach(rows: &[u64], assigned: &[u64], users: &[u64], active: &[u64]) -
         s += 1;
     }
     true
-}
-
-// n words from word `from` on.
-pub fn part(words: &[u64], from: usize, n: usize) -> &[u64]
-    requires { ⌜ (Whole (now words)) × ((from + room ≤ wholeLength) × (n ≤ room)) ⌝ }
-    ensures { λ r. ⌜ now r ≡ take n (drop from (now (words .entry))) ⌝ }
-{
-    let end = from + n;
-    &words[from..end]
 }
 
 // The users who have a role or a session, or stand in a word of CU.

@@ -12,3 +12,4 @@ pub mod JudgedLaws
 pub mod ReportLaws
 pub mod AlikeLaws
 pub mod BothLaws
+pub mod GivenLaws

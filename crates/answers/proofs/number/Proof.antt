@@ -72,10 +72,14 @@ returns-21 c = ap numberOf (sym (c .enum-told21 .given .1))
 returns-22 : tie.Need-returns-22
 returns-22 c = ap numberOf (sym (c .enum-told22 .given .1))
 
+returns-23 : tie.Need-returns-23
+returns-23 c = ap numberOf (sym (c .enum-told23 .given .1))
+
 pub number-spec : {M : Type 1} → statement M
 number-spec =
     tie.close
     (tie.spec
+    (λ c. search needs)
     (λ c. search needs)
     (λ c. search needs)
     (λ c. search needs)
@@ -119,4 +123,5 @@ number-spec =
     returns-19
     returns-20
     returns-21
-    returns-22)
+    returns-22
+    returns-23)

@@ -1,11 +1,11 @@
--- `tables::checks::part`: a part of the words.
+-- `tables::layout::part`: a part of the words.
 -- Assumes nothing.
 use Prim.Native.Nat.{_+_, _-_}
 use mathlib.Core.Path.{_≡_}
 use native.Mathlib.Omega.{arith}
 use borrow.Author.Needs.{needs}
-use Rattle.tables.proofs.checks.part.Statement.{statement}
-use Rattle.tables.proofs.checks.part.Tie as tie
+use Rattle.tables.proofs.layout.part.Statement.{statement}
+use Rattle.tables.proofs.layout.part.Tie as tie
 
 returns : tie.Need-returns
 returns c =

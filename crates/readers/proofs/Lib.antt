@@ -1,0 +1,4 @@
+-- Laws of a reader's sheet.
+pub mod BeyondLaws
+pub mod LineLaws
+pub mod SheetLaws
