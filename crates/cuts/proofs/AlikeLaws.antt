@@ -1,16 +1,15 @@
--- Tables that a reader cannot tell apart are cut alike, and only these; the cut to all users is the tables themselves.
+-- Tables that a reader cannot tell apart are cut alike; the cut to all users is the tables themselves.
 -- Assumes nothing.
 use mathlib.Core.Path.{_≡_, refl, sym, ap, _∙_}
-use mathlib.Core.Bool.{Bool, true, false, not, _&&_, and-true as and-yes}
+use mathlib.Core.Bool.{Bool, true, false, not, _&&_, true≢false, and-true as and-yes}
 use mathlib.Core.List.{List, [], _∷_, _++_, map, append-assoc, append-nil}
 use Prim.Native.Nat.{ℕ, suc, _^_, _≤_, _<_}
-use native.Mathlib.Decide.{ℕ-discrete}
 use native.Mathlib.Omega.{arith}
 use native.Mathlib.Nat.{zero-add}
-use lib.Dec.{eqb, ltb}
-use lib.ListN.{length, getD, length-append, List·getD-append}
+use lib.Dec.{eqb}
+use lib.ListN.{length, length-append, List·getD-append}
 use lib.Seq.{getD-append-seam}
-use borrow.Author.Tests.{lt-ltb, eq-eqb, ne-eqb}
+use borrow.Author.Tests.{lt-ltb, eq-eqb, eqb-true}
 use Rattle.words.specs.Words.{has, allOf, meetOf}
 use Rattle.words.proofs.WordsLaws.{word-ext, word-more, word-self, has-all, has-out, and-true}
 use Rattle.tables.specs.Tables.{Tables}
@@ -44,37 +43,46 @@ new-more ws x y =
     rw (l, getD-append-seam ws x [] 0)
     (ap (λ (b : Bool). b && not (eqb x y)) (all-ext (length ws) _ _ (λ i k. ap (λ (v : ℕ). not (eqb v y)) (List·getD-append ws (x ∷ []) 0 i k))))
 
--- The words seen are those that a new one would be behind.
-record Seen (seen ws : List ℕ) : Type 0 where
-  known : (x : ℕ) → OneOf x seen → isNew ws x ≡ false
-  other : (x : ℕ) → (OneOf x seen → ⊥) → isNew ws x ≡ true
+-- The words seen are those that would not be new.
+pub record Seen (seen ws : List ℕ) : Type 0 where
+  pub known : (x : ℕ) → OneOf x seen → isNew ws x ≡ false
+  pub back : (x : ℕ) → isNew ws x ≡ false → OneOf x seen
 
-seen-none : Seen [] []
+pub seen-none : Seen [] []
 unfolding isNew allTo
-seen-none = record { known = λ x. elim [ ]; other = λ x n. refl }
+seen-none = record { known = λ x. elim [ ]; back = λ x e. absurd (true≢false e) }
 
-seen-more : {seen ws : List ℕ} (x : ℕ) → Seen seen ws → Seen (x ∷ seen) (ws ++ (x ∷ []))
-seen-more {seen} {ws} x s = record { known = known; other = other }
+pub seen-more : {seen ws : List ℕ} (x : ℕ) → Seen seen ws → Seen (x ∷ seen) (ws ++ (x ∷ []))
+seen-more {seen} {ws} x s = record { known = known; back = λ y e. back y (isNew ws y) refl (eqb x y) refl (sym (new-more ws x y) ∙ e) }
   where
     neither : (a b : Bool) → a ≡ false → (a && b) ≡ false
     neither a b e = rw e
 
+    last : (a b : Bool) → b ≡ true → (a && not b) ≡ false
+    last true b e = ap not e
+    last false b e = refl
+
     known : (y : ℕ) → OneOf y (x ∷ seen) → isNew (ws ++ (x ∷ [])) y ≡ false
-    known y first-one = new-more ws x y ∙ last (isNew ws y) (eq-eqb x y refl)
-      where
-        last : (a : Bool) {b : Bool} → b ≡ true → (a && not b) ≡ false
-        last true e = ap not e
-        last false e = refl
+    known y first-one = new-more ws x y ∙ last (isNew ws y) (eqb x y) (eq-eqb x y refl)
     known y (later-one o) = new-more ws x y ∙ neither (isNew ws y) (not (eqb x y)) (s .known y o)
 
-    other : (y : ℕ) → (OneOf y (x ∷ seen) → ⊥) → isNew (ws ++ (x ∷ [])) y ≡ true
-    other y n = new-more ws x y ∙ rw (s .other y (λ o. n (later-one o)), ne-eqb x y (λ e. n (rw e first-one)))
+    back : (y : ℕ) (a : Bool) → isNew ws y ≡ a → (b : Bool) → eqb x y ≡ b → (a && not b) ≡ false → OneOf y (x ∷ seen)
+    back y false p b q e = later-one (s .back y p)
+    back y true p true q e = rw (eqb-true x y q) first-one
+    back y true p false q e = absurd (true≢false e)
 
-once-firsts : {seen ws xs ys : List ℕ} → Seen seen ws → Once seen xs ys → firstsBehind ws xs ≡ ws ++ ys
+seen-other : {seen ws : List ℕ} → Seen seen ws → (x : ℕ) → (OneOf x seen → ⊥) → isNew ws x ≡ true
+seen-other {seen} {ws} s x n = go (isNew ws x) refl
+  where
+    go : (b : Bool) → isNew ws x ≡ b → isNew ws x ≡ true
+    go true e = e
+    go false e = absurd (n (s .back x e))
+
+pub once-firsts : {seen ws xs ys : List ℕ} → Seen seen ws → Once seen xs ys → firstsBehind ws xs ≡ ws ++ ys
 unfolding firstsBehind
 once-firsts {ws = ws} s no-words = sym (append-nil ws)
 once-firsts {ws = ws} s (new-word {x = x} {ys = ys} n o) =
-    rw (s .other x n) (once-firsts (seen-more x s) o ∙ append-assoc ws (x ∷ []) ys)
+    rw (seen-other s x n) (once-firsts (seen-more x s) o ∙ append-assoc ws (x ∷ []) ys)
 once-firsts s (seen-word {x = x} k o) = rw (s .known x k) (once-firsts s o)
 
 words-alike : (w : ℕ) {cs ds : List ℕ} → SameWords w cs ds → wordsFor w cs ≡ wordsFor w ds

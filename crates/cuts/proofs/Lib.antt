@@ -3,6 +3,7 @@ pub mod FirstsLaws
 pub mod CutLaws
 pub mod PassLaws
 pub mod AlikeLaws
+pub mod SeenLaws
 pub mod KeepLaws
 pub mod ReplacingLaws
 pub mod MadeLaws

@@ -158,7 +158,8 @@ fn users(words: &mut [u64], reader: u64)
     let mut kept = [0u64; ROOM];
     let count = words[USER_COUNT] as usize;
     keep_rows(part(words, USER_ROWS, count), reader, &mut kept);
-    words[PRESENT] = meet(words[PRESENT], reader);
+    let present = words[PRESENT];
+    words[PRESENT] = meet(present, reader);
     replace(words, USER_ROWS, &kept);
 }
 

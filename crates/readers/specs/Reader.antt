@@ -27,7 +27,7 @@ pub record Beyond (w : ℕ) (T : Tables) : Type 0 where
   pub above : length (T .users) ≤ user
 
 unfoldable pub isBeyond : ℕ → Tables → Bool
-isBeyond w T = anyTo 64 (λ u. has w u && leb (length (T .users)) u)
+isBeyond w T = anyTo 64 (λ u. leb (length (T .users)) u && has w u)
 
 -- "Refused tables give their number"; 23 "after the tables' checks and before the rules' length is looked at"; "one line of this sheet, without
 -- byte 10, .. any other place gives length 0". But for 17.

@@ -1,5 +1,6 @@
 -- `readers::line` lends the reader's line: refused tables first, then the reader's word, then the line of the cut tables.
 -- Assumes nothing.
+use native.Mathlib.Omega.{arith}
 use borrow.Author.Needs.{needs}
 use Rattle.verdicts.proofs.LoadedLaws.{load-rejected, load-taken}
 use Rattle.readers.proofs.LineLaws.{line-rejected, took-fits, count-few, cut-loaded, line-beyond, line-lent}
@@ -10,7 +11,7 @@ outside-requires : tie.Need-outside-requires
 outside-requires c κs =
     let at-load = c .before .before .before in
     let at-start = c .before .before .before .before .before .before .before .before in
-    count-few (load-taken (at-start .args .tables .now) (at-load .load .ensures .0) (at-load .load .ensures .1 .0) (c .enum-told .given .1))
+    omega (arith, count-few (load-taken (at-start .args .tables .now) (at-load .load .ensures .0) (at-load .load .ensures .1 .0) (c .enum-told .given .1)))
 
 returns : tie.Need-returns
 returns c =
