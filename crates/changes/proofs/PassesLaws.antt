@@ -7,18 +7,17 @@ use mathlib.Core.Option.{Option, none, some}
 use Prim.Native.Nat.{ℕ, zero, suc, _^_, _<_, _≤_}
 use native.Mathlib.Omega.{arith}
 use lib.Dec.{eqb, ltb}
-use lib.ListN.{length, getD, take, drop, length-append}
+use lib.ListN.{length, take, drop, length-append}
 use borrow.Author.Tests.{ltb-true, ne-eqb}
 use Rattle.words.specs.Words.{has}
-use Rattle.words.proofs.WordsLaws.{and-true, and-both}
 use Rattle.answers.specs.declared.Refusal.{Refusal}
-use Rattle.tables.specs.Tables.{Session, Tables, userRows, isPresent, sessionUsers}
+use Rattle.tables.specs.Tables.{Session, Tables, isPresent}
 use Rattle.tables.specs.Functions.{juniorsOfUsers}
-use Rattle.tables.specs.Checks.{allTo, withdrawn, leaversGone, inReach}
+use Rattle.tables.specs.Checks.{withdrawn, leaversGone, inReach}
 use Rattle.tables.specs.Accepted.{Known, Passes}
 use Rattle.tables.proofs.AllLaws.{all-every, all-at}
 use Rattle.tables.proofs.EveryLaws.{each-all, all-each}
-use Rattle.tables.proofs.LateLaws.{late-each, each-late}
+use Rattle.tables.proofs.LateLaws.{is-withdrawn, of-withdrawn, late-each, each-late}
 use Rattle.changes.specs.declared.Change.{Change}
 use Rattle.changes.specs.declared.Change.the-variants.{Opening, Closing}
 use Rattle.changes.specs.Change.{newSession, sessionsBy, changed, reaches, changeChecks, firstDue, changeRefusal}
@@ -80,15 +79,10 @@ module _ (T : Tables) (c : Change) (e : changeRefusal T c ≡ none) where
   other-new (Closing k) e v h = tt
 
   withdrawn-changed : (v : ℕ) → isPresent (T .users) v ≡ false → withdrawn T v ≡ true → withdrawn (changed T c) v ≡ true
-  unfolding withdrawn
   withdrawn-changed v h q =
-      let none = allTo (length (T .sessions)) (λ s. not (eqb (getD (sessionUsers T) s 0) v)) in
-      let unnamed = allTo (length (T .cu)) (λ i. not (has (getD (T .cu) i 0) v)) in
-      let a = and-true (eqb (getD (userRows T) v 0) 0) (none && unnamed) q in
-      let b = and-true none unnamed (a .1) in
-      let f : ℕ → ℕ → Bool = λ x y. not (eqb x v) in
-      let each = every-changed (λ s. not (eqb (s .user) v) ≡ true) c (T .sessions) (other-new c e v h) (all-each f (T .sessions) (b .0)) in
-      and-both (a .0) (and-both (each-all f (sessionsBy c (T .sessions)) each) (b .1))
+      let w = of-withdrawn T v q in
+      let each = every-changed (λ s. not (eqb (s .user) v) ≡ true) c (T .sessions) (other-new c e v h) (w .sessions) in
+      is-withdrawn (changed T c) v (record { row = w .row; sessions = each; words = w .words })
 
   gone-changed : leaversGone T ≡ true → leaversGone (changed T c) ≡ true
   unfolding leaversGone

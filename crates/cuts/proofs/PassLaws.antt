@@ -9,19 +9,19 @@ use native.Mathlib.Nat.{zero-add}
 use lib.Dec.{eqb}
 use lib.ListN.{length, getD, length-map}
 use lib.Pow.{pow-pos}
-use borrow.Author.Tests.{eq-eqb, ne-eqb, eqb-true}
+use borrow.Author.Tests.{ne-eqb}
 use Rattle.words.specs.Words.{has, gate, anyTo, itemOf, meetOf}
 use Rattle.words.specs.Relations.{reach}
 use Rattle.words.proofs.WordsLaws.{word-ext, word-more, word-lt, has-meet, has-out, and-true, and-both}
-use Rattle.tables.specs.Tables.{User, Session, Deed, Tables, userRows, isPresent, sessionUsers}
+use Rattle.tables.specs.Tables.{User, Session, Deed, Tables, userRows, isPresent}
 use Rattle.tables.specs.Functions.{dominates, assigned, juniorsOfUsers}
 use Rattle.tables.specs.Checks.{allTo, implies, withdrawn, leaversGone, inReach, apart, noTwin}
 use Rattle.tables.specs.Accepted.{Fits, Below, Known, KnownDeed, Every, Bounded, Passes}
 use Rattle.tables.proofs.AllLaws.{all-every, all-at}
 use Rattle.words.proofs.RelationLaws.{some-item}
 use Rattle.tables.proofs.EncodeLaws.{below-every}
-use Rattle.tables.proofs.EveryLaws.{every-map, every-both, every-below, words-all, all-words, each-all, all-each}
-use Rattle.tables.proofs.LateLaws.{late-each, each-late}
+use Rattle.tables.proofs.EveryLaws.{every-map, every-both, every-below, each-all, all-each}
+use Rattle.tables.proofs.LateLaws.{is-withdrawn, of-withdrawn, late-each, each-late}
 use Rattle.cuts.specs.Cut.{rowsFrom, sessionsFor, wordsFor, doneFor, withPeople, cut}
 use Rattle.cuts.specs.code.Cutting.{seenSessions, seenDone, seenWords}
 use Rattle.cuts.proofs.FirstsLaws.{firsts-few, firsts-every, firsts-apart, none-apart}
@@ -67,34 +67,6 @@ module _ (w : ℕ) {T : Tables} (f : Fits T) where
 
   pub fits-words : Fits (seenWords w T)
   fits-words = fits-people f _ _ _ _ (f .users) (f .sessions) few-words (f .done)
-
--- ---- who is withdrawn, by lists
-
-module _ (T : Tables) (u : ℕ) where
-  record Withdrawn : Type 0 where
-    row : getD (userRows T) u 0 ≡ 0
-    sessions : Every (λ s. not (eqb (s .user) u) ≡ true) (T .sessions)
-    words : Every (λ x. not (has x u) ≡ true) (T .cu)
-
-  abbrev other : ℕ → ℕ → Bool
-  other v a = not (eqb v u)
-
-  abbrev unnamed : ℕ → Bool
-  unnamed x = not (has x u)
-
-  is-withdrawn : Withdrawn → withdrawn T u ≡ true
-  unfolding withdrawn
-  is-withdrawn x =
-      and-both (eq-eqb (getD (userRows T) u 0) 0 (x .row)) (and-both (each-all other (T .sessions) (x .sessions)) (words-all unnamed (T .cu) (x .words)))
-
-  of-withdrawn : withdrawn T u ≡ true → Withdrawn
-  unfolding withdrawn
-  of-withdrawn h =
-      let noSession = allTo (length (T .sessions)) (λ s. not (eqb (getD (sessionUsers T) s 0) u)) in
-      let noWord = allTo (length (T .cu)) (λ i. not (has (getD (T .cu) i 0) u)) in
-      let p = and-true (eqb (getD (userRows T) u 0) 0) (noSession && noWord) h in
-      let q = and-true noSession noWord (p .1) in
-      record { row = eqb-true (getD (userRows T) u 0) 0 (p .0); sessions = all-each other (T .sessions) (q .0); words = all-words unnamed (T .cu) (q .1) }
 
 -- ---- a cut word
 

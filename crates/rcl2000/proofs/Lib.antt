@@ -17,4 +17,5 @@ pub mod SessionLaws
 pub mod SessionDemands
 pub mod Examples
 pub mod ReaderLaws
+pub mod ReaderCeilingLaws
 pub mod ReaderDemands

@@ -5,6 +5,7 @@ use mathlib.Core.List.{List, [], _++_}
 use mathlib.Core.Logic.{_↔_}
 use mathlib.Core.Option.{none, some}
 use Prim.Native.Nat.{ℕ, suc, _*_, _≤_, _<_}
+use native.Mathlib.Nat.{le-trans}
 use native.Mathlib.Omega.{arith}
 use lib.ListN.{length, take, getElem?}
 use Rattle.answers.specs.Refusal.{numberOf}
@@ -19,19 +20,24 @@ use Rattle.tables.proofs.FitsLaws.{accepted-passes}
 use Rattle.texts.specs.Decimal.{decimalOf}
 use Rattle.texts.specs.Pieces.{lines}
 use Rattle.syntax.specs.Bytes.{Bytes, ascii}
-use Rattle.syntax.specs.Rule.{Rule, ruleOf}
+use Rattle.syntax.specs.Rule.{Rule, ruleVars, ruleOf}
 use Rattle.rules.specs.Accept.{refusal}
+use Rattle.forecasts.proofs.ForecastLaws.{full-below}
 use Rattle.sheets.specs.Line.{labelled}
-use Rattle.sheets.specs.Sheet.{only, sheetOf, sheetLine}
+use Rattle.sheets.specs.Sheet.{only, sheetOf, sheetLine, longestLine}
 use Rattle.sheets.specs.Promise.{LineReports, TotalReports}
 use Rattle.sheets.proofs.Demands.{line-tells, line-refused as text-refused, long-only, above-reports, nothing-further}
 use Rattle.sheets.proofs.SheetLaws.{first-line, no-line, no-place}
+use Rattle.sheets.proofs.ShortLaws.{sheet-short}
 use Rattle.cuts.specs.Cut.{cut}
 use Rattle.cuts.specs.Alike.{SeenAlike}
+use Rattle.cuts.proofs.PassLaws.{cut-passes}
 use Rattle.readers.specs.Reader.{readerSheet, Beyond, readerLine}
 use Rattle.readers.proofs.SheetLaws.{cut-accepted, line-written, lines-alike, none-beyond, whole-sheet}
-use Rattle.rcl2000.specs.Calls.{Sees, Writes, Ends, ListsLine, DayLine, LineRefuses, LineNumber}
+use Rattle.rcl2000.specs.Calls.{Sees, Writes, Ends, Forecasts, toldCeiling, ListsLine, DayLine, LineRefuses, LineNumber}
 use Rattle.rcl2000.proofs.CallLaws.{through, lent-room, sees-wrote, refuses-exactly, writes-exactly, call-ends}
+use Rattle.rcl2000.proofs.ForecastDemands.{forecast-writes}
+use Rattle.rcl2000.proofs.ReaderCeilingLaws.{ceiling-most}
 use Rattle.rcl2000.proofs.ReaderLaws.{line-cut, line-short, line-refused, line-own}
 
 -- DEMAND 1. "finishes with an answer or a numbered refusal; a refusal carries no result and changes no lent byte".
@@ -81,6 +87,14 @@ module _ (tables : Bytes) (T : Tables) (t : tablesOf tables ≡ taken T) (w : �
       cc (line-cut tables w rules place t known, lent-wrote (length old) (readerLine tables w rules place) (x .0) (x .1)) in
       rw same (sees-wrote s (line-short tables w rules place) (x .1))
 
+  -- No line is longer than 96 bytes, so an output of as many is never too short.
+  pub line-fits : (place : ℕ) (old new : Bytes) (r : ℕ) → longestLine ≤ length old → ListsLine tables w rules place old new r → r ≤ longestLine
+  line-fits place old new r room s =
+      let most = sheet-short seen rules place in
+      let fits = lent-fits (length old) (sheetLine (sheetOf seen rules) place) (omega arith) in
+      let is = sees-wrote s (line-short tables w rules place) (ap (lent (length old)) (line-cut tables w rules place t known) ∙ fits) in
+      omega (arith, is .number)
+
   -- "any other place gives length 0", on every lent output: at place 0,
   nothing-lent : (place : ℕ) (old new : Bytes) (r : ℕ) → ListsLine tables w rules place old new r → sheetLine (sheetOf seen rules) place ≡ [] → (r ≡ 0) × (new ≡ old)
   unfolding reply outputAfter
@@ -113,6 +127,16 @@ module _ (tables : Bytes) (T : Tables) (t : tablesOf tables ≡ taken T) (w : �
         → (old new : Bytes) (r : ℕ) → ListsLine tables w rules (suc k) old new r → r < 65536 → LineReports (cut w T) ρ (suc k) (take r new)
     line-reports k rule ρ at ok tree old new r s l =
         rw (line-writes (suc k) old new r s l .front) (line-tells seen rules (cut w T) (reader-lines .0) short k rule at ok tree)
+
+    -- N5, of a reader: "Full is never above the ceiling" that `forecast` told of the rule on the whole tables.
+    pub line-within : (k : ℕ) (rule : Bytes) (ρ : Rule) → refusal rule ≡ none → ruleOf rule ≡ some ρ → (text : Bytes) (x : LineReports (cut w T) ρ (suc k) text)
+        → (old new : Bytes) (r : ℕ) → Forecasts tables rule old new r → r < 65536 → x .verdict .full ≤ toldCeiling new
+    line-within k rule ρ ok tree text x old new r s l =
+        let (S, π, g, room, n, told) = forecast-writes tables rule old new r s .0 l in
+        let one : S ≡ T = cc (g .reads, t) in
+        let other : π ≡ ρ = cc (g .tree, tree) in
+        let fits = cut-passes w T (accepted-passes tables t) .sound .fits in
+        rw (x .reports .1 .fulls, told .most, one, other) (le-trans (full-below (cut w T) fits ρ) (ceiling-most w T (ruleVars [] ρ)))
 
     pub line-numbers : (k : ℕ) (rule : Bytes) (e : Refusal) → getElem? (lines rules) k ≡ some rule → refusal rule ≡ some e
         → (old new : Bytes) (r : ℕ) → ListsLine tables w rules (suc k) old new r → r < 65536

@@ -52,3 +52,7 @@ textOr (some w) = w
 unfoldable pub sheetLine : List Bytes → ℕ → Bytes
 sheetLine ls zero = []
 sheetLine ls (suc k) = textOr (getElem? ls k)
+
+-- No line has more bytes: that is a law (`ShortLaws.sheet-short`), and nothing depends on it but the outputs that callers lend.
+abbrev pub longestLine : ℕ
+longestLine = 96

@@ -1,4 +1,4 @@
--- `sheet_line`: what the crate below said, as the tracker's number; no line has 512 bytes.
+-- `sheet_line`: what the crate below said, as the tracker's number; no line has more than 96 bytes.
 -- Assumes nothing.
 use borrow.Author.Needs.{needs}
 use Rattle.rcl2000.proofs.CallLaws.{call-fits, call-seen}
