@@ -25,16 +25,18 @@
  *   large one says nothing, and where it is 0 the rule is idle, which judge sees at once. It is for the tables that
  *   forecast is handed, and may be higher once a session is opened. judge_page takes about what judge takes for its
  *   lines, and less where many lines choose alike. sessions_start, session_open and session_close take about what judge
- *   does; where the rule mentions neither S nor sessions, opening and closing take microseconds.
+ *   does; where the rule mentions neither S nor sessions, opening and closing take microseconds. sheet_line takes about
+ *   what judge does for the rule of its line, and for the total what it does for all rules; a ceiling for the whole
+ *   tables is one for every reader.
  * - Stack. All memory comes from the stack of the thread that calls, at the most RCL2000_STACK_REDUCE,
  *   RCL2000_STACK_REBUILD, RCL2000_STACK_JUDGE, RCL2000_STACK_JUDGE_PAGE, RCL2000_STACK_RANK_STEP,
- *   RCL2000_STACK_FORECAST, RCL2000_STACK_SESSIONS_START, RCL2000_STACK_SESSION_OPEN and RCL2000_STACK_SESSION_CLOSE
- *   bytes, whatever the input. (Measured and tested, not proved.)
+ *   RCL2000_STACK_FORECAST, RCL2000_STACK_SESSIONS_START, RCL2000_STACK_SESSION_OPEN, RCL2000_STACK_SESSION_CLOSE and
+ *   RCL2000_STACK_SHEET_LINE bytes, whatever the input. (Measured and tested, not proved.)
  * - Threads. Nothing is kept between calls or shared: any number of threads may call at once. A state is bytes that the
  *   caller keeps.
- * - Names. The archive defines the nine names below and no other, and needs memcpy and memset. A program with a
- *   function of its own called reduce, rebuild, judge, judge_page, rank_step, forecast, sessions_start, session_open or
- *   session_close cannot link it.
+ * - Names. The archive defines the ten names below and no other, and needs memcpy and memset. A program with a
+ *   function of its own called reduce, rebuild, judge, judge_page, rank_step, forecast, sessions_start, session_open,
+ *   session_close or sheet_line cannot link it.
  * - Machine. x86-64 Linux.
  *
  * Tables end with section 10, Done, who already did what: a count of at most 64, then rows of three bytes, the numbers
@@ -47,6 +49,17 @@
  * session is opened behind the last, and closing one moves those after it down by one: the number of a session falls
  * whenever one before it is closed, so no number may be kept across a close. A refused call writes nothing, and the
  * state that it was handed is still the current one.
+ *
+ * A reader of the day sheet is a word of users, and is shown nothing of the others: sheet_line judges with every other
+ * user as left (mark 2, word 0), their sessions and rows of Done taken out, and each word of CU cut to the reader's users.
+ * Equal sheets say nothing of other people: on accepted tables in which the reader's users have the same rows, sessions,
+ * rows of Done and words of CU, in the same sequence, every call for that reader returns the same number and writes the
+ * same bytes, whatever the others hold, have open or did. The roles, operations, objects, permissions, CR, CP and the
+ * number of users are seen by every reader, and so is the number for which tables are refused. A user keeps the number on
+ * every sheet; sessions are numbered among the reader's own; of words of CU that become equal the earliest stays, so that
+ * those behind the others have lower numbers, and of words without any of the reader's users one empty word stays. Who
+ * left and is among the reader's users is still one who left. The reader of all users sees the day sheet itself, and the
+ * word 0 is a reader, too.
  */
 #ifndef RCL2000_H
 #define RCL2000_H
@@ -72,6 +85,10 @@
 /* The most bytes that a state has: 28, and those of the longest rule and the largest tables. */
 #define RCL2000_MAX_STATE 4262
 
+/* The most bytes of rules that a sheet is made of; the most bytes that a line of it has. */
+#define RCL2000_MAX_RULES 32768
+#define RCL2000_MAX_LINE 96
+
 /* The stack that each call takes at the most, in bytes. */
 #define RCL2000_STACK_REDUCE (16 * 1024)
 #define RCL2000_STACK_REBUILD (48 * 1024)
@@ -82,6 +99,7 @@
 #define RCL2000_STACK_SESSIONS_START (64 * 1024)
 #define RCL2000_STACK_SESSION_OPEN (64 * 1024)
 #define RCL2000_STACK_SESSION_CLOSE (64 * 1024)
+#define RCL2000_STACK_SHEET_LINE (64 * 1024)
 
 /* A verdict is 26 bytes: the word, full and breaking as numbers of 8 bytes, lowest byte first, the first breaking choice
    by variable, and the share: the nearest whole per cent, for an exact half the even one (1 of 8 is 12, 3 of 8 are 38).
@@ -147,7 +165,8 @@ enum rcl2000_refusal {
     RCL2000_PAGE = 19,             /* the page has no line or more than 32 */
     RCL2000_LEFT = 20,             /* a user who left has a role or a session, or is to open one, or is in a word of CU */
     RCL2000_FULL_HOUSE = 21,       /* 64 sessions are open, and no more can be opened */
-    RCL2000_NOT_OPEN = 22          /* no session with this number is open */
+    RCL2000_NOT_OPEN = 22,         /* no session with this number is open */
+    RCL2000_READER = 23            /* the reader is to see a user whom the tables do not have */
 };
 
 /* The steps of the rank test, in the order in which they are taken, each over all roles. */
@@ -206,6 +225,14 @@ uint32_t session_open(const uint8_t *state, size_t state_length, uint32_t user, 
 /* The state after the session with this number, from 0, was closed. The numbers of those behind it fall by one.
    Refusals: 22, 17; before them those of bytes that no call gave as a state, as for session_open. */
 uint32_t session_close(const uint8_t *state, size_t state_length, uint32_t number, uint8_t *out, size_t out_length);
+
+/* One line of the day sheet as a reader sees it, without byte 10, at most RCL2000_MAX_LINE bytes. Bit i of the reader's
+   word stands for user i. The rules are the bytes of rules.txt, and the place counts from 1; straight behind the line of
+   the last rule stands the total. Rules of more than RCL2000_MAX_RULES bytes have the one line `rules too long`. At any
+   other place there is no line: 0 is returned, on every sheet and whatever is lent. A rule that is refused has a line.
+   Refusals: 1 to 10, 20; 23, before the rules are looked at; 17 where there is a line. */
+uint32_t sheet_line(const uint8_t *tables, size_t tables_length, uint64_t reader, const uint8_t *rules,
+                    size_t rules_length, size_t place, uint8_t *out, size_t out_length);
 
 #ifdef __cplusplus
 }

@@ -16,7 +16,7 @@ const FOLDER: &str = "RCL2000_LIB_DIR";
 const ARCHIVE: &str = "librcl2000.a";
 
 /// The functions that the archive must have.
-const CALLS: [&str; 9] = [
+const CALLS: [&str; 10] = [
     "reduce",
     "rebuild",
     "judge",
@@ -26,6 +26,7 @@ const CALLS: [&str; 9] = [
     "sessions_start",
     "session_open",
     "session_close",
+    "sheet_line",
 ];
 
 const HOW: &str = "run `rt staticlib rcl2000` at the root of the repository";

@@ -38,6 +38,12 @@ const EIGHT: &[u8] = b"\x01\x01\0\0\0\0\0\0\0\x08\x01\x01\0\0\0\0\0\0\0\
 const DONE: &[u8] = b"\0\x02\x01\0\0\0\0\0\0\0\0\x01\0\0\0\0\0\0\0\0\0\x01\x02\x02\
     \x01\0\0\0\0\0\0\0\0\x01\0\0\0\0\0\0\0\0\0\0\0\x01\x01\0\x01";
 
+/// Three users, two sessions of the first and then one of the last, and CU words of the first two, of the second, and of
+/// the first and the last.
+const FAMILIES: &[u8] = b"\0\x03\x01\0\0\0\0\0\0\0\0\x01\0\0\0\0\0\0\0\0\x01\0\0\0\0\0\0\0\0\
+    \x03\0\0\0\0\0\0\0\0\0\0\0\0\0\0\0\0\0\0\x02\0\0\0\0\0\0\0\0\0\0\0\0\
+    \x03\x03\0\0\0\0\0\0\0\x02\0\0\0\0\0\0\0\x05\0\0\0\0\0\0\0\0\0";
+
 /// The beginning of tables with one user, who has 64 sessions without a role.
 const FULL: &[u8] = b"\0\x01\x01\0\0\0\0\0\0\0\0\x40";
 
@@ -69,6 +75,7 @@ fn main() {
     hierarchies_pages_and_forecasts();
     leavers_shares_and_done();
     sessions_that_come_and_go();
+    what_a_reader_sees();
 }
 
 /// The calls of document 01: arguments, numbers, lengths, the bytes of a verdict.
@@ -165,6 +172,43 @@ fn sessions_that_come_and_go() {
     let full = [&HELD[..], b"\x03\0", b"U=U", FULL, &[0; 64 * 9 + 7]].concat();
     holds("21 before 5", refused(21), |out| {
         library::session_open(&full, 1, 0, out)
+    });
+}
+
+/// A reader of the last two users (N10) sees the last session as number 0 and two words of CU, a reader of the first
+/// none of what the second did, one of all the day sheet, whose total stands behind the last line; 20 comes before 23,
+/// 23 before the length of the rules, and a place without a line needs no room.
+fn what_a_reader_sees() {
+    let rule = b"OE(S)@S^(user(S)&OE(CU))={}";
+    holds("N10", (25, b"1 broken 2 1 50 v1=0 v2=1"), |out| {
+        library::sheet_line(FAMILIES, 0b110, rule, 1, out)
+    });
+    let rules = b"done(U,OE(OBJ))={}\n";
+    let asked = |tables: &'static [u8], reader: u64, place: usize| {
+        move |out: &mut [u8]| library::sheet_line(tables, reader, rules, place, out)
+    };
+    holds("Done of a reader", (12, b"1 held 2 0 0"), asked(DONE, 1, 1));
+    holds(
+        "all users",
+        (20, b"1 broken 2 1 50 v1=1"),
+        asked(DONE, 3, 1),
+    );
+    holds(
+        "a reader's total",
+        (40, b"total 1 held 1 idle 0 broken 0 refused 0"),
+        asked(DONE, 1, 2),
+    );
+    holds("23", refused(23), asked(DONE, 4, 1));
+    holds("20 before 23", refused(20), asked(BACK, 2, 1));
+    let long = [b'\n'; 32_769];
+    holds("23 before the rules", refused(23), |out| {
+        library::sheet_line(DONE, 4, &long, 1, out)
+    });
+    holds("rules too long", (14, b"rules too long"), |out| {
+        library::sheet_line(DONE, 1, &long, 1, out)
+    });
+    holds("no line", (0, b""), |_| {
+        library::sheet_line(DONE, 1, rules, 3, &mut [])
     });
 }
 

@@ -1,9 +1,10 @@
-//! Times the proved library beside the reference's fast modules, in the same run, pages and sessions that come and
-//! go beside calls of `judge`, and calls by their ceilings, and prints the tables of docs/BENCHMARKS.md. `bench
-//! ROUNDS` sets how many rounds each median is of; `bench ROUNDS calls`, `pages`, `sessions` or `waits` prints that
-//! table alone.
+//! Times the proved library beside the reference's fast modules, in the same run, pages, sessions that come and go
+//! and readers' sheets beside calls of `judge`, and calls by their ceilings, and prints the tables of
+//! docs/BENCHMARKS.md. `bench ROUNDS` sets how many rounds each median is of; `bench ROUNDS calls`, `pages`,
+//! `sessions`, `readers` or `waits` prints that table alone.
 
 mod pages;
+mod readers;
 mod sessions;
 mod waits;
 
@@ -71,6 +72,9 @@ fn main() {
     }
     if wanted("sessions") {
         sessions::table(&random, &office, rounds);
+    }
+    if wanted("readers") {
+        readers::table(&random, &office, rounds);
     }
     if wanted("waits") {
         waits::table();

@@ -1,6 +1,6 @@
 //! Calls of the proved library held against an expected answer, byte by byte.
 
-use rcl2000::{PageRefusal, RankStep};
+use rcl2000::{PageRefusal, RankStep, Reader};
 use reference::page::{FAST, PLAIN};
 use reference::protocol::{hex, FILL};
 use reference::sessions::Change;
@@ -42,6 +42,8 @@ pub enum Question {
     SessionsStart(Box<[u8]>, Box<[u8]>),
     /// A session to be opened or closed in a state.
     Session(Box<[u8]>, Change),
+    /// The line of tables, a reader's word and rules at a place.
+    SheetLine(Box<[u8]>, u64, Box<[u8]>, usize),
 }
 
 impl Question {
@@ -73,6 +75,10 @@ impl Question {
         Question::Session(state.into(), change)
     }
 
+    pub fn sheet_line(tables: Vec<u8>, reader: u64, rules: Vec<u8>, place: usize) -> Question {
+        Question::SheetLine(tables.into(), reader, rules.into(), place)
+    }
+
     /// The name of the call that it is asked by.
     pub fn call(&self) -> &'static str {
         match self {
@@ -85,6 +91,7 @@ impl Question {
             Question::SessionsStart(..) => "sessions_start",
             Question::Session(_, Change::Open { .. }) => "session_open",
             Question::Session(_, Change::Close { .. }) => "session_close",
+            Question::SheetLine(..) => "sheet_line",
         }
     }
 
@@ -108,6 +115,9 @@ impl Question {
             Question::Session(state, Change::Close { number }) => {
                 rcl2000::session_close_into(state, *number, out)
             }
+            Question::SheetLine(tables, reader, rules, place) => {
+                rcl2000::sheet_line_into(tables, Reader::from_word(*reader), rules, *place, out)
+            }
         };
         answer.map_err(PageRefusal::from)
     }
@@ -129,6 +139,9 @@ impl Question {
             }
             Question::SessionsStart(tables, rule) => reference::fast::sessions::start(tables, rule),
             Question::Session(state, change) => reference::fast::sessions::next(state, *change),
+            Question::SheetLine(tables, reader, rules, place) => {
+                reference::fast::readers::line(tables, *reader, rules, *place)
+            }
         };
         answer.map_err(Refused::from)
     }
@@ -150,6 +163,9 @@ impl Question {
             }
             Question::SessionsStart(tables, rule) => reference::sessions::start(tables, rule),
             Question::Session(state, change) => reference::sessions::next(state, *change),
+            Question::SheetLine(tables, reader, rules, place) => {
+                reference::readers::line(tables, *reader, rules, *place)
+            }
         };
         answer.map_err(Refused::from)
     }
@@ -195,6 +211,11 @@ impl Question {
                     Change::Close { number } => format!("c:{number}"),
                 };
                 format!("session {} {call} {length}", hex(state))
+            }
+            Question::SheetLine(tables, reader, rules, place) => {
+                let (tables, rules) = (hex(tables), hex(rules));
+                let reader = hex(&reader.to_le_bytes());
+                format!("line {tables} {reader} {rules} {place} {length}")
             }
         }
     }
@@ -242,7 +263,7 @@ impl Question {
 
 /// How often each answer was met, by its number.
 #[derive(Default)]
-pub struct Met([u64; 23]);
+pub struct Met([u64; 24]);
 
 impl Met {
     pub fn note(&mut self, number: usize) {

@@ -1,6 +1,6 @@
 //! Inputs that are meant to hurt: long, deep, endless when written out, on the largest tables.
 
-use rcl2000::{MAX_RULE, MIN_TABLES};
+use rcl2000::{MAX_RULE, MAX_RULES, MIN_TABLES};
 use reference::sessions::Change;
 
 use crate::formulas::doubling;
@@ -15,7 +15,7 @@ const MEGABYTES: usize = 4 << 20;
 
 /// All of them, made part by part while they are asked for: together they have more than a gigabyte.
 pub fn questions() -> impl Iterator<Item = Question> {
-    let parts: [fn() -> Vec<Question>; 15] = [
+    let parts: [fn() -> Vec<Question>; 16] = [
         brackets,
         nested,
         deepest_rules,
@@ -31,13 +31,14 @@ pub fn questions() -> impl Iterator<Item = Question> {
         nobody_present,
         named_last,
         long_states,
+        long_sheets,
     ];
     repeated().chain(parts.into_iter().flat_map(|part| part()))
 }
 
 /// The same text as a rule, as a formula, as tables, a rule and an order, and as a page; as tables for the
 /// rank test, too, and as tables and as a rule of a forecast and of a start; as a state, and as the rule and the tables
-/// in one.
+/// in one; as the tables of a sheet, and as its rules, for the first line and for the total behind one.
 fn everywhere(text: Vec<u8>) -> Vec<Question> {
     let nobody = vec![0; MIN_TABLES];
     vec![
@@ -57,6 +58,9 @@ fn everywhere(text: Vec<u8>) -> Vec<Question> {
         Question::session(text.clone(), CLOSE),
         Question::session(sessions::state(b"S=S", &text), OPEN),
         Question::session(sessions::state(longest_part(&text), &nobody), CLOSE),
+        Question::sheet_line(text.clone(), 0, b"U=U".to_vec(), 1),
+        Question::sheet_line(nobody.clone(), 0, text.clone(), 1),
+        Question::sheet_line(nobody, 0, text, 2),
     ]
 }
 
@@ -275,17 +279,21 @@ fn second_plans() -> Vec<Question> {
     questions
 }
 
-/// What sessions that come and go are judged by at the greatest length or depth: rules that mention S, on a few sessions,
-/// and those that need another plan, or are source document 002's, on as many as there may be.
-fn long_states() -> Vec<Question> {
-    let random = &mut Random::new(27);
-    let few = Plain {
+/// A user with a role, and two sessions.
+fn two_sessions() -> Plain {
+    Plain {
         roles: vec![1],
         users: vec![1],
         sessions: vec![(0, 1); 2],
         ..Plain::default()
-    };
-    let all = all_roles(random);
+    }
+}
+
+/// What sessions that come and go are judged by at the greatest length or depth: rules that mention S, on a few sessions,
+/// and those that need another plan, or are source document 002's, on as many as there may be.
+fn long_states() -> Vec<Question> {
+    let random = &mut Random::new(27);
+    let (few, all) = (two_sessions(), all_roles(random));
     let longest = (1..=8).map(rules::longest_formula);
     let of_sessions = deepest().into_iter().chain(longest);
     let of_sessions = of_sessions.map(|rule| (&few, rule.replace('U', "S")));
@@ -312,6 +320,46 @@ fn coming_and_going(plain: &Plain, rule: &str) -> Vec<Question> {
     let mut questions = vec![start];
     questions.extend(calls.map(|(state, change)| Question::session(state, change)));
     questions
+}
+
+/// What a reader's lines go deepest for: rules of the greatest length or depth on a user with two sessions; those that
+/// need another plan, and source document 002's, on the largest tables for all users and for all but one; eight users
+/// for a reader of nobody; each alone, and all of them in the total.
+fn long_sheets() -> Vec<Question> {
+    let random = &mut Random::new(28);
+    let all = all_roles(random).bytes();
+    let longest = (1..=8).map(rules::longest_formula);
+    let deepest: Vec<String> = deepest().into_iter().chain(longest).collect();
+    let paper = rules::PAPER.iter().filter(|rule| rule.len() < 45);
+    let plans: Vec<String> = SECOND_PLANS
+        .iter()
+        .chain(paper)
+        .map(|rule| rule.to_string())
+        .collect();
+    let nobody: Vec<String> = [rules::inside(7), rules::apart(7)]
+        .map(|users| format!("OE({users})@U"))
+        .to_vec();
+    let empty = vec![String::new(); MAX_RULES];
+    [
+        (two_sessions().bytes(), 1, deepest),
+        (all.clone(), u64::MAX, plans.clone()),
+        (all.clone(), !LAST, plans),
+        (all.clone(), 0, nobody),
+        (all, LAST, empty),
+    ]
+    .into_iter()
+    .flat_map(|(tables, reader, rules)| sheet_of(tables, reader, &rules))
+    .collect()
+}
+
+/// The lines of a sheet, of which no more than a few where there are many, its total, and the place behind it.
+fn sheet_of(tables: Vec<u8>, reader: u64, rules: &[String]) -> Vec<Question> {
+    let (count, file) = (rules.len(), rules.join("\n") + "\n");
+    let places = (1..=count).step_by(1 + count / 100);
+    let places = places.chain([count + 1, count + 2]);
+    places
+        .map(|place| Question::sheet_line(tables.clone(), reader, file.clone().into(), place))
+        .collect()
 }
 
 /// The largest tables, whose roles are a chain, and that chain with one step of the rank test failed by
@@ -418,6 +466,7 @@ fn named_last() -> Vec<Question> {
             Question::sessions_start(tables.clone(), b"U=U".to_vec()),
             Question::session(sessions::state(b"U=U", &tables), OPEN),
             Question::session(sessions::state(b"U=U", &tables), CLOSE),
+            Question::sheet_line(tables.clone(), u64::MAX, b"U=U".to_vec(), 1),
         ]
     };
     kept.into_iter().flat_map(asked).collect()

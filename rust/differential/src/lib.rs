@@ -11,6 +11,7 @@ pub mod leavers;
 pub mod orders;
 pub mod pages;
 pub mod random;
+pub mod readers;
 pub mod rules;
 pub mod sessions;
 pub mod small_stack;

@@ -5,7 +5,7 @@ use reference::verdict::steps;
 
 use crate::hold::{Expected, Met, Question};
 use crate::random::Random;
-use crate::{done, formulas, leavers, orders, pages, rules, sessions, tables};
+use crate::{done, formulas, leavers, orders, pages, readers, rules, sessions, tables};
 
 /// The most steps of a walk where every choice is tried.
 pub const FEW: u64 = 2_000;
@@ -34,9 +34,9 @@ pub struct Subject {
     ask: fn(&mut Random) -> Question,
 }
 
-/// Tables, rules, formulas, verdicts, pages, steps of the rank test, forecasts, leavers, who did what, and sessions that
-/// come and go, in turn.
-pub const SUBJECTS: [Subject; 14] = [
+/// Tables, rules, formulas, verdicts, pages, steps of the rank test, forecasts, leavers, who did what, sessions that come
+/// and go, and what readers see, in turn.
+pub const SUBJECTS: [Subject; 15] = [
     Subject {
         name: "tables",
         count: 50_000,
@@ -47,7 +47,7 @@ pub const SUBJECTS: [Subject; 14] = [
     },
     Subject {
         name: "rules",
-        count: 80_000,
+        count: 70_000,
         seed: 2,
         answers: &[0, 11, 12, 13, 14, 15],
         plain: true,
@@ -55,7 +55,7 @@ pub const SUBJECTS: [Subject; 14] = [
     },
     Subject {
         name: "formulas",
-        count: 50_000,
+        count: 40_000,
         seed: 3,
         answers: &[0, 16],
         plain: true,
@@ -157,6 +157,15 @@ pub const SUBJECTS: [Subject; 14] = [
         answers: &[0, 1, 2, 3, 5, 7, 8, 9, 10, 11, 12, 13, 14, 20, 21, 22],
         plain: true,
         ask: |random| sessions::asked(random, FEW),
+    },
+    // Lines of readers' sheets, and places without one.
+    Subject {
+        name: "readers",
+        count: 20_000,
+        seed: 15,
+        answers: &[0, 1, 2, 3, 5, 7, 8, 9, 10, 20, 23],
+        plain: true,
+        ask: |random| readers::asked(random, FEW),
     },
 ];
 

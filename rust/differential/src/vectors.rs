@@ -93,6 +93,11 @@ fn endless(command: &[u8]) -> bool {
         Some(Command::Session(state, ..)) => {
             State::split(&state).is_ok_and(|parts| many(parts.tables, parts.rule))
         }
+        // No reader has more to choose from, and the plain modules list the whole sheet.
+        Some(Command::Line(line, _)) => {
+            let mut rules = line.rules.split(|&byte| byte == b'\n');
+            rules.any(|rule| many(&line.tables, rule))
+        }
         _ => false,
     }
 }
@@ -118,6 +123,11 @@ fn library(command: &Command) -> String {
         Command::Forecast(tables, rule) => return told(tables, rule),
         Command::Sessions(tables, rule, calls) => return counts(tables, rule, calls),
         Command::Session(state, call, length) => (Question::session(state.clone(), *call), *length),
+        Command::Line(line, length) => {
+            let (tables, rules) = (line.tables.clone(), line.rules.clone());
+            let question = Question::sheet_line(tables, line.reader, rules, line.place);
+            (question, *length)
+        }
     };
     let mut out = vec![FILL; length].into_boxed_slice();
     let returned = reply(question.ask(&mut out));

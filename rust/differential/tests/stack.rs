@@ -11,7 +11,7 @@ use differential::random::Random;
 use differential::small_stack::Stack;
 use rcl2000::{Page, STACK_FORECAST, STACK_JUDGE, STACK_JUDGE_PAGE};
 use rcl2000::{STACK_RANK_STEP, STACK_REBUILD, STACK_REDUCE};
-use rcl2000::{STACK_SESSIONS_START, STACK_SESSION_CLOSE, STACK_SESSION_OPEN};
+use rcl2000::{STACK_SESSIONS_START, STACK_SESSION_CLOSE, STACK_SESSION_OPEN, STACK_SHEET_LINE};
 
 /// Held while a small stack is tried: a frame that reaches beyond the page that guards the stack may
 /// else land in another test's, and not end the process.
@@ -66,6 +66,11 @@ fn opening_sessions_on_a_small_stack() {
 #[test]
 fn closing_sessions_on_a_small_stack() {
     on_stack(STACK_SESSION_CLOSE, "session_close");
+}
+
+#[test]
+fn lines_of_sheets_on_a_small_stack() {
+    on_stack(STACK_SHEET_LINE, "sheet_line");
 }
 
 /// What a page takes and what the thread needs for itself, 5,632 bytes on one machine.

@@ -20,6 +20,13 @@ pub const MAX_STATE: usize = Verdict::BYTES + 2 + MAX_RULE + MAX_TABLES;
 /// The most variables that an accepted rule has.
 pub const MAX_VARIABLES: usize = 8;
 
+/// The most bytes of rules that a sheet is made of.
+pub const MAX_RULES: usize = 32_768;
+
+/// The most bytes that a line of a sheet has: a place of 5 digits, `broken`, two counts of 15 digits, a share of 3, eight
+/// choices such as `v1=63`, and a blank before each field but the first.
+pub const MAX_LINE: usize = 5 + 7 + 2 * 16 + 4 + MAX_VARIABLES * 6;
+
 /// The stack that [`reduce`] takes at the most, in bytes.
 pub const STACK_REDUCE: usize = 16 * 1024;
 
@@ -46,6 +53,9 @@ pub const STACK_SESSION_OPEN: usize = 64 * 1024;
 
 /// The stack that [`session_close`](crate::session_close) takes at the most, in bytes.
 pub const STACK_SESSION_CLOSE: usize = 64 * 1024;
+
+/// The stack that [`sheet_line`](crate::sheet_line) takes at the most, in bytes.
+pub const STACK_SHEET_LINE: usize = 64 * 1024;
 
 /// The order that lists every variable in turn.
 const IN_TURN: [u8; MAX_VARIABLES] = [1, 2, 3, 4, 5, 6, 7, 8];
@@ -546,7 +556,7 @@ mod tests {
         assert_eq!(length(0), Ok(0));
         assert_eq!(length(65_535), Ok(65_535));
         assert_eq!(length(13 << 16), Err(Refusal::NotARule));
-        for number in 23..=25 {
+        for number in 24..=26 {
             let refusal = length(number << 16).unwrap_err();
             assert_eq!(refusal, Refusal::Unknown { number });
         }

@@ -35,10 +35,11 @@
 //! lends and allocate nothing. [`forecast`] and [`forecast_into`] tell of a rule, before it is judged, how
 //! long its formula is and how many full choices it has at the most. [`LiveRule`] keeps a verdict current
 //! while sessions come and go, by [`sessions_start`], [`session_open`] and [`session_close`], each of which
-//! has its `_into` for lent bytes, too. Any of them gives a [`Refusal`] where the input is turned back, a
-//! page's with the line that it is for, and then no lent byte has changed. [`rank_step`] refuses nothing: of
-//! tables that are refused 7 it says what their hierarchy of roles is not. Nothing here panics, whatever the
-//! input.
+//! has its `_into` for lent bytes, too. [`sheet`] is the day sheet as a [`Reader`] sees it, who is shown some of
+//! the users, and [`sheet_line`] and [`sheet_line_into`] are one line of it. Any of them gives a [`Refusal`]
+//! where the input is turned back, a page's with the line that it is for, and then no lent byte has changed.
+//! [`rank_step`] refuses nothing: of tables that are refused 7 it says what their hierarchy of roles is not.
+//! Nothing here panics, whatever the input.
 //!
 //! # What a call may cost
 //!
@@ -46,15 +47,16 @@
 //!   milliseconds for most rules, but there are rules of many variables for which it has to walk the
 //!   full choices, and these grow as 64 to the power of the number of variables; [`judge_page`] takes
 //!   about what its lines do, or less. A [`LiveRule`] takes what [`judge`] does to start and for each session
-//!   that is opened or closed, and microseconds for these where the rule mentions no session. None can be
-//!   interrupted, so ask first (below). Each call says what it may cost.
+//!   that is opened or closed, and microseconds for these where the rule mentions no session. [`sheet_line`]
+//!   takes what [`judge`] does for the rule of its line, and for the total what it does for all rules, so that
+//!   [`sheet`] judges each twice. None can be interrupted, so ask first (below). Each call says what it may cost.
 //! - **Stack.** The library takes its memory from the stack of the thread that calls it:
 //!   at the most 16 KiB for [`reduce`], 48 KiB for [`rebuild`], 72 KiB for [`judge`], 248 KiB for
 //!   [`judge_page`], 16 KiB for [`rank_step`], 24 KiB for [`forecast`] and 64 KiB for [`sessions_start`],
-//!   [`session_open`] and [`session_close`], whatever the input
+//!   [`session_open`], [`session_close`] and [`sheet_line`], whatever the input
 //!   ([`STACK_REDUCE`], [`STACK_REBUILD`], [`STACK_JUDGE`], [`STACK_JUDGE_PAGE`], [`STACK_RANK_STEP`],
-//!   [`STACK_FORECAST`], [`STACK_SESSIONS_START`], [`STACK_SESSION_OPEN`], [`STACK_SESSION_CLOSE`];
-//!   measured, not proved). Rust's threads have 2 MiB unless asked for less.
+//!   [`STACK_FORECAST`], [`STACK_SESSIONS_START`], [`STACK_SESSION_OPEN`], [`STACK_SESSION_CLOSE`],
+//!   [`STACK_SHEET_LINE`]; measured, not proved). Rust's threads have 2 MiB unless asked for less.
 //! - **Threads.** The library keeps no state between calls and shares none: any number of threads
 //!   may call at once. What a [`LiveRule`] goes on from is bytes that the caller keeps.
 //! - **Aliasing.** The borrow checker sees to it that a lent output overlaps no input. Inputs may
@@ -97,6 +99,7 @@
 //! - **A ceiling of 0 means idle.** Some variable has no item to choose. Judging sees it at once and walks
 //!   nothing, however many items the others have.
 //! - **A page** has the sum of its lines' ceilings.
+//! - **A reader's line** has no more full choices than the ceiling of its rule on the whole tables.
 //! - **Other tables** have another ceiling. Ask again when they change, as where a session is opened.
 //!
 //! # Who already did what
@@ -169,11 +172,57 @@
 //! # Ok::<(), Box<dyn std::error::Error>>(())
 //! ```
 //!
+//! # What a reader sees
+//!
+//! The laboratory is to see its own people's sheet, and nothing of what others hold, have open or did. [`sheet`] takes the
+//! tables that everybody's sheet is made of and a [`Reader`], and judges the rules on what is left when all others are
+//! taken out: they count as users who left, their sessions and their rows of Done are gone, and each set of conflicting
+//! users has the reader's users alone.
+//!
+//! ```
+//! use rcl2000::{sheet, Reader, TablesBuilder};
+//!
+//! let mut tables = TablesBuilder::new();
+//! let [grader, tester, weigher, blender] = [(); 4].map(|_| tables.role([]));
+//! tables.conflicting_roles([grader, tester]);
+//! tables.conflicting_roles([weigher, blender]);
+//! let elsa = tables.user([weigher, blender]);
+//! let (clara, dino) = (tables.user([grader]), tables.user([tester]));
+//! tables.session(elsa, [weigher]);
+//! tables.session(clara, [grader]);
+//! let tables = tables.build()?;
+//!
+//! let rules = b"|(roles(OE(U))&OE(CR))|<=1\nroles(OE(S))=roles(user(OE(S)))\n";
+//! let mill = sheet(&tables, Reader::everyone(3), rules)?;
+//! let laboratory = sheet(&tables, Reader::of([clara, dino]), rules)?;
+//! // Elsa has two roles that are kept apart, and works in one of hers alone. The laboratory does not see her.
+//! assert_eq!(mill[..2], ["1 broken 6 1 17 v1=0 v2=1", "2 broken 2 1 50 v1=0"]);
+//! assert_eq!(laboratory[..2], ["1 held 4 0 0", "2 held 1 0 0"]);
+//! assert_eq!(laboratory[2], "total 2 held 2 idle 0 broken 0 refused 0");
+//! # Ok::<(), Box<dyn std::error::Error>>(())
+//! ```
+//!
+//! - **Equal sheets say nothing of others.** Whatever others hold, have open or did, whether they are present or left,
+//!   and whoever of them stands beside the reader's users in a set of conflicting users: where the reader's own rows,
+//!   sessions, rows of Done and sets are the same, in the same sequence, every line is the same, for every rules file.
+//!   That is proved. It is said of accepted tables: the number of refused ones is told to every reader, whoever's row
+//!   they are refused for.
+//! - **What every reader sees.** The roles and their hierarchy, the operations and objects, which roles hold which
+//!   permissions, CR, CP, how many users the tables have, present or not, and whether there is a set of conflicting users
+//!   without any of the reader's.
+//! - **Numbers.** A user keeps the number: `v1=2` is the same person on every sheet. Sessions are numbered among the
+//!   reader's own. Of the sets of conflicting users that become equal the earliest stays, so that those behind the others
+//!   have lower numbers; of sets without any of the reader's users one empty one stays.
+//! - **Who left** and is among the reader's users is still one who left. The reader of all users sees the day sheet itself,
+//!   and a reader of nobody is a reader, too.
+//!
+//! `examples/laboratory.rs` prints both sheets of the sample evening.
+//!
 //! # The archive
 //!
 //! The crate links `librcl2000.a`, which `rt staticlib rcl2000` writes. Its build script looks for
 //! it in `target/staticlib` of the repository that the crate is in, or in the folder that
-//! `RCL2000_LIB_DIR` names, and tries it before it links it: an archive without the nine calls,
+//! `RCL2000_LIB_DIR` names, and tries it before it links it: an archive without the ten calls,
 //! or one that answers otherwise than this version of the crate says, is a build error.
 
 #![deny(missing_docs, unsafe_code)]
@@ -188,6 +237,7 @@ mod library;
 mod live;
 mod page;
 mod rank;
+mod readers;
 mod refusal;
 mod sessions;
 mod verdict;
@@ -198,16 +248,18 @@ pub use calls::{check_rule, check_tables, rank_step, variables};
 pub use calls::{forecast, forecast_into};
 pub use calls::{judge, judge_in_turn, judge_into, rebuild, rebuild_into, reduce, reduce_into};
 pub use calls::{judge_page, judge_page_into};
-pub use calls::{MAX_FORMULA, MAX_RULE, MAX_STATE, MAX_TABLES, MAX_VARIABLES, MIN_TABLES};
+pub use calls::{MAX_FORMULA, MAX_LINE, MAX_RULE, MAX_RULES, MAX_STATE, MAX_TABLES};
+pub use calls::{MAX_VARIABLES, MIN_TABLES};
 pub use calls::{STACK_FORECAST, STACK_JUDGE, STACK_JUDGE_PAGE};
 pub use calls::{STACK_RANK_STEP, STACK_REBUILD, STACK_REDUCE};
-pub use calls::{STACK_SESSIONS_START, STACK_SESSION_CLOSE, STACK_SESSION_OPEN};
+pub use calls::{STACK_SESSIONS_START, STACK_SESSION_CLOSE, STACK_SESSION_OPEN, STACK_SHEET_LINE};
 pub use faults::{BuildError, Fault, Unencodable};
 pub use forecast::Forecast;
 pub use items::{Object, Operation, Permission, Role, Row, Section, Session, User};
 pub use live::{LiveRule, OpenSession};
 pub use page::{Page, PageRefusal, MAX_LINES};
 pub use rank::RankStep;
+pub use readers::{sheet, sheet_line, sheet_line_into, Reader};
 pub use refusal::Refusal;
 pub use sessions::{session_close, session_close_into, session_open, session_open_into};
 pub use sessions::{sessions_start, sessions_start_into};

@@ -1,4 +1,4 @@
-//! The archive's nine functions. All the unsafe code of this crate stands here.
+//! The archive's ten functions. All the unsafe code of this crate stands here.
 
 mod archive {
     extern "C" {
@@ -63,10 +63,21 @@ mod archive {
             out: *mut u8,
             out_len: usize,
         ) -> u32;
+
+        pub fn sheet_line(
+            tables: *const u8,
+            tables_len: usize,
+            reader: u64,
+            rules: *const u8,
+            rules_len: usize,
+            place: usize,
+            out: *mut u8,
+            out_len: usize,
+        ) -> u32;
     }
 }
 
-// SAFETY of the nine calls: the functions of the archive take a slice as a pointer and a length,
+// SAFETY of the ten calls: the functions of the archive take a slice as a pointer and a length,
 // ask nothing else of their arguments, read nothing but the inputs, write nothing but the first
 // bytes of `out`, and keep no pointer; that is proved of them. Every pointer here is that of a
 // Rust slice with its own length, so it is valid for that many bytes and never null, and `out`,
@@ -158,6 +169,21 @@ pub fn session_close(state: &[u8], number: u32, out: &mut [u8]) -> u32 {
             state.as_ptr(),
             state.len(),
             number,
+            out.as_mut_ptr(),
+            out.len(),
+        )
+    }
+}
+
+pub fn sheet_line(tables: &[u8], reader: u64, rules: &[u8], place: usize, out: &mut [u8]) -> u32 {
+    unsafe {
+        archive::sheet_line(
+            tables.as_ptr(),
+            tables.len(),
+            reader,
+            rules.as_ptr(),
+            rules.len(),
+            place,
             out.as_mut_ptr(),
             out.len(),
         )

@@ -109,6 +109,7 @@ refusals! {
     20 Left "left" "a user who left has a role or a session, or is in a conflict set"
     21 FullHouse "full house" "64 sessions are open, and no more can be opened"
     22 NotOpen "not open" "no session with this number is open"
+    23 Reader "reader" "the reader is to see a user whom the tables do not have"
 }
 
 impl Refusal {
@@ -120,9 +121,9 @@ impl Refusal {
     ///
     /// assert_eq!(Refusal::from_number(9), Some(Refusal::Twin));
     /// assert_eq!(Refusal::from_number(0), None);
-    /// let later = Refusal::from_number(23).unwrap();
-    /// assert!(matches!(later, Refusal::Unknown { number: 23, .. }));
-    /// assert_eq!(later.number(), 23);
+    /// let later = Refusal::from_number(24).unwrap();
+    /// assert!(matches!(later, Refusal::Unknown { number: 24, .. }));
+    /// assert_eq!(later.number(), 24);
     /// ```
     pub fn from_number(number: u32) -> Option<Refusal> {
         let place = number.checked_sub(1)? as usize;
@@ -150,12 +151,12 @@ mod tests {
             assert_eq!(refusal.number() as usize, place + 1);
             assert_eq!(Refusal::from_number(refusal.number()), Some(refusal));
         }
-        assert_eq!(KNOWN.len(), 22);
+        assert_eq!(KNOWN.len(), 23);
     }
 
     #[test]
     fn a_number_that_is_not_known_is_a_case_of_its_own() {
-        for number in [23, 25, 65_535, u32::MAX] {
+        for number in [24, 25, 65_535, u32::MAX] {
             let refusal = Refusal::from_number(number).unwrap();
             assert_eq!(refusal, Refusal::Unknown { number });
             assert_eq!(refusal.number(), number);

@@ -5,10 +5,11 @@ use std::fs;
 use std::path::Path;
 
 use rcl2000::{Forecast, Page, RankStep, Refusal, Verdict};
-use rcl2000::{MAX_FORMULA, MAX_LINES, MAX_RULE, MAX_STATE, MAX_TABLES, MAX_VARIABLES, MIN_TABLES};
+use rcl2000::{MAX_FORMULA, MAX_LINE, MAX_LINES, MAX_RULE, MAX_RULES, MAX_STATE, MAX_TABLES};
+use rcl2000::{MAX_VARIABLES, MIN_TABLES};
 use rcl2000::{STACK_FORECAST, STACK_JUDGE, STACK_JUDGE_PAGE};
 use rcl2000::{STACK_RANK_STEP, STACK_REBUILD, STACK_REDUCE};
-use rcl2000::{STACK_SESSIONS_START, STACK_SESSION_CLOSE, STACK_SESSION_OPEN};
+use rcl2000::{STACK_SESSIONS_START, STACK_SESSION_CLOSE, STACK_SESSION_OPEN, STACK_SHEET_LINE};
 
 /// Each name of the header that has a number, without its prefix: `NAME = N` and `NAME N`.
 fn numbers() -> BTreeMap<String, usize> {
@@ -46,7 +47,7 @@ fn the_header_has_every_refusal_by_its_word() {
         assert_eq!(numbers.get(&name), Some(&(number as usize)), "{name}");
         number += 1;
     }
-    assert!(number > 22);
+    assert!(number > 23);
 }
 
 #[test]
@@ -75,6 +76,8 @@ fn the_header_has_the_lengths_and_the_stacks() {
         ("STACK_REDUCE", STACK_REDUCE),
         ("STACK_REBUILD", STACK_REBUILD),
         ("MAX_LINES", MAX_LINES),
+        ("MAX_RULES", MAX_RULES),
+        ("MAX_LINE", MAX_LINE),
         ("STACK_JUDGE", STACK_JUDGE),
         ("STACK_JUDGE_PAGE", STACK_JUDGE_PAGE),
         ("STACK_RANK_STEP", STACK_RANK_STEP),
@@ -82,6 +85,7 @@ fn the_header_has_the_lengths_and_the_stacks() {
         ("STACK_SESSIONS_START", STACK_SESSIONS_START),
         ("STACK_SESSION_OPEN", STACK_SESSION_OPEN),
         ("STACK_SESSION_CLOSE", STACK_SESSION_CLOSE),
+        ("STACK_SHEET_LINE", STACK_SHEET_LINE),
         ("VERDICT", Verdict::BYTES),
         ("PAGE_HEAD", Page::HEAD),
         ("FORECAST", Forecast::BYTES),

@@ -1,5 +1,5 @@
-//! Document 01 a second time, with N1 to N9 of document 02: tables, rules, formulas, verdicts, the
-//! day sheet, pages, forecasts, and sessions that come and go, in plain Rust.
+//! Document 01 a second time, with N1 to N10 of document 02: tables, rules, formulas, verdicts, the
+//! day sheet, pages, forecasts, sessions that come and go, and what a reader sees, in plain Rust.
 //!
 //! It was written from the documents alone and shares no code with the proved library, so that the
 //! two can be held against each other. The modules follow the document: a tree for rules, sets for
@@ -13,6 +13,7 @@ pub mod kind;
 pub mod number;
 pub mod page;
 pub mod protocol;
+pub mod readers;
 pub mod rule;
 pub mod sessions;
 pub mod set;

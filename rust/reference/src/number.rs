@@ -22,3 +22,4 @@ pub const PAGE: u32 = 19;
 pub const LEFT: u32 = 20;
 pub const FULL_HOUSE: u32 = 21;
 pub const NOT_OPEN: u32 = 22;
+pub const READER: u32 = 23;

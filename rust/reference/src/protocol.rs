@@ -2,7 +2,8 @@
 
 use crate::page::{self, Page};
 use crate::sessions::{self, Change};
-use crate::{fast, forecast, formula, lend, rule, sheet, tables, verdict, Answer, Refused};
+use crate::{fast, forecast, formula, lend, readers, rule, sheet, tables, verdict};
+use crate::{Answer, Refused};
 
 /// The byte that fills a lent output before the call.
 pub const FILL: u8 = 0xa5;
@@ -37,6 +38,16 @@ pub enum Command {
     Sessions(Vec<u8>, Vec<u8>, Vec<Change>),
     /// The state after one call, into so many bytes.
     Session(Vec<u8>, Change, usize),
+    /// One line of a reader's sheet, into so many bytes.
+    Line(Line, usize),
+}
+
+/// What the line of a reader's sheet is asked for by.
+pub struct Line {
+    pub tables: Vec<u8>,
+    pub reader: u64,
+    pub rules: Vec<u8>,
+    pub place: usize,
 }
 
 use Command::*;
@@ -69,6 +80,15 @@ impl Command {
             [b"session", state, call, length] => {
                 Session(unhex(state)?, change(call)?, length_of(length)?)
             }
+            [b"line", tables, reader, rules, place, length] => {
+                let line = Line {
+                    tables: unhex(tables)?,
+                    reader: word(reader)?,
+                    rules: unhex(rules)?,
+                    place: number(place)? as usize,
+                };
+                Self::Line(line, length_of(length)?)
+            }
             _ => return None,
         })
     }
@@ -92,6 +112,7 @@ impl Command {
                 followed(sessions::start(tables, rule), calls, sessions::next)
             }
             Session(state, call, length) => lent(sessions::next(state, *call), *length),
+            Self::Line(line, length) => lent(line.written(readers::line), *length),
         }
     }
 
@@ -113,8 +134,19 @@ impl Command {
                 followed(start, calls, fast::sessions::next)
             }
             Session(state, call, length) => lent(fast::sessions::next(state, *call), *length),
+            Self::Line(line, length) => lent(line.written(fast::readers::line), *length),
             Rule(_) | Sheet(..) => self.plain(),
         }
+    }
+}
+
+impl Line {
+    /// The line as a call writes it.
+    fn written(
+        &self,
+        call: impl Fn(&[u8], u64, &[u8], usize) -> Answer<Vec<u8>>,
+    ) -> Answer<Vec<u8>> {
+        call(&self.tables, self.reader, &self.rules, self.place)
     }
 }
 
@@ -222,20 +254,29 @@ fn length_of(text: &[u8]) -> Option<usize> {
     (length <= LONGEST_OUTPUT).then_some(length)
 }
 
-/// A call on a state: `o:USER:WORD` opens, `c:NUMBER` closes. A number has as many bits as the calls take, 32, and a
-/// word has all of its eight bytes.
+/// A call on a state: `o:USER:WORD` opens, `c:NUMBER` closes.
 fn change(text: &[u8]) -> Option<Change> {
     let parts: Vec<&[u8]> = text.split(|&byte| byte == b':').collect();
     Some(match parts[..] {
-        [b"o", user, word] => Change::Open {
-            user: decimal(user)?.try_into().ok()?,
-            roles: u64::from_le_bytes(unhex(word)?.try_into().ok()?),
+        [b"o", user, roles] => Change::Open {
+            user: number(user)?,
+            roles: word(roles)?,
         },
-        [b"c", number] => Change::Close {
-            number: decimal(number)?.try_into().ok()?,
+        [b"c", session] => Change::Close {
+            number: number(session)?,
         },
         _ => return None,
     })
+}
+
+/// The number of a user or a session, or the place of a line: of 32 bits at the most.
+fn number(text: &[u8]) -> Option<u32> {
+    decimal(text)?.try_into().ok()
+}
+
+/// A word has all of its eight bytes, the lowest first.
+fn word(text: &[u8]) -> Option<u64> {
+    Some(u64::from_le_bytes(unhex(text)?.try_into().ok()?))
 }
 
 /// A number in decimal digits and nothing else, with or without zeros in front.

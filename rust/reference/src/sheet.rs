@@ -1,38 +1,46 @@
 //! Document 01, "Day sheet", and document 02, N1: what the listing program prints for two files.
 
+use crate::tables::Tables;
 use crate::verdict::{read_order, walk, Verdict};
 use crate::{rule, tables, Answer};
 
 /// The most bytes of rules that are listed.
-const LONGEST: usize = 32_768;
+pub const LONGEST: usize = 32_768;
+
+/// The one line of longer rules.
+pub const TOO_LONG: &str = "rules too long";
 
 /// The sheet for the bytes of `tables.bin` and `rules.txt`.
 pub fn sheet(tables: &[u8], rules: &[u8]) -> String {
-    let tables = match tables::read(tables) {
-        Err(number) => return format!("tables refused {number}\n"),
-        Ok(tables) => tables,
+    let lines = match tables::read(tables) {
+        Err(number) => vec![format!("tables refused {number}")],
+        Ok(tables) => listed(&tables, rules),
     };
+    lines.iter().map(|line| line.to_string() + "\n").collect()
+}
+
+/// The lines of the sheet of accepted tables, the total among them, each without byte 10.
+pub fn listed(tables: &Tables, rules: &[u8]) -> Vec<String> {
     if rules.len() > LONGEST {
-        return "rules too long\n".to_string();
+        return vec![TOO_LONG.to_string()];
     }
-    let lines: Vec<String> = lines(rules)
-        .iter()
-        .enumerate()
-        .map(|(place, text)| line(place + 1, judged(&tables, text)))
-        .collect();
-    lines.concat() + &total(&lines)
+    let texts = lines(rules);
+    let judged = texts.iter().map(|text| judged(tables, text));
+    let mut lines: Vec<String> = judged.zip(1..).map(|(v, place)| line(place, v)).collect();
+    lines.push(total(&lines));
+    lines
 }
 
 /// "Print a last line `total L held H idle I broken B refused R`. L is the number of lines; each
 /// other number is how many lines above carry that word."
-fn total(lines: &[String]) -> String {
+pub fn total(lines: &[String]) -> String {
     let carrying = |word: &str| {
         let carries = |line: &&String| line.split_whitespace().nth(1) == Some(word);
         lines.iter().filter(carries).count()
     };
     let words = ["held", "idle", "broken", "refused"];
     let counts = words.map(|word| format!(" {word} {}", carrying(word)));
-    format!("total {}{}\n", lines.len(), counts.concat())
+    format!("total {}{}", lines.len(), counts.concat())
 }
 
 /// The lines of a file; nothing after a final byte 10 is no line.
@@ -45,16 +53,17 @@ pub fn lines(file: &[u8]) -> Vec<&[u8]> {
 }
 
 /// The verdict in the order 1, 2, ..
-fn judged(tables: &tables::Tables, text: &[u8]) -> Answer<Verdict> {
+fn judged(tables: &Tables, text: &[u8]) -> Answer<Verdict> {
     let rule = rule::read(text)?;
     let order: Vec<u8> = (1..=rule.variables.len() as u8).collect();
     let order = read_order(&rule, &order)?;
     Ok(walk(tables, &rule, &order))
 }
 
-fn line(place: usize, answer: Answer<Verdict>) -> String {
+/// The line of a rule, from its place, counted from 1, and its verdict.
+pub fn line(place: usize, answer: Answer<Verdict>) -> String {
     let verdict = match answer {
-        Err(number) => return format!("{place} refused {number}\n"),
+        Err(number) => return format!("{place} refused {number}"),
         Ok(verdict) => verdict,
     };
     let word = ["held", "idle", "broken"][verdict.word() as usize];
@@ -74,5 +83,5 @@ fn line(place: usize, answer: Answer<Verdict>) -> String {
     {
         line += &format!(" v{}={item}", number + 1);
     }
-    line + "\n"
+    line
 }

@@ -13,7 +13,12 @@ pub fn judge(tables: &[u8], text: &[u8], order: &[u8]) -> Answer<Verdict> {
     let tables = read(tables)?;
     let rule = rule::read(text)?;
     let order = read_order(&rule, order)?;
-    let lower = Lower::new(&tables, &rule);
+    Ok(judged(&tables, &rule, &order))
+}
+
+/// The verdict on an accepted rule in an accepted order.
+pub(super) fn judged(tables: &Tables, rule: &Rule, order: &[usize]) -> Verdict {
+    let lower = Lower::new(tables, rule);
     let mut walk = Walk {
         plan: lower.plan(),
         state: vec![State::default(); order.len()],
@@ -24,10 +29,10 @@ pub fn judge(tables: &[u8], text: &[u8], order: &[u8]) -> Answer<Verdict> {
         },
     };
     // Where a variable has no item to choose, no choice is full.
-    if ceiling(&tables, &lower.kinds) > 0 {
-        walk.run(&order);
+    if ceiling(tables, &lower.kinds) > 0 {
+        walk.run(order);
     }
-    Ok(walk.verdict)
+    walk.verdict
 }
 
 /// A term with its functions resolved to the rows that they look into.

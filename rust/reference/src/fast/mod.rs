@@ -7,6 +7,7 @@
 mod forecast;
 mod formula;
 mod judge;
+pub mod readers;
 pub mod sessions;
 mod tables;
 
