@@ -79,8 +79,19 @@ module _ (tables : Bytes) (T : Tables) (t : tablesOf tables ≡ taken T) (w : �
   pub reader-lines : (tablesOf seen ≡ taken (cut w T)) × ((place : ℕ) (old new : Bytes) (r : ℕ) → ListsLine tables w rules place old new r → DayLine seen rules place old new r)
   reader-lines = (cut-accepted w (accepted-passes tables t), λ place old new r s. rw (line-cut tables w rules place t known) at s)
 
-  -- A number below 65,536 is returned exactly where the line has room, and then it is written.
-  line-writes : (place : ℕ) (old new : Bytes) (r : ℕ) → ListsLine tables w rules place old new r → r < 65536 → Writes (sheetLine (sheetOf seen rules) place) old new r
+  -- A number below 65,536 is returned exactly where the line has room; then it is written, and the rest is as it was.
+  pub line-accepts : (place : ℕ) (old new : Bytes) (r : ℕ) → ListsLine tables w rules place old new r → (r < 65536) ↔ (length (sheetLine (sheetOf seen rules) place) ≤ length old)
+  line-accepts place old new r s =
+      let line = sheetLine (sheetOf seen rules) place in
+      let is : lent (length old) (readerLine tables w rules place) ≡ lent (length old) (wrote line) = ap (lent (length old)) (line-cut tables w rules place t known) in (
+        λ l.
+            let x = writes-exactly s (line-short tables w rules place) .0 l in
+            let same : line ≡ x .0 = cc (lent-wrote (length old) (wrote line) (x .0) (sym is ∙ x .1)) in
+            rw same (lent-room (length old) (readerLine tables w rules place) (x .0) (x .1)),
+        λ l. writes-exactly s (line-short tables w rules place) .1 (line, is ∙ lent-fits (length old) line l),
+      )
+
+  pub line-writes : (place : ℕ) (old new : Bytes) (r : ℕ) → ListsLine tables w rules place old new r → r < 65536 → Writes (sheetLine (sheetOf seen rules) place) old new r
   line-writes place old new r s l =
       let x = writes-exactly s (line-short tables w rules place) .0 l in
       let same : sheetLine (sheetOf seen rules) place ≡ x .0 =
