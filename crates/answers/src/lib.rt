@@ -1,12 +1,14 @@
 // Refusals and answers: what every entry point says, and the number that the documents give it.
 // Nothing here knows tables or rules.
+#![tactic(auto)]
+
 ghost use Rattle.std.specs.Prelude.{◌≡◌, ◌++◌, ◌≤◌, length, drop};
 ghost use Rattle.answers.specs.Refusal.{number_of};
 ghost use Rattle.answers.specs.Answer.{wrote, lent};
 ghost use Rattle.answers.specs.Written.{Answers};
 
 // Document 01, "Turned back", and document 02: the refusals in the order of their numbers.
-#[derive(Drop)]
+#[derive(Clone, Copy)]
 pub enum Refusal {
     CutShort,
     Overfull,
@@ -34,7 +36,7 @@ pub enum Refusal {
 }
 
 // What a call that writes to a lent output says: a refusal, or the number of bytes written.
-#[derive(Drop)]
+#[derive(Clone, Copy)]
 pub enum Written {
     Refused(Refusal),
     Wrote(usize),

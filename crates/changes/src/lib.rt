@@ -1,5 +1,7 @@
 // Sessions that open and close (document 02, N9): what refuses the change of accepted tables, and the change made in their words.
 // Nothing here knows rules or the bytes of tables.
+#![tactic(auto)]
+
 ghost use Rattle.std.specs.Prelude.{◌<◌, ◌≤◌, length};
 ghost use Rattle.tables.specs.Code.Loaded.{Loaded};
 ghost use Rattle.changes.specs.declared.Change.TheVariants.{Opening, Closing};
@@ -12,7 +14,7 @@ use tables::layout::{
 };
 
 // What a call asks for: a session of this user with these active roles, or the end of the session with this number, from 0.
-#[derive(Drop)]
+#[derive(Clone, Copy)]
 pub enum Change {
     Opening { user: u32, roles: u64 },
     Closing(u32),

@@ -37,7 +37,7 @@ pub fn is_command(line: &[u8], name: &[u8], count: usize) -> bool {
 }
 
 // A field that was read: the first n of the lent bytes, or the number n; 0 where it is malformed.
-#[derive(Drop)]
+#[derive(Clone, Copy)]
 pub struct Field {
     pub good: bool,
     pub n: usize,
@@ -89,7 +89,7 @@ pub fn read_length(line: &[u8], k: usize, room: &[u8]) -> Field
 }
 
 // A word that was read, 0 where it is malformed.
-#[derive(Drop)]
+#[derive(Clone, Copy)]
 pub struct Word {
     pub good: bool,
     pub w: u64,

@@ -1,5 +1,7 @@
 // Reads commands from standard input, one to a line, and prints the answer to each.
 // A line that is longer than 80,000 bytes, or that is no command, is answered `?`.
+#![tactic(auto)]
+
 mod calls;
 mod commands;
 mod fields;
@@ -11,7 +13,7 @@ mod sessions;
 ghost use Rattle.std.specs.Prelude.{◌≤◌, length};
 
 // What is still to be read of the input lies in a buffer from `from` up to `have`.
-#[derive(Drop)]
+#[derive(Clone, Copy)]
 struct Window {
     from: usize,
     have: usize,
@@ -44,7 +46,7 @@ fn turn(buffer: &mut [u8], w: Window) -> Window
 {
     let from = w.from;
     let have = w.have;
-    let end = bytes::scan::find(buffer, from, have, b'\n');
+    let end = texts::scan::find(buffer, from, have, b'\n');
     if end < have {
         commands::answer(&buffer[from..end], w.long);
         return Window {

@@ -15,7 +15,7 @@ use verdicts::sheet;
 const FIRST: usize = 3;
 
 // What a field asks for.
-#[derive(Drop)]
+#[derive(Clone, Copy)]
 pub enum Asked {
     Missing,
     Malformed,
@@ -32,7 +32,7 @@ fn closing(number: &[u8]) -> Asked {
 
 // A user's number, a colon and a word.
 fn opening(text: &[u8]) -> Asked {
-    let colon = bytes::scan::find(text, 0, text.len(), b':');
+    let colon = texts::scan::find(text, 0, text.len(), b':');
     if colon == text.len() {
         return Asked::Malformed;
     }

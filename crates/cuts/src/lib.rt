@@ -1,5 +1,7 @@
 // Accepted tables, held as words, cut to what a reader sees (document 02, N10): section by section, through words that start as zeros.
 // Nothing here knows rules or the bytes of tables.
+#![tactic(auto)]
+
 ghost use Rattle.std.specs.Prelude.{◌≡◌, ◌+◌, ◌≤◌, length, replicate};
 ghost use Rattle.tables.specs.Flat.{whole_length, room, padded};
 ghost use Rattle.tables.specs.Code.Layout.{Whole};

@@ -2,6 +2,8 @@
 // runs in. Each line is made by crate `sheets`; here are only the files and the printing.
 // A program has no exit status of its own: where the sheet cannot be written whole it stops and says
 // so on standard error, and `bin/day-sheet` makes an exit status of that.
+#![tactic(auto)]
+
 ghost use Rattle.io.specs.Counts.{IsPrefixLen};
 ghost use Rattle.std.specs.Prelude.{◌≤◌, length};
 ghost use Rattle.verdicts.specs.Code.Judging.{Loaded};
@@ -13,7 +15,7 @@ use sheets::{LINE_ROOM, RULES_LIMIT, total, turns};
 use tables::Outcome;
 
 // What was read of a file: its first n bytes, none where it cannot be read.
-#[derive(Drop)]
+#[derive(Clone, Copy)]
 struct Contents {
     good: bool,
     n: usize,

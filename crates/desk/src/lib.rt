@@ -1,5 +1,7 @@
 // The shift desk (document 02, N11): tables, a page, and one grant or withdrawal of a role. Yes with the changed tables, no with the first broken line, or a refusal.
 // The change is made in the words of the tables, and the page is judged on them; the lent output is written when the answer is known.
+#![tactic(auto)]
+
 ghost use mathlib.Core.Path.{◌≡◌};
 ghost use Prim.Native.Nat.{◌≤◌};
 ghost use lib.ListN.{length};
@@ -24,7 +26,7 @@ use verdicts::{Outcome as Word, sheet};
 pub const NO: u32 = 32768;
 
 // What is said, before it is written: a refusal with its position, yes, or no for a line, from 1.
-#[derive(Drop)]
+#[derive(Clone, Copy)]
 enum Said {
     Refused { refusal: Refusal, position: usize },
     Yes,

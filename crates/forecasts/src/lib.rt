@@ -1,5 +1,7 @@
 // What is told of a rule before it is judged (document 02, N5): the length of its formula, and a ceiling on its full choices.
 // Nothing is walked, and no formula is written.
+#![tactic(auto)]
+
 ghost use Rattle.std.specs.Prelude.{length};
 ghost use Rattle.answers.specs.Answer.{wrote, lent};
 ghost use Rattle.answers.specs.Written.{Answers};

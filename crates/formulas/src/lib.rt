@@ -1,5 +1,7 @@
 // Rule text to formula text, and formula text back to rule text.
 // Nothing is written to the output before it is known that the answer has room there.
+#![tactic(auto)]
+
 ghost use Rattle.std.specs.Prelude.{◌≡◌, [], ◌<◌, length};
 ghost use Rattle.answers.specs.Answer.{lent};
 ghost use Rattle.syntax.specs.Bytes.{same};

@@ -1,5 +1,7 @@
 // The functions of Figure 2 over the flat tables: each goes from a set along the rows of a section, forth or back.
 // Where the sections begin and where their counts stand, the tables' layout says.
+#![tactic(auto)]
+
 ghost use Rattle.std.specs.Prelude.{◌≡◌, ◌<◌, length, get_or};
 ghost use Rattle.words.specs.Words.{image_of, preimage_of};
 ghost use Rattle.tables.specs.Tables.{Tables};

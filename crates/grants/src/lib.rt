@@ -1,5 +1,7 @@
 // A role granted to a user, or withdrawn (document 02, N11): what refuses the change of accepted tables, and the change made in their words.
 // Nothing here knows pages or the bytes of tables.
+#![tactic(auto)]
+
 ghost use mathlib.Core.Path.{◌≡◌};
 ghost use Rattle.tables.specs.Code.Loaded.{Loaded};
 ghost use Rattle.grants.specs.Grant.{changed_word, is_change};
@@ -10,14 +12,14 @@ use tables::layout::{PRESENT, ROLE_COUNT, USER_COUNT, USER_ROWS};
 use tables::{Outcome, checks};
 
 // What is asked for.
-#[derive(Drop)]
+#[derive(Clone, Copy)]
 pub enum Change {
     Grant,
     Withdraw,
 }
 
 // Of which role, and for whom, by their numbers.
-#[derive(Drop)]
+#[derive(Clone, Copy)]
 pub struct Asked {
     pub change: Change,
     pub user: usize,

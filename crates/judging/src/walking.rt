@@ -85,7 +85,7 @@ pub fn lay_first(t: &[u64], parsed: Parsed, order: &[u8], plan: &mut [u64]) -> u
 }
 
 // Where the descent is: the first variables of the caller's order have their items, and the mode goes with them.
-#[derive(Drop)]
+#[derive(Clone, Copy)]
 pub struct Place {
     pub depth: usize,
     pub choice: u64,

@@ -1,4 +1,6 @@
 // Whether a rule mentions sessions (document 02, N9).
+#![tactic(auto)]
+
 ghost use Rattle.std.specs.Prelude.{◌≡◌};
 ghost use Rattle.mentions.specs.Mention.{stands, mentions};
 

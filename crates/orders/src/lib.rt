@@ -1,5 +1,7 @@
 // An order of our own for counting: the search for a cheap one. Nothing is shown of it but that it ends, since what it finds is tested
 // before it is used.
+#![tactic(auto)]
+
 ghost use Rattle.std.specs.Prelude.{◌≡◌, ◌<◌, ◌≤◌, length};
 ghost use Rattle.tables.specs.Code.Layout.{Whole};
 ghost use Rattle.rules.specs.Accept.{choices_limit};

@@ -11,7 +11,7 @@ use lib.Dec.{eqb}
 use lib.ListN.{length, get_or, take, drop}
 use lib.Seq.{take-length, take-take, take_all, take-append-le, take_at, drop_at, length-take-le}
 use borrow.Rule.Slice.PartMut.{mid_of, post_of, put_mid, take_put, same_len_mid}
-use Rattle.bytes.specs.Bytes.{slice, index_of, index_after}
+use Rattle.texts.specs.Scan.{slice, index_of, index_after}
 use Rattle.answers.specs.Answer.{refused, lent}
 use Rattle.answers.specs.Written.{Answers}
 use Rattle.answers.specs.declared.Refusal.{Refusal}

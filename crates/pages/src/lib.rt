@@ -1,5 +1,7 @@
 // Pages: a verdict on a page of rules, and on each of its lines.
 // The tables are read once; then the number of lines, their refusals, their quantifier parts, their tallies, the bytes.
+#![tactic(auto)]
+
 ghost use Rattle.std.specs.Prelude.{◌≡◌, ◌≤◌, length};
 ghost use Rattle.texts.specs.Pieces.{lines};
 ghost use Rattle.verdicts.specs.Code.Judging.{Loaded};
@@ -33,7 +35,7 @@ pub const CHOICE: usize = 8;
 pub const CHOICES_ROOM: usize = PAGE_LIMIT * CHOICE;
 
 // What judging a page says: a refusal with the position of the line that it is of, 0 where it is of none, or the number of bytes written.
-#[derive(Drop)]
+#[derive(Clone, Copy)]
 pub enum Answered {
     Refused { refusal: Refusal, position: usize },
     Wrote(usize),

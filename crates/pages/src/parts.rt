@@ -19,14 +19,14 @@ const SHEET: usize = 4096;
 const SLOT: usize = 512;
 
 // A line's refusal, or where its quantifier part ends.
-#[derive(Drop)]
+#[derive(Clone, Copy)]
 enum Part {
     Refused(Refusal),
     Ends(usize),
 }
 
 // The first refused line's refusal with its position, or the number of different quantifier parts.
-#[derive(Drop)]
+#[derive(Clone, Copy)]
 pub enum Sorted {
     Refused { refusal: Refusal, position: usize },
     Walks(usize),
@@ -36,7 +36,7 @@ pub enum Sorted {
 fn part_length(formula: &[u8]) -> usize
     ensures { EndsPart formula.now result }
 {
-    let at = bytes::scan::find(formula, 0, formula.len(), b':');
+    let at = texts::scan::find(formula, 0, formula.len(), b':');
     if at == formula.len() {
         return at;
     }

@@ -18,7 +18,7 @@ use texts::Span;
 const SLOTS: usize = 64;
 
 // What was gathered: nodes, clauses, variables and lines.
-#[derive(Drop)]
+#[derive(Clone, Copy)]
 pub struct Gathered {
     pub n: usize,
     pub c: usize,

@@ -15,7 +15,7 @@ use walks::Tally;
 const WALKS: usize = 17;
 
 // The word and the counts of some lines together.
-#[derive(Drop)]
+#[derive(Clone, Copy)]
 struct Sums {
     word: u8,
     full: u64,

@@ -1,5 +1,7 @@
 // The fields of a command: bytes in hexadecimal, and numbers in decimal digits.
 // A function that writes puts its text over the beginning of the lent bytes.
+#![tactic(auto)]
+
 ghost use Rattle.std.specs.Prelude.{◌≡◌, ◌≤◌, ◌<◌, ◌+◌, ◌*◌, length};
 ghost use Rattle.texts.specs.Code.Overwritten.{Overwritten};
 ghost use Rattle.protocol.specs.Hex.{hex_digit, hex_value, hex_of, field_of, pairs, from_hex};
@@ -7,7 +9,7 @@ ghost use Rattle.protocol.specs.Numbers.{value_of};
 ghost use Rattle.protocol.specs.Code.Taken.{Bytes, took, AtMost};
 
 // A field that was read: how many bytes it gave, or what number.
-#[derive(Drop)]
+#[derive(Clone, Copy)]
 pub enum Taken {
     Malformed,
     Took(usize),

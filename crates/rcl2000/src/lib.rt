@@ -1,5 +1,7 @@
 // The tracker's calls: byte slices and numbers. A call returns L, or 65,536 × the refusal's number; for a page the line's position is added.
 // `rank_step` alone refuses nothing. Below these nothing knows the tracker's numbers.
+#![tactic(auto)]
+
 ghost use Rattle.std.specs.Prelude.{◌≡◌, ◌<◌};
 ghost use Rattle.changes.specs.declared.Change.TheVariants.{Opening, Closing};
 ghost use Rattle.rcl2000.specs.Calls.{Reduces, GivesBack, Judges, JudgesPage, GivesStep, Forecasts, Starts, Changes, ListsLine};

@@ -1,5 +1,7 @@
 // One line of the day sheet that a reader sees, who holds a word of users (document 02, N10).
 // The tables are read into words, the words are cut to the reader's users, and the line is that of the cut tables.
+#![tactic(auto)]
+
 ghost use Rattle.std.specs.Prelude.{length};
 ghost use Rattle.answers.specs.Answer.{lent};
 ghost use Rattle.answers.specs.Written.{Answers};

@@ -1,5 +1,7 @@
 // Rules: kinds, variables, lengths and the checks 11 to 15.
 // A rule's tree is a slice of nodes, as crate syntax makes it.
+#![tactic(auto)]
+
 ghost use Rattle.std.specs.Prelude.{◌≡◌, ◌<◌, ◌≤◌, length};
 ghost use Rattle.syntax.specs.Code.Arena.{Tidy};
 ghost use Rattle.rules.specs.declared.Checked.TheVariants.{Refused};
@@ -23,7 +25,7 @@ pub mod lengths;
 pub mod variables;
 
 // Document 01: the first refusal of 11 to 15, or accepted.
-#[derive(Drop)]
+#[derive(Clone, Copy)]
 pub enum Checked {
     Refused(Refusal),
     Accepted,
@@ -31,7 +33,7 @@ pub enum Checked {
 
 // The answer, and where it is accepted the rule's tree: its first n nodes with their kinds, the root, and the nodes of the variables. Where it is
 // refused, nothing of a tree.
-#[derive(Drop)]
+#[derive(Clone, Copy)]
 pub struct Parsed {
     pub outcome: Checked,
     pub nodes: [u32; RULE_LIMIT],
@@ -43,7 +45,7 @@ pub struct Parsed {
 }
 
 // What the checks find: a refusal, or a rule's tree.
-#[derive(Drop)]
+#[derive(Clone, Copy)]
 pub enum Found {
     Rejected(Refusal),
     Rule { n: usize, root: usize, count: usize },

@@ -1,5 +1,7 @@
 // One rule's verdict, kept current while sessions open and close (document 02, N9).
 // A state is bytes, and nothing else is kept: each call reads one and writes the next to the lent output.
+#![tactic(auto)]
+
 ghost use Rattle.std.specs.Prelude.{◌≡◌, ◌≤◌, length};
 ghost use Rattle.answers.specs.Answer.{wrote, lent};
 ghost use Rattle.answers.specs.Written.{Answers};

@@ -17,7 +17,7 @@ use syntax::{Listed, Whole};
 pub const ROOM: usize = 512;
 
 // How many nodes, clauses and variables there are.
-#[derive(Drop)]
+#[derive(Clone, Copy)]
 pub struct Size {
     pub n: usize,
     pub c: usize,
@@ -25,7 +25,7 @@ pub struct Size {
 }
 
 // A line was left out, or there are so many nodes, clauses and variables with it.
-#[derive(Drop)]
+#[derive(Clone, Copy)]
 pub enum Added {
     No,
     Yes { n: usize, c: usize, count: usize },

@@ -13,7 +13,7 @@ use values::plan::CLAUSE_COUNT;
 use walks::kept;
 
 // The clauses of a line.
-#[derive(Drop)]
+#[derive(Clone, Copy)]
 pub struct Range {
     pub line: usize,
     pub from: usize,

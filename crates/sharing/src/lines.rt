@@ -27,7 +27,7 @@ const ITEMS: usize = 64;
 const NO_ITEM: u64 = 255;
 
 // Where the walk stands: the lines that are counted, out of so many; how many variables are left; the choice.
-#[derive(Drop)]
+#[derive(Clone, Copy)]
 pub struct Place {
     pub active: u64,
     pub many: usize,

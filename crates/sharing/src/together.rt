@@ -26,7 +26,7 @@ const ROOM: usize = 15360;
 const MOST_CHOICES: u64 = 262144;
 
 // The lines were not counted, or there are so many full choices.
-#[derive(Drop)]
+#[derive(Clone, Copy)]
 pub enum Shared {
     No,
     Yes(u64),

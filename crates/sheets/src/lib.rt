@@ -1,5 +1,7 @@
 // The day sheet: each of its lines, made from tables, rules and the line's place.
 // Nothing here reads files or prints.
+#![tactic(auto)]
+
 use answers::{Refusal, Written};
 use tables::Outcome;
 use texts::Span;

@@ -11,7 +11,7 @@ use crate::text::{labelled, two};
 use verdicts::Outcome;
 
 // How many lines there are, and how many carry each word.
-#[derive(Drop)]
+#[derive(Clone, Copy)]
 pub struct Total {
     pub lines: usize,
     pub held: usize,

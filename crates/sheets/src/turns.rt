@@ -11,7 +11,7 @@ use crate::{text, total};
 use verdicts::Verdict;
 
 // A rule that is judged: its verdict, where the next line begins, and the total with this one.
-#[derive(Drop)]
+#[derive(Clone, Copy)]
 struct Judged {
     verdict: Verdict,
     at: usize,
@@ -19,7 +19,7 @@ struct Judged {
 }
 
 // A line that is written: its length, whether it is the last one, which is the total, and the same.
-#[derive(Drop)]
+#[derive(Clone, Copy)]
 pub struct Turn {
     pub n: usize,
     pub last: bool,

@@ -9,7 +9,7 @@ use super::nodes::{FIRST_CALL, has_two, pack};
 use super::places::seek;
 
 // What a reader found: the node that holds it, the place behind it, and the count of nodes after it.
-#[derive(Drop)]
+#[derive(Clone, Copy)]
 pub enum Place {
     Nothing,
     Got { node: usize, next: usize, n: usize },

@@ -1,5 +1,7 @@
 // The reader of rules and of formulas: the whole text as a tree of nodes.
 // nodes: their numbers; arena: the nodes; places: where a number stands; names: fixed byte strings; terms, tests and formulas: a reader for each form of the language.
+#![tactic(auto)]
+
 ghost use Rattle.std.specs.Prelude.{ℕ, ◌+◌, ◌≤◌, List, [], length};
 ghost use Rattle.syntax.specs.Bytes.{Read};
 ghost use Rattle.syntax.specs.Rule.{Rule, whole, rule_of, read_formula};
@@ -19,14 +21,14 @@ use formulas::read_formula;
 use tests::{CLAUSE_ROOM, Clauses, join_clauses, read_clauses, read_rule};
 
 // What a whole text is: nothing, or the tree at a node, in n nodes.
-#[derive(Drop)]
+#[derive(Clone, Copy)]
 pub enum Whole {
     Nothing,
     Root { node: usize, n: usize },
 }
 
 // What a whole text is by its clauses: nothing, or so many of them, in n nodes.
-#[derive(Drop)]
+#[derive(Clone, Copy)]
 pub enum Listed {
     Nothing,
     Clauses { count: usize, n: usize },

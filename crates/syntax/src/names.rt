@@ -15,7 +15,7 @@ use super::nodes::{
 };
 
 // A name's number and where the bytes behind it begin, or no name.
-#[derive(Drop)]
+#[derive(Clone, Copy)]
 pub enum Spelled {
     Unknown,
     Name(u32, usize),

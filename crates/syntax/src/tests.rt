@@ -171,7 +171,7 @@ fn caret_at(s: &[u8], at: usize) -> bool
 pub const CLAUSE_ROOM: usize = 256;
 
 // The clauses of a rule: how many there are, the place behind them, and the count of nodes after them.
-#[derive(Drop)]
+#[derive(Clone, Copy)]
 pub enum Clauses {
     Nothing,
     Several { count: usize, next: usize, n: usize },

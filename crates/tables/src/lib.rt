@@ -1,5 +1,7 @@
 // Tables: read from bytes, checked, and held as one flat array of words.
 // The entry points are `read` and `rank_step`; counts and rows are in rows, the sections in sections, the checks of the whole in checks.
+#![tactic(auto)]
+
 ghost use Rattle.std.specs.Prelude.{◌≡◌, [], replicate};
 ghost use Rattle.tables.specs.declared.Outcome.TheVariants.{Accepted as AcceptedOutcome};
 ghost use Rattle.tables.specs.Flat.{whole_length, flat};
@@ -19,27 +21,27 @@ mod rows;
 mod sections;
 mod twins;
 
-#[derive(Drop)]
+#[derive(Clone, Copy)]
 pub enum Outcome {
     Refused(Refusal),
     Accepted,
 }
 
-#[derive(Drop)]
+#[derive(Clone, Copy)]
 pub struct Loaded {
     pub outcome: Outcome,
     pub words: [u64; WHOLE],
 }
 
 // A row of one word, with the count that its items are below: the word alone, or behind the mark of what was entered.
-#[derive(Drop)]
+#[derive(Clone, Copy)]
 pub enum Row {
     Plain(u64),
     Marked(u64),
 }
 
 // What reading a count, a row or a section gives: the refusal met, or a value and where the next byte stands.
-#[derive(Drop)]
+#[derive(Clone, Copy)]
 pub enum Step {
     Stopped(Refusal),
     Took { value: u64, next: usize },

@@ -8,7 +8,7 @@ use native.Mathlib.Omega.{arith}
 use borrow.Author.Tests.{eq-eqb}
 use lib.Dec.{eqb}
 use lib.ListN.{length, take, drop}
-use Rattle.bytes.specs.Bytes.{index_of, index_after}
+use Rattle.texts.specs.Scan.{index_of, index_after}
 use Rattle.texts.specs.Pieces.{split, cut, on_first}
 
 module _ (c : ℕ) (final : List (List ℕ)) where

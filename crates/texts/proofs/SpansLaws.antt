@@ -8,7 +8,7 @@ use native.Mathlib.Decide.{ℕ_discrete}
 use native.Mathlib.Omega.{arith}
 use lib.ListN.{length, take, drop, get_elem?, length-drop, drop_of_length-le}
 use lib.Seq.{take-length, take_all, take-nil, drop-drop}
-use Rattle.bytes.specs.Bytes.{slice, index_of}
+use Rattle.texts.specs.Scan.{slice, index_of}
 use Rattle.texts.specs.declared.Span.{Span}
 use Rattle.texts.specs.declared.Span.TheVariants.{Missing, Found}
 use Rattle.texts.specs.declared.Start.{Start}

@@ -1,5 +1,7 @@
 // Texts made of pieces. Each function that writes puts its piece over the beginning of the lent
 // bytes and answers how long it is, so that the next piece goes to the rest of them.
+#![tactic(auto)]
+
 ghost use Rattle.std.specs.Prelude.{◌≡◌, ◌≤◌, ◌<◌, ◌+◌, length};
 ghost use Rattle.std.proofs.Math.ListN.{get_elem?};
 ghost use Rattle.texts.specs.Code.Overwritten.{Overwritten, Added};
@@ -7,12 +9,15 @@ ghost use Rattle.texts.specs.Decimal.{digits_to, decimal_of};
 ghost use Rattle.texts.specs.Pieces.{lines, fields};
 ghost use Rattle.texts.specs.Code.Spans.{Spans, Starts, Sought};
 
+pub mod scan;
+
 // Writes the bytes of w.
 pub fn put(w: &[u8], out: &mut [u8]) -> usize
     requires { length w.now ≤ length out.old }
     ensures { Overwritten w.now out.old out.new result }
 {
-    bytes::copy(w, out)
+    out[..w.len()].copy_from_slice(w);
+    w.len()
 }
 
 // Writes the bytes of w behind the first n: the place behind them.
@@ -56,7 +61,7 @@ fn digit(d: u64) -> u8
 }
 
 // A piece of a text: its first place and the place behind it.
-#[derive(Drop)]
+#[derive(Clone, Copy)]
 pub enum Span {
     Missing,
     Found { from: usize, to: usize },
@@ -81,7 +86,7 @@ pub fn line_end(s: &[u8], from: usize) -> usize
     requires { from ≤ length s.now }
     ensures { Sought 10 s.now from result }
 {
-    bytes::scan::find(s, from, s.len(), b'\n')
+    scan::find(s, from, s.len(), b'\n')
 }
 
 // Field k of s, from 0.
@@ -91,11 +96,11 @@ pub fn field(s: &[u8], k: usize) -> Span
     let Start::At(from) = seek(s, b' ', k) else {
         return Span::Missing;
     };
-    let to = bytes::scan::find(s, from, s.len(), b' ');
+    let to = scan::find(s, from, s.len(), b' ');
     Span::Found { from, to }
 }
 
-#[derive(Drop)]
+#[derive(Clone, Copy)]
 enum Start {
     Nowhere,
     At(usize),
@@ -108,7 +113,7 @@ fn seek(s: &[u8], c: u8, k: usize) -> Start
     let mut at = 0;
     let mut left = k;
     while left > 0 {
-        let end = bytes::scan::find(s, at, s.len(), c);
+        let end = scan::find(s, at, s.len(), c);
         if end == s.len() {
             return Start::Nowhere;
         }

@@ -1,5 +1,7 @@
 // Values of terms and truth of rules under a choice, as words.
 // Nodes, kinds and variables are slices as crate rules makes them; a choice has an item for each variable.
+#![tactic(auto)]
+
 mod calls;
 pub mod ceiling;
 pub mod items;

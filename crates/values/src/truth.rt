@@ -73,7 +73,7 @@ pub fn clause(first: u32, second: u32, cache: &[u64]) -> bool
 }
 
 // The nodes of a clause's tests, the second 0 where there is one test.
-#[derive(Drop)]
+#[derive(Clone, Copy)]
 pub struct Tests {
     pub first: u32,
     pub second: u32,

@@ -1,5 +1,7 @@
 // Verdicts: judging a rule on tables along an order.
 // Judging checks tables, rule, order, walks the choices, and writes the verdict as 26 bytes.
+#![tactic(auto)]
+
 ghost use Rattle.std.specs.Prelude.{◌≡◌, length};
 ghost use Rattle.rules.specs.declared.Checked.TheVariants.{Accepted as AcceptedRule};
 ghost use Rattle.answers.specs.Answer.{lent};
@@ -19,7 +21,7 @@ pub mod ruling;
 pub mod sheet;
 
 // What judging says: a refusal, or the verdict's word.
-#[derive(Drop)]
+#[derive(Clone, Copy)]
 pub enum Outcome {
     Refused(Refusal),
     Held,
@@ -27,7 +29,7 @@ pub enum Outcome {
     Broken,
 }
 
-#[derive(Drop)]
+#[derive(Clone, Copy)]
 pub struct Verdict {
     pub outcome: Outcome,
     pub full: u64,

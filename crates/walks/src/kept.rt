@@ -22,7 +22,7 @@ const BYTE: u64 = 255;
 // How many numbers an entry has: full, breaking, the choice.
 const ENTRY: usize = 3;
 
-#[derive(Drop)]
+#[derive(Clone, Copy)]
 pub struct Counts {
     pub full: u64,
     pub breaking: u64,

@@ -1,5 +1,7 @@
 // The walk over choices: its tally, the test of an order, the share.
 // Nothing here knows tables or rules: what a variable's set names is a word of variables.
+#![tactic(auto)]
+
 ghost use Rattle.std.specs.Prelude.{◌≡◌, true, ℕ, ◌<◌, ◌≤◌, ◌^◌, length, get_or, drop, take};
 ghost use Rattle.walks.specs.Order.{count, is_small, is_once, is_free, is_after, is_order, named_by, variable_of, variables_of};
 ghost use Rattle.walks.specs.Share.{IsShare};
@@ -7,7 +9,7 @@ ghost use Rattle.walks.specs.Share.{IsShare};
 pub mod kept;
 
 // What judging counts: full and breaking choices, and the first breaking one (255 where there is none).
-#[derive(Drop)]
+#[derive(Clone, Copy)]
 pub struct Tally {
     pub full: u64,
     pub breaking: u64,

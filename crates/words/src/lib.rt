@@ -1,5 +1,7 @@
 // Sets as u64 words, and the two ways to go from a set to another: image and preimage.
 // Each function is told by bits; nothing here knows tables.
+#![tactic(auto)]
+
 ghost use Rattle.std.specs.Prelude.{◌≡◌, ◌<◌, ◌≤◌, ◌^◌, min, leb, get_or};
 ghost use Rattle.words.specs.Words.{has, Lowest, size_of, all_of, item_of, meet_of, join_of, less_of, image_of, preimage_of};
 

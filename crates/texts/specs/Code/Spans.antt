@@ -3,7 +3,7 @@
 use Rattle.std.specs.Prelude.{◌≡◌, List, ℕ, ◌-◌, ◌≤◌, length, take, drop}
 use Rattle.std.proofs.Math.Option.{Option, none, some}
 use Rattle.std.proofs.Math.ListN.{get_elem?}
-use Rattle.bytes.specs.Bytes.{index_of}
+use Rattle.texts.specs.Scan.{index_of}
 use Rattle.texts.specs.declared.Span.{Span}
 use Rattle.texts.specs.declared.Span.TheVariants.{Missing, Found}
 use Rattle.texts.specs.declared.Start.{Start}
