@@ -1,0 +1,33 @@
+-- `forecasts::on_tables`: the refusal that was found, or the length and the ceiling of the rule.
+-- Assumes nothing.
+use native.Mathlib.Omega.{arith}
+use lib.ListN.{length-take}
+use Rattle.rules.proofs.ParseLaws.{as-found, found-few, found-tidy}
+use Rattle.verdicts.proofs.LoadedLaws.{loaded-whole}
+use Rattle.forecasts.proofs.TellingLaws.{told-rejected, told-found}
+use Rattle.forecasts.proofs.on_tables.Goals as goal
+
+pub slice_bounds-vars-end : goal.slice_bounds-vars-end
+slice_bounds-vars-end c =
+    omega (arith, found-few c.find.ensures c.in-Rule.is)
+
+pub slice_bounds-known-end : goal.slice_bounds-known-end
+slice_bounds-known-end c =
+    simp length-take (omega (arith, found-few c.find.ensures c.in-Rule.is))
+
+pub formula_length-size-requires : goal.formula_length-size-requires
+formula_length-size-requires c =
+    let t = found-tidy c.find.ensures c.in-Rule.is in
+    (t.0, (omega (arith, t.0.fits), t.1))
+
+pub ceiling-requires : goal.ceiling-requires
+ceiling-requires c =
+    (loaded-whole c.requires, simp length-take (omega (arith, (as-found c.find.ensures c.in-Rule.is).1.few)))
+
+pub returns-in-Rejected : goal.returns-in-Rejected
+returns-in-Rejected c =
+    told-rejected _ c.find.ensures c.in-Rejected.is
+
+pub returns-in-Rule : goal.returns-in-Rule
+returns-in-Rule c =
+    told-found c.find.ensures c.in-Rule.is c.formula_length-size.ensures c.ceiling.ensures c.put.ensures

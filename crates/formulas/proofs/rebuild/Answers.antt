@@ -1,0 +1,57 @@
+-- `rebuild`: 16 unless the tree's own text has the input as its formula; that text is the only candidate.
+-- Assumes nothing.
+use mathlib.Core.Path.{sym, ◌∙◌}
+use native.Mathlib.Omega.{arith}
+use lib.Seq.{length-take-le}
+use borrow.Author.Tests.{not-true, not-false}
+use borrow.Author.Rules.{rules}
+use Rattle.syntax.proofs.FormulaLaws.{as-nothing, as-root}
+use Rattle.formulas.proofs.WrittenLaws.{answers-wrote}
+use Rattle.formulas.proofs.ReduceLaws.{rebuild-gives, rebuild-long, rebuild-deep, rebuild-unread, rebuild-wide, rebuild-refused, rebuild-apart, rebuild-same, rebuild-ready, rebuild-text}
+use Rattle.formulas.proofs.rebuild.Goals as goal
+
+pub returns-then-formula-gt-FORMULA_LIMIT : goal.returns-then-formula-gt-FORMULA_LIMIT
+returns-then-formula-gt-FORMULA_LIMIT c = rebuild-long _ _ c.if-formula-gt-FORMULA_LIMIT.true
+
+pub returns-then-too_deep : goal.returns-then-too_deep
+returns-then-too_deep c = rebuild-deep _ _ (sym c.too_deep.ensures ∙ c.if-too_deep.true)
+
+pub returns-in_default : goal.returns-in_default
+returns-in_default c = rebuild-unread _ _ (as-nothing c.formula.ensures c.in_default.is)
+
+pub rule_length-requires : goal.rule_length-requires
+rule_length-requires c = let t = as-root c.formula.ensures c.in-Root.is in (t.tidy, t.within)
+
+pub returns-then-rule_length-gt-LENGTH_LIMIT : goal.returns-then-rule_length-gt-LENGTH_LIMIT
+returns-then-rule_length-gt-LENGTH_LIMIT c =
+    rebuild-wide _ _ (as-root c.formula.ensures c.in-Root.is) c.rule_length.ensures c.if-rule_length-gt-LENGTH_LIMIT.true
+
+pub write_rule-l-requires : goal.write_rule-l-requires
+write_rule-l-requires c =
+    rebuild-ready (as-root c.formula.ensures c.in-Root.is)
+
+pub slice_bounds-reduce-end : goal.slice_bounds-reduce-end
+slice_bounds-reduce-end c = sym (length-take-le _ _ (search rules))
+
+pub returns-in_default-reduce : goal.returns-in_default-reduce
+returns-in_default-reduce c =
+    let t = as-root c.formula.ensures c.in-Root.is in
+    rebuild-refused _ _ t.is (rebuild-text t c.write_rule-l.ensures) c.reduce.ensures c.in_default-reduce.is (omega (arith, c.if-formula-gt-FORMULA_LIMIT.false))
+
+pub slice_bounds-sheet-end : goal.slice_bounds-sheet-end
+slice_bounds-sheet-end c = (answers-wrote _ _ c.reduce.ensures c.in-Wrote.is).fits
+
+pub slice_bounds-alike-end : goal.slice_bounds-alike-end
+slice_bounds-alike-end c = sym (length-take-le _ _ (answers-wrote _ _ c.reduce.ensures c.in-Wrote.is).fits)
+
+pub returns-then-not-alike : goal.returns-then-not-alike
+returns-then-not-alike c =
+    let t = as-root c.formula.ensures c.in-Root.is in
+    rebuild-apart _ _ t.is (rebuild-text t c.write_rule-l.ensures) c.reduce.ensures c.in-Wrote.is (sym c.alike.ensures ∙ not-true _ c.if-not-alike.true)
+
+pub slice_bounds-lend-end : goal.slice_bounds-lend-end
+slice_bounds-lend-end c = sym (length-take-le _ _ (search rules))
+
+pub returns : goal.returns
+returns c =
+    rebuild-gives (rebuild-same _ c.reduce.ensures c.in-Wrote.is (sym c.alike.ensures ∙ not-false _ c.if-not-alike.false)) c.lend.ensures

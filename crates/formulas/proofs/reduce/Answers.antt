@@ -1,0 +1,36 @@
+-- `reduce`: the refusal that was found; 17 where the formula's length, which is measured first, has no room; or the formula.
+-- Assumes nothing.
+use native.Mathlib.Omega.{arith}
+use lib.ListN.{length-take}
+use Rattle.rules.proofs.ParseLaws.{found-few, found-tidy}
+use Rattle.formulas.proofs.ReduceLaws.{reduce-rejected, reduce-ready, reduce-short, reduce-made}
+use Rattle.formulas.proofs.reduce.Goals as goal
+
+pub slice_bounds-vars-end : goal.slice_bounds-vars-end
+slice_bounds-vars-end c =
+    omega (arith, found-few c.find.ensures c.in-Rule.is)
+
+pub slice_bounds-known-end : goal.slice_bounds-known-end
+slice_bounds-known-end c =
+    simp length-take (omega (arith, found-few c.find.ensures c.in-Rule.is))
+
+pub formula_length-l-requires : goal.formula_length-l-requires
+formula_length-l-requires c =
+    let t = found-tidy c.find.ensures c.in-Rule.is in
+    (t.0, (omega (arith, t.0.fits), t.1))
+
+pub returns-then-out-l : goal.returns-then-out-l
+returns-then-out-l c =
+    reduce-short c.find.ensures c.in-Rule.is c.formula_length-l.ensures c.if-out-l.true
+
+pub write_formula-requires : goal.write_formula-requires
+write_formula-requires c =
+    reduce-ready c.find.ensures c.in-Rule.is
+
+pub returns-in-Rejected : goal.returns-in-Rejected
+returns-in-Rejected c =
+    reduce-rejected _ _ c.find.ensures c.in-Rejected.is
+
+pub returns-else-out-l : goal.returns-else-out-l
+returns-else-out-l c =
+    reduce-made c.find.ensures c.in-Rule.is c.formula_length-l.ensures c.if-out-l.false c.write_formula.ensures

@@ -1,0 +1,8 @@
+-- `functions::user_of_sessions` meets its contract: one step forth.
+-- Assumes nothing.
+use mathlib.Core.Path.{◌∙◌}
+use Rattle.functions.proofs.FunctionsLaws.{user-of-sessions}
+use Rattle.functions.proofs.user_of_sessions.Goals as goal
+
+pub returns : goal.returns
+returns c = λ T fits e. c.image.ensures T e ∙ user-of-sessions T c.args.w

@@ -1,0 +1,72 @@
+-- `judging::planning::by_clauses` meets its contract. The invariant: the word has those of the first i clauses above level d.
+-- Assumes nothing.
+use mathlib.Core.Path.{◌≡◌, ◌∙◌}
+use mathlib.Core.List.{List}
+use mathlib.Core.Logic.{⊎_elim}
+use Prim.Native.Nat.{ℕ, ◌+◌, ◌-◌, ◌<◌, ◌≤◌, ◌^◌}
+use native.Mathlib.Nat.{eq-or-lt_of_le}
+use native.Mathlib.Omega.{arith}
+use lib.ListN.{get_or, drop}
+use lib.Seq.{get_or-drop}
+use Rattle.words.specs.Words.{has}
+use Rattle.values.specs.Code.Plan.{levels_from}
+use Rattle.judging.proofs.PlanningLaws.{joined-left, joined-right, joined_small}
+use Rattle.judging.proofs.planning.by_clauses.Goals as goal
+
+pub loop-i-init : goal.loop-i-init
+loop-i-init c = (omega arith, λ j b l k. absurd (omega arith))
+
+pub overflow_add-i : goal.overflow_add-i
+overflow_add-i c = omega (arith, c.requires.2, c.loop-i-test.true)
+
+pub offset_bounds-plan-i : goal.offset_bounds-plan-i
+offset_bounds-plan-i c = omega (arith, c.requires.2, c.loop-i-test.true)
+
+pub bounds-plan-i : goal.bounds-plan-i
+bounds-plan-i c = omega (arith, c.requires.0, c.requires.2, c.loop-i-test.true)
+
+pub offset_bounds-scopes-i : goal.offset_bounds-scopes-i
+offset_bounds-scopes-i c =
+    omega (arith, c.requires.2, c.loop-i-test.true)
+
+pub bounds-scopes-i : goal.bounds-scopes-i
+bounds-scopes-i c =
+    omega (arith, c.requires.1, c.requires.2, c.loop-i-test.true)
+
+pub overflow_add-i-in-loop-i : goal.overflow_add-i-in-loop-i
+overflow_add-i-in-loop-i c =
+    omega (arith, c.requires.2, c.loop-i-test.true)
+
+pub loop-i-smaller : goal.loop-i-smaller
+loop-i-smaller c = omega (arith, c.loop-i-test.true)
+
+pub loop-i-preserved : goal.loop-i-preserved
+loop-i-preserved c =
+    let P : List ℕ = c.args.plan.now in
+    let w : ℕ = get_or c.args.scopes.now c.loop-i.i 0 in
+    let level : get_or (drop levels_from P) c.loop-i.i 0 ≡ get_or P (levels_from + c.loop-i.i) 0 = get_or-drop levels_from P c.loop-i.i 0 in
+    ⊎_elim
+    (λ h.
+    let fit : w < 2 ^ 64 = omega (arith, h.1.given c.loop-i.i) in
+    let e = h.3 ∙ h.2.ensures in (
+      joined_small c.loop-i.found w c.if-d-plan.found e,
+      λ j b l k.
+          let at_most : j ≤ c.loop-i.i = omega arith in
+          ⊎_elim
+          (λ (q : j ≡ c.loop-i.i). rw q (joined-right c.loop-i.found w c.if-d-plan.found e fit))
+          (λ (q : j < c.loop-i.i). joined-left c.loop-i.found w c.if-d-plan.found (has (get_or c.args.scopes.now j 0)) e c.loop-i.invariant.0 (c.loop-i.invariant.1 j b q k))
+          (eq-or-lt_of_le at_most),
+    ))
+    (λ h. (
+      rw h.1 c.loop-i.invariant.0,
+      λ j b l k.
+          let at_most : j ≤ c.loop-i.i = omega arith in
+          ⊎_elim
+          (λ (q : j ≡ c.loop-i.i). let high : c.args.d < get_or (drop levels_from P) c.loop-i.i 0 = rw q at k in absurd (omega (arith, h.0.left, level)))
+          (λ (q : j < c.loop-i.i). rw h.1 (c.loop-i.invariant.1 j b q k))
+          (eq-or-lt_of_le at_most),
+    ))
+    c.if-d-plan.branch-raw
+
+pub returns : goal.returns
+returns c = (c.loop-i.invariant.0, λ j b l k. c.loop-i.invariant.1 j b (omega (arith, c.loop-i-test.false)) k)

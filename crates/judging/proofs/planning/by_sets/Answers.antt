@@ -1,0 +1,51 @@
+-- `judging::planning::by_sets` meets its contract. The invariant: the word has those from d to below j.
+-- Assumes nothing.
+use mathlib.Core.Path.{◌≡◌}
+use mathlib.Core.Logic.{⊎_elim}
+use Prim.Native.Nat.{ℕ, ◌-◌, ◌<◌, ◌≤◌, ◌^◌}
+use native.Mathlib.Nat.{eq-or-lt_of_le}
+use native.Mathlib.Omega.{arith}
+use lib.ListN.{get_or}
+use Rattle.words.specs.Words.{has}
+use Rattle.judging.proofs.PlanningLaws.{joined-left, joined-right, joined_small}
+use Rattle.judging.proofs.planning.by_sets.Goals as goal
+
+pub loop-j-init : goal.loop-j-init
+loop-j-init c = (omega arith, omega arith, λ i l k m. absurd (omega arith))
+
+pub bounds-order-j : goal.bounds-order-j
+bounds-order-j c = omega (arith, c.loop-j-test.true)
+
+pub overflow_cast-order : goal.overflow_cast-order
+overflow_cast-order c = omega (arith, c.shared_slice_known-in-loop-j-1.given c.loop-j.j)
+
+pub offset_bounds-names-order : goal.offset_bounds-names-order
+offset_bounds-names-order c = omega (arith, c.requires.2 c.loop-j.j c.loop-j-test.true)
+
+pub bounds-names-order : goal.bounds-names-order
+bounds-names-order c =
+    omega (arith, c.requires.0, c.requires.2 c.loop-j.j c.loop-j-test.true)
+
+pub overflow_add-j : goal.overflow_add-j
+overflow_add-j c =
+    omega (arith, c.requires.1, c.loop-j-test.true)
+
+pub loop-j-smaller : goal.loop-j-smaller
+loop-j-smaller c = omega (arith, c.loop-j-test.true)
+
+pub loop-j-preserved : goal.loop-j-preserved
+loop-j-preserved c =
+    let w : ℕ = get_or c.args.names.now (get_or c.args.order.now c.loop-j.j 0) 0 in
+    let fit : w < 2 ^ 64 = omega (arith, c.shared_slice_known-in-loop-j-2-1.given (get_or c.args.order.now c.loop-j.j 0)) in (
+      omega (arith, c.loop-j.invariant.0),
+      joined_small c.loop-j.found w c.join-found.result c.join-found.ensures,
+      λ i l k m.
+          let at_most : i ≤ c.loop-j.j = omega arith in
+          ⊎_elim
+          (λ (e : i ≡ c.loop-j.j). rw e (joined-right c.loop-j.found w c.join-found.result c.join-found.ensures fit))
+          (λ (e : i < c.loop-j.j). joined-left c.loop-j.found w c.join-found.result (has (get_or c.args.names.now (get_or c.args.order.now i 0) 0)) c.join-found.ensures c.loop-j.invariant.1 (c.loop-j.invariant.2 i l e m))
+          (eq-or-lt_of_le at_most),
+    )
+
+pub returns : goal.returns
+returns c = (c.loop-j.invariant.1, λ i l k. c.loop-j.invariant.2 i l (omega (arith, c.loop-j-test.false)) k)

@@ -1,0 +1,33 @@
+-- `judging::walking::turn` meets its contract.
+-- Assumes nothing.
+use mathlib.Core.Path.{◌∙◌}
+use native.Mathlib.Omega.{arith}
+use Rattle.judging.proofs.WalkingLaws.{once-for, after-for}
+use Rattle.judging.proofs.CountingLaws.{plan-runs}
+use Rattle.judging.proofs.DescendLaws.{keeps-none, ready_on}
+use Rattle.judging.proofs.walking.turn.Goals as goal
+
+pub overflow_cast-order : goal.overflow_cast-order
+overflow_cast-order c =
+    omega (arith, c.shared_slice_known-3-1.given c.args.place.depth)
+
+pub returns-then-plan-d : goal.returns-then-plan-d
+returns-then-plan-d c =
+    record { small = c.requires.3.small; long = c.requires.3.long; room = c.requires.3.room; slots = c.requires.3.slots; ready = λ T ρ C. ready_on (once-for c.requires.0 c.requires.1 C) (after-for c.requires.0 c.requires.1 C) c.requires.2 c.if-plan-d.true (c.requires.3.ready T ρ C) }
+
+pub entered-requires : goal.entered-requires
+entered-requires c =
+    let L = c.requires.0.lent in (L.ready.whole, plan-runs (c.lay.ensures.along L.tables L.rule L.is_case).planned, c.requires.3.room, omega (arith, c.requires.2, c.requires.1.list.short))
+
+pub returns : goal.returns
+returns c =
+    record {
+      small = c.entered.ensures.modes;
+      long = c.lay.ensures.long;
+      room = c.entered.ensures.room ∙ c.requires.3.room;
+      slots = c.clear.ensures.0;
+      ready = λ T ρ C.
+          let A = c.lay.ensures.along T ρ C in
+          let e = c.entered.ensures.goes A.layout T ρ A.planned in
+          record { along = A; stored = e.0; keeps = keeps-none A.planned _ (λ j l. c.clear.ensures.1 j (omega (arith, c.clear.ensures.0))); modes = e.1 };
+    }

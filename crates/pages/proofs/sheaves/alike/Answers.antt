@@ -1,0 +1,55 @@
+-- `pages::sheaves::alike` meets its contract. The invariant: what was found are lines.
+-- Assumes nothing.
+use mathlib.Core.Path.{ap, ◌∙◌}
+use mathlib.Core.Logic.{⊎_elim}
+use Prim.Native.Nat.{◌-◌}
+use native.Mathlib.Omega.{arith}
+use Rattle.words.specs.Words.{join_of}
+use Rattle.pages.proofs.SheafLaws.{lines_none, lines-add}
+use Rattle.pages.proofs.sheaves.alike.Goals as goal
+
+pub loop-j-init : goal.loop-j-init
+loop-j-init c = (omega arith, lines_none _)
+
+pub offset_bounds-groups-j : goal.offset_bounds-groups-j
+offset_bounds-groups-j c =
+    omega (arith, c.requires.0, c.loop-j-test.true)
+
+pub bounds-groups-j : goal.bounds-groups-j
+bounds-groups-j c =
+    omega (arith, c.requires.0, c.requires.1, c.loop-j-test.true)
+
+pub offset_bounds-groups-k : goal.offset_bounds-groups-k
+offset_bounds-groups-k c =
+    omega (arith, c.requires.0, c.loop-j.invariant.0, c.loop-j-test.true)
+
+pub bounds-groups-k : goal.bounds-groups-k
+bounds-groups-k c =
+    omega (arith, c.requires.0, c.requires.1, c.loop-j.invariant.0, c.loop-j-test.true)
+
+pub contains-requires : goal.contains-requires
+contains-requires c =
+    omega (arith, c.requires.0, c.loop-j-test.true)
+
+pub overflow_add-j : goal.overflow_add-j
+overflow_add-j c =
+    omega (arith, c.requires.0, c.loop-j-test.true)
+
+pub loop-j-smaller : goal.loop-j-smaller
+loop-j-smaller c =
+    omega (arith, c.loop-j-test.true)
+
+pub loop-j-preserved : goal.loop-j-preserved
+loop-j-preserved c =
+    let L = c.loop-j.invariant in
+    let more = lines-add c.loop-j.j L.1 c.requires.0 c.loop-j-test.true in (
+      omega (arith, L.0),
+      ⊎_elim
+          (λ w. rw (w.5 ∙ w.4.ensures ∙ ap (join_of c.loop-j.found) w.3.ensures) more)
+          (λ w. ⊎_elim (λ z. rw z.3 L.1) (λ z. rw z.1 L.1) w)
+          c.if-groups-j.branch-raw,
+    )
+
+pub returns : goal.returns
+returns c =
+    c.loop-j.invariant.1

@@ -1,0 +1,22 @@
+-- `readers::lend_line` lends the line at a place of the tables that the words hold.
+-- Assumes nothing.
+use native.Mathlib.Omega.{arith}
+use Rattle.sheets.specs.Sheet.{sheet_by}
+use Rattle.texts.proofs.OverwrittenLaws.{written-part, written-length, part_length}
+use Rattle.readers.proofs.lend_line.Goals as goal
+
+pub slice_bounds-text-end : goal.slice_bounds-text-end
+slice_bounds-text-end c =
+    let loaded = c.requires in
+    let o = c.judged_line-n.ensures loaded.tables loaded.holds in
+    omega (arith, o.count, o.fits, written-length o)
+
+pub slice_bounds-lend-end : goal.slice_bounds-lend-end
+slice_bounds-lend-end c =
+    let loaded = c.requires in
+    part_length (c.judged_line-n.ensures loaded.tables loaded.holds)
+
+pub returns : goal.returns
+unfolding sheet_by
+returns c =
+    λ T H. rw (written-part (c.judged_line-n.ensures T H)) at c.lend.ensures

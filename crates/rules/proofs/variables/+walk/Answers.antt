@@ -1,0 +1,50 @@
+-- `rules::variables::walk`: each way out is one of those of a walk; the index falls at each call.
+-- Assumes nothing.
+use mathlib.Core.Path.{sym, ◌∙◌}
+use native.Mathlib.Omega.{arith}
+use Rattle.rules.proofs.NodeLaws.{left_below, right-below}
+use Rattle.syntax.proofs.ArenaLaws.{two-less}
+use Rattle.rules.proofs.WalkLaws.{walked-bare, walked-single, walked-choosing, walked-double}
+use Rattle.rules.proofs.variables.+walk.Goals as goal
+
+pub bounds-nodes-k : goal.bounds-nodes-k
+bounds-nodes-k t c =
+    let f = c.requires.tidy.fits in
+    omega (arith, c.requires)
+
+pub returns-then-op-lt-FIRST_CALL : goal.returns-then-op-lt-FIRST_CALL
+returns-then-op-lt-FIRST_CALL t c = walked-bare c.operation-op.ensures c.if-op-lt-FIRST_CALL.true
+
+pub walk-c-requires : goal.walk-c-requires
+walk-c-requires t c =
+    let P = c.requires in
+    let l = left_below P.1.0 P.1.1.0 c.operation-op.ensures c.left-below.ensures c.if-op-lt-FIRST_CALL.false in
+    (omega (arith, P), (P.1.0, (omega (arith, P), P.1.1.1)))
+
+pub returns-then-op-lt-OE : goal.returns-then-op-lt-OE
+returns-then-op-lt-OE t c =
+    walked-single c.operation-op.ensures c.left-below.ensures c.walk-c.ensures c.if-op-lt-FIRST_CALL.false (λ h. absurd (omega arith)) (two-less _ (omega arith))
+
+pub add-requires : goal.add-requires
+add-requires t c =
+    c.walk-c.ensures.size ∙ c.requires.vars_len
+
+pub returns-then-op-lt-FIRST_PAIR : goal.returns-then-op-lt-FIRST_PAIR
+returns-then-op-lt-FIRST_PAIR t c =
+    let P = c.requires in
+    let l = left_below P.1.0 P.1.1.0 c.operation-op.ensures c.left-below.ensures c.if-op-lt-FIRST_CALL.false in
+    walked-choosing c.operation-op.ensures c.left-below.ensures c.walk-c.ensures c.if-op-lt-OE.false c.if-op-lt-FIRST_PAIR.true P.1.0.apart (omega (arith, P)) P.1.1.1 c.add.ensures
+
+pub walk-requires : goal.walk-requires
+walk-requires t c =
+    let P = c.requires in
+    let l = right-below P.1.0 P.1.1.0 c.operation-op.ensures c.right.ensures (sym c.has_two.ensures ∙ c.if-has_two.true) in
+    (omega (arith, P), (P.1.0, (omega (arith, P), c.walk-c.ensures.size ∙ P.1.1.1)))
+
+pub returns-then-has_two : goal.returns-then-has_two
+returns-then-has_two t c =
+    walked-double c.operation-op.ensures c.left-below.ensures c.walk-c.ensures (sym c.has_two.ensures ∙ c.if-has_two.true) c.if-op-lt-FIRST_PAIR.false c.right.ensures c.walk.ensures
+
+pub returns : goal.returns
+returns t c =
+    walked-single c.operation-op.ensures c.left-below.ensures c.walk-c.ensures c.if-op-lt-FIRST_CALL.false (λ _. c.if-op-lt-FIRST_PAIR.false) (sym c.has_two.ensures ∙ c.if-has_two.false)

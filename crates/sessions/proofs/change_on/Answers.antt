@@ -1,0 +1,59 @@
+-- `sessions::change_on`: the output is too short, or the change is made and the parts of the next state are written.
+-- Assumes nothing.
+use mathlib.Core.Path.{ap}
+use native.Mathlib.Omega.{arith}
+use lib.ListN.{length}
+use Rattle.sessions.proofs.LayLaws.{to_end}
+use Rattle.sessions.proofs.StepLaws.{front_length, room-length, next-room, change-short, change-written, made-changed, made-loaded, next_fits}
+use borrow.Author.Rules.{rules}
+use Rattle.sessions.proofs.change_on.Goals as goal
+
+pub overflow_add-front : goal.overflow_add-front
+overflow_add-front c = let room = room-length c.requires.holds c.requires.front in search rules
+
+pub next_length-requires : goal.next_length-requires
+next_length-requires c = room-length c.requires.holds c.requires.front
+
+pub returns-then-out-next_length : goal.returns-then-out-next_length
+returns-then-out-next_length c =
+    change-short c.requires.holds c.requires.front _ _ c.next_length.ensures c.if-out-next_length.true
+
+pub make-requires : goal.make-requires
+make-requires c =
+    c.requires.ready
+
+pub put_verdict-a-requires : goal.put_verdict-a-requires
+put_verdict-a-requires c =
+    let H = c.requires.holds in
+    let F = c.requires.front in
+    let room = c.if-out-next_length.false in
+    let next = c.next_length.ensures in
+    let apart = next-room H F c.args.change in
+    let long = front_length H F in
+    (made-loaded H F c.args.change c.requires.ready c.make.ensures, (F, search rules))
+
+pub add_rule-b-requires : goal.add_rule-b-requires
+add_rule-b-requires c =
+    let H = c.requires.holds in
+    let F = c.requires.front in
+    let room = c.if-out-next_length.false in
+    let next = c.next_length.ensures in
+    let apart = next-room H F c.args.change in
+    let long = front_length H F in
+    let n = c.put_verdict-a.ensures.value in
+    let same = ap length (to_end 28 c.args.front.now) in
+    (search rules, omega (arith, same, long.1))
+
+pub add_changed-requires : goal.add_changed-requires
+add_changed-requires c =
+    let H = c.requires.holds in
+    let F = c.requires.front in
+    let c' = c.args.change in
+    let rule = rw (to_end 28 c.args.front.now) at c.add_rule-b.ensures in
+    (made-changed H F c' c.requires.ready c.make.ensures, next_fits H F c' c.requires.ready c.make.ensures c.put_verdict-a.ensures.puts_verdict rule c.next_length.ensures c.if-out-next_length.false)
+
+pub returns : goal.returns
+returns c =
+    let H = c.requires.holds in
+    let F = c.requires.front in
+    change-written H F c.args.change c.make.ensures c.put_verdict-a.ensures.puts_verdict (rw (to_end 28 c.args.front.now) at c.add_rule-b.ensures) c.add_changed.ensures

@@ -1,0 +1,22 @@
+-- `sessions::rows::add_changed` adds what its two cases add.
+-- Assumes nothing.
+use mathlib.Core.Path.{subst}
+use native.Mathlib.Omega.{arith}
+use Rattle.sessions.specs.Code.Laying.{Changed}
+use Rattle.sessions.proofs.rows.add_changed.Goals as goal
+
+pub add_opened-requires : goal.add_opened-requires
+add_opened-requires c =
+    let q = c.in-Opening.is in
+    (subst (Changed _ _) q c.requires.changed, omega (arith, rw q at c.requires.tables_in_bounds))
+
+pub add_closed-requires : goal.add_closed-requires
+add_closed-requires c =
+    let q = c.in-Closing.is in
+    (subst (Changed _ _) q c.requires.changed, omega (arith, rw q at c.requires.tables_in_bounds))
+
+pub returns-in-Opening : goal.returns-in-Opening
+returns-in-Opening c = rw c.in-Opening.is c.add_opened.ensures
+
+pub returns-in-Closing : goal.returns-in-Closing
+returns-in-Closing c = rw c.in-Closing.is c.add_closed.ensures

@@ -1,0 +1,48 @@
+-- `sessions::rows::add_count`: the bytes before the count, and the count.
+-- Assumes nothing.
+use mathlib.Core.Path.{◌≡◌, sym}
+use Prim.Native.Nat.{◌-◌}
+use native.Mathlib.Omega.{arith}
+use lib.ListN.{length, take}
+use lib.Seq.{length-take-le}
+use Rattle.changes.proofs.CountLaws.{counts_of}
+use Rattle.sessions.proofs.LayLaws.{add-then}
+use borrow.Author.Rules.{rules}
+use Rattle.sessions.proofs.rows.add_count.Goals as goal
+
+front_length : (c : tie.After-rows-at) → length (take (c.rows_at-at.result - 1) c.args.tables.now) ≡ c.rows_at-at.result - 1
+front_length c =
+    let at = c.rows_at-at.ensures in
+    length-take-le (c.rows_at-at.result - 1) c.args.tables.now (omega (arith, at, c.requires.words_in_bounds.0))
+
+pub overflow_sub-at : goal.overflow_sub-at
+overflow_sub-at c = let at = c.rows_at-at.ensures in omega (arith, at)
+
+pub bounds-words-3 : goal.bounds-words-3
+bounds-words-3 c = omega (arith, (counts_of c.requires.loaded.holds).long)
+
+pub overflow_cast-count : goal.overflow_cast-count
+overflow_cast-count c = let k = counts_of c.requires.loaded.holds in omega (arith, k.sessions, k.few_sessions)
+
+pub slice_bounds-add-end : goal.slice_bounds-add-end
+slice_bounds-add-end c =
+    sym (front_length c)
+
+pub add-a-requires : goal.add-a-requires
+add-a-requires c =
+    let at = c.rows_at-at.ensures in
+    let long = front_length c in
+    let room = c.requires.words_in_bounds.1 in
+    search rules
+
+pub add-requires : goal.add-requires
+add-requires c =
+    let at = c.rows_at-at.ensures in
+    let long = front_length c in
+    let room = c.requires.words_in_bounds.1 in
+    let n = c.add-a.ensures.0 in
+    search rules
+
+pub returns : goal.returns
+returns c =
+    rw (← c.rows_at-at.ensures) (add-then c.add-a.ensures c.add.ensures)

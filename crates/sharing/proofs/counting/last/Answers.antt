@@ -1,0 +1,190 @@
+-- `sharing::counting::last` meets its contract. The invariant: the sums of each line are those of the items but those of rest, and the cache is right.
+-- Assumes nothing.
+use mathlib.Core.Path.{◌≡◌, refl, ◌∙◌}
+use mathlib.Core.Bool.{true, false}
+use Prim.Native.Nat.{ℕ, ◌<◌, ◌≤◌, ◌+◌, ◌-◌, ◌^◌}
+use native.Mathlib.Omega.{arith}
+use borrow.Author.Rules.{rules}
+use lib.ListN.{length, get_or, length-replicate}
+use Rattle.words.specs.Words.{has}
+use Rattle.words.proofs.LoopLaws.{lowest-item, less-smaller}
+use Rattle.walks.specs.Code.Kept.{choice_of}
+use Rattle.judging.specs.Code.Planning.{sets_from}
+use Rattle.judging.specs.Code.Counting.{depth_of}
+use Rattle.judging.proofs.CountingLaws.{plan-runs, set-small, set-in}
+use Rattle.sharing.specs.Code.Lines.{CountedFor}
+use Rattle.sharing.proofs.WalkLaws.{some_line, zeros-none, adds-last, outside-closed, ranged, turn-start, turn_end, turn-next, turn-room, last-for}
+use Rattle.sharing.proofs.counting.last.Goals as goal
+
+pub bounds-plan-850 : goal.bounds-plan-850
+bounds-plan-850 c =
+    omega (arith, c.requires.0.is.grouped.planned.long)
+
+pub overflow_sub-d : goal.overflow_sub-d
+overflow_sub-d c =
+    omega (arith, c.requires.0.is.within)
+
+pub overflow_add-v : goal.overflow_add-v
+overflow_add-v c =
+    omega (arith, c.requires.0.is.grouped.planned.turns.many, c.requires.0.is.grouped.planned.turns.short)
+
+pub offset_bounds-plan-d : goal.offset_bounds-plan-d
+offset_bounds-plan-d c =
+    omega (arith, c.requires.0.is.grouped.planned.turns.many, c.requires.0.is.grouped.planned.turns.short)
+
+pub bounds-plan-d : goal.bounds-plan-d
+bounds-plan-d c =
+    let P = c.requires.0.is.grouped.planned in
+    omega (arith, P.turns.many, P.turns.short, P.long)
+
+pub overflow_add-rest : goal.overflow_add-rest
+overflow_add-rest c =
+    omega (arith, c.requires.0.is.grouped.planned.turns.many, c.requires.0.is.grouped.planned.turns.short)
+
+pub offset_bounds-plan-d-2 : goal.offset_bounds-plan-d-2
+offset_bounds-plan-d-2 c =
+    omega (arith, c.requires.0.is.grouped.planned.turns.many, c.requires.0.is.grouped.planned.turns.short)
+
+pub bounds-plan-d-2 : goal.bounds-plan-d-2
+bounds-plan-d-2 c =
+    let P = c.requires.0.is.grouped.planned in
+    omega (arith, P.turns.many, P.turns.short, P.long)
+
+pub offset_bounds-cache-plan : goal.offset_bounds-cache-plan
+offset_bounds-cache-plan c =
+    let Q = c.requires.0.is in
+    omega (arith, set-small Q.grouped.planned (depth_of c.args.plan.now c.args.at.left) (omega (arith, Q.grouped.planned.turns.many, Q.within, c.requires.1)))
+
+pub bounds-cache-plan : goal.bounds-cache-plan
+bounds-cache-plan c =
+    let Q = c.requires.0.is in
+    omega (arith, set-small Q.grouped.planned (depth_of c.args.plan.now c.args.at.left) (omega (arith, Q.grouped.planned.turns.many, Q.within, c.requires.1)), Q.room)
+
+pub loop-rest-init : goal.loop-rest-init
+loop-rest-init c =
+    let Q = c.requires.0.is in
+    let d : ℕ = depth_of c.args.plan.now c.args.at.left in
+    let w : ℕ = get_or c.args.cache.now (get_or c.args.plan.now (sets_from + d) 0) 0 in
+    let fit : w < 2 ^ 64 = omega (arith, c.slice_known-3-1.given (get_or c.args.plan.now (sets_from + d) 0)) in
+    (refl, refl, fit, λ l a. refl, λ h G st. (λ l a. turn-start G l d c.args.at.choice w fit _ (Q.none l a), st))
+
+pub lowest-x-requires : goal.lowest-x-requires
+lowest-x-requires c = search rules
+
+pub item-requires : goal.item-requires
+item-requires c = search rules
+
+pub less-rest-requires : goal.less-rest-requires
+less-rest-requires c = search rules
+
+pub put-chosen-requires : goal.put-chosen-requires
+put-chosen-requires c =
+    let Q = c.requires.0.is in
+    let l = lowest-item c.loop-rest.invariant.2 c.loop-rest-test.true c.lowest-x.ensures in
+    let d : ℕ = depth_of c.args.plan.now c.args.at.left in
+    let lo : d < length Q.held.layout.order = omega (arith, Q.grouped.planned.turns.many, Q.within, c.requires.1) in
+    (omega (arith, Q.grouped.planned.turns.variables d lo, Q.grouped.planned.turns.known d lo, Q.grouped.planned.turns.few), omega arith)
+
+pub overflow_add-d : goal.overflow_add-d
+overflow_add-d c =
+    omega (arith, c.requires.0.is.grouped.planned.turns.many, c.requires.0.is.grouped.planned.turns.short)
+
+pub settle-requires : goal.settle-requires
+settle-requires c =
+    let Q = c.requires.0.is in
+    let P = Q.grouped.planned in
+    (P.whole, plan-runs P, c.loop-rest.invariant.0 ∙ Q.room, omega (arith, P.turns.many, P.turns.short, Q.within, c.requires.1))
+
+pub overflow_add-d-in-loop-rest : goal.overflow_add-d-in-loop-rest
+overflow_add-d-in-loop-rest c =
+    omega (arith, c.requires.0.is.grouped.planned.turns.many, c.requires.0.is.grouped.planned.turns.short)
+
+pub failed-closed-requires : goal.failed-closed-requires
+failed-closed-requires c =
+    let Q = c.requires.0.is in
+    (plan-runs Q.grouped.planned, c.settle.auto.1.1.1.0 ∙ c.loop-rest.invariant.0 ∙ Q.room, Q.listed, ranged Q.grouped Q.long)
+
+pub slice_bounds-add-end : goal.slice_bounds-add-end
+slice_bounds-add-end c = refl
+
+pub add-requires : goal.add-requires
+add-requires c =
+    let Q = c.requires.0.is in
+    let choice : ℕ = c.args.at.choice in
+    let d : ℕ = depth_of c.args.plan.now c.args.at.left in
+    let P = Q.grouped.planned in
+    let lo : d < length Q.held.layout.order = omega (arith, P.turns.many, Q.within, c.requires.1) in
+    let end : length Q.held.layout.order ≤ d + 1 = omega (arith, P.turns.many, c.requires.1) in
+    let x = lowest-item c.loop-rest.invariant.2 c.loop-rest-test.true c.lowest-x.ensures in
+    let r = c.loop-rest.invariant.4 Q.held Q.grouped Q.stored in
+    let F = c.failed-closed.ensures in
+    let u = last-for Q.grouped choice c.lowest-x.result d Q.listed lo end c.put-chosen.ensures c.settle.ensures F r.1 in (
+      (record { small = F.small; few = omega arith; inside = λ l a. omega (arith, Q.listed.inside l (F.inside l a), Q.listed.few) }, omega arith, length-replicate {A = ℕ} 32 0, c.loop-rest.invariant.1 ∙ Q.counts),
+      λ l a. (omega (arith, zeros-none l), omega (arith, (turn-room Q.grouped (u.0 l (F.inside l a)) _ (r.0 l (F.inside l a)) x (c.lowest-x.ensures.found x) lo (set-in P choice d lo Q.stored)).1)),
+    )
+
+pub overflow_add-full : goal.overflow_add-full
+overflow_add-full c =
+    let Q = c.requires.0.is in
+    let choice : ℕ = c.args.at.choice in
+    let d : ℕ = depth_of c.args.plan.now c.args.at.left in
+    let P = Q.grouped.planned in
+    let lo : d < length Q.held.layout.order = omega (arith, P.turns.many, Q.within, c.requires.1) in
+    let end : length Q.held.layout.order ≤ d + 1 = omega (arith, P.turns.many, c.requires.1) in
+    let x = lowest-item c.loop-rest.invariant.2 c.loop-rest-test.true c.lowest-x.ensures in
+    let r = c.loop-rest.invariant.4 Q.held Q.grouped Q.stored in
+    let u = last-for Q.grouped choice c.lowest-x.result d Q.listed lo end c.put-chosen.ensures c.settle.ensures c.failed-closed.ensures r.1 in
+    let some = some_line c.args.at.active Q.listed.small (λ e. omega (arith, c.requires.2)) in
+    omega (arith, (turn-room Q.grouped (u.0 some.0 some.1) _ (r.0 some.0 some.1) x (c.lowest-x.ensures.found x) lo (set-in P choice d lo Q.stored)).0)
+
+pub loop-rest-smaller : goal.loop-rest-smaller
+loop-rest-smaller c =
+    let l = lowest-item c.loop-rest.invariant.2 c.loop-rest-test.true c.lowest-x.ensures in
+    rw (c.less-rest.ensures, c.item.ensures) (less-smaller c.loop-rest.rest c.lowest-x.result c.loop-rest.invariant.2 l (c.lowest-x.ensures.found l))
+
+pub loop-rest-preserved : goal.loop-rest-preserved
+loop-rest-preserved c =
+    let Q = c.requires.0.is in
+    let choice : ℕ = c.args.at.choice in
+    let d : ℕ = depth_of c.args.plan.now c.args.at.left in
+    let x = lowest-item c.loop-rest.invariant.2 c.loop-rest-test.true c.lowest-x.ensures in
+    let F = c.failed-closed.ensures in
+    let smaller : c.less-rest.result < c.loop-rest.rest = rw (c.less-rest.ensures, c.item.ensures) (less-smaller c.loop-rest.rest c.lowest-x.result c.loop-rest.invariant.2 x (c.lowest-x.ensures.found x)) in (
+      c.settle.auto.1.1.1.0 ∙ c.loop-rest.invariant.0,
+      c.add.ensures.long ∙ c.loop-rest.invariant.1,
+      omega (arith, c.loop-rest.invariant.2, smaller),
+      λ l a. c.add.ensures.other l (outside-closed F l a) ∙ c.loop-rest.invariant.3 l a,
+      λ h G st.
+          let P = G.planned in
+          let lo : d < length h.layout.order = omega (arith, P.turns.many, Q.within, c.requires.1) in
+          let end : length h.layout.order ≤ d + 1 = omega (arith, P.turns.many, c.requires.1) in
+          let r = c.loop-rest.invariant.4 h G st in
+          let u = last-for G choice c.lowest-x.result d Q.listed lo end c.put-chosen.ensures c.settle.ensures F r.1 in
+          (λ l a. rw (c.less-rest.ensures, c.item.ensures, adds-last c.add.ensures l) (turn-next G (u.0 l a) _ (r.0 l a) x (c.lowest-x.ensures.found x)), u.1),
+    )
+
+pub shape_of-cache : goal.shape_of-cache
+shape_of-cache c =
+    c.loop-rest.invariant.0
+
+pub shape_of-breaking : goal.shape_of-breaking
+shape_of-breaking c =
+    c.loop-rest.invariant.1
+
+pub returns : goal.returns
+returns c =
+    let Q = c.requires.0.is in
+    let choice : ℕ = c.args.at.choice in
+    let d : ℕ = depth_of c.args.plan.now c.args.at.left in
+    let some = some_line c.args.at.active Q.listed.small (λ e. omega (arith, c.requires.2)) in
+    λ kept. record {
+      room = c.loop-rest.invariant.0;
+      slots = refl;
+      counts = c.loop-rest.invariant.1;
+      other = c.loop-rest.invariant.3;
+      goes = λ h G st ke.
+          let r = c.loop-rest.invariant.4 h G st in
+          let lo : d < length h.layout.order = omega (arith, G.planned.turns.many, Q.within, c.requires.1) in
+          let counts : (l : ℕ) → has c.args.at.active l ≡ true → CountedFor c.args.plan.now c.args.lines.now h l d (choice_of choice) c.loop-rest.full (get_or c.loop-rest.breaking l 0) = λ l a. turn_end G l d choice _ lo (set-in G.planned choice d lo st) (r.0 l a) c.loop-rest-test.false in
+          ((counts some.0 some.1).fulls, counts, r.1, ke);
+    }

@@ -1,0 +1,68 @@
+-- `sharing::together::counts` meets its contract.
+-- Assumes nothing.
+use mathlib.Core.Path.{◌≡◌, refl, sym, ◌∙◌}
+use native.Mathlib.Omega.{arith}
+use Prim.Native.Nat.{◌*◌, ◌≤◌}
+use borrow.Author.Tests.{not-false}
+use lib.ListN.{length}
+use lib.Seq.{length-take-le}
+use Rattle.sharing.specs.Code.Together.{no, yes}
+use Rattle.judging.proofs.WalkingLaws.{vars-long, tested}
+use Rattle.sharing.proofs.LineLaws.{mul-le}
+use Rattle.sharing.proofs.TogetherLaws.{plotted, starting, counts_all}
+use borrow.Author.Rules.{rules}
+use Rattle.sharing.proofs.together.counts.Goals as goal
+
+-- The variables have room by their type.
+vars-room : (c : tie.Start) → length c.args.t2.vars ≡ 8
+vars-room c = search rules
+
+pub slice_bounds-order-end : goal.slice_bounds-order-end
+slice_bounds-order-end c =
+    sym (length-take-le _ _ c.requires.lent_by.0.few)
+
+pub slice_bounds-vars-end : goal.slice_bounds-vars-end
+slice_bounds-vars-end c =
+    omega (arith, c.requires.lent_by.0.few, vars-room c)
+
+pub slice_bounds-names-end-2 : goal.slice_bounds-names-end-2
+slice_bounds-names-end-2 c =
+    sym (vars-long c.requires.lent_by.0 (vars-room c))
+
+pub returns-then-not-ordered : goal.returns-then-not-ordered
+returns-then-not-ordered c = no
+
+pub lay_first-many_choices-requires : goal.lay_first-many_choices-requires
+lay_first-many_choices-requires c =
+    (c.requires.lent_by.0, tested c.requires.lent_by.0 c.names-names.result _ c.names-names.ensures (rw (vars-long c.requires.lent_by.0 (vars-room c)) (sym c.ordered.ensures ∙ not-false _ c.if-not-ordered.false)), refl)
+
+pub returns-then-many_choices-eq0 : goal.returns-then-many_choices-eq0
+returns-then-many_choices-eq0 c = no
+
+pub returns-then-many_choices-gt-MOST_CHOICES : goal.returns-then-many_choices-gt-MOST_CHOICES
+returns-then-many_choices-gt-MOST_CHOICES c = no
+
+pub lay-requires : goal.lay-requires
+lay-requires c =
+    (plotted c.requires.lent_by.0 c.lay_first-many_choices.ensures.lays (vars-long c.requires.lent_by.0 (vars-room c)), c.requires.lent_by.3, c.requires.lent_by.1, refl)
+
+pub overflow_mul-many : goal.overflow_mul-many
+overflow_mul-many c =
+    let small : c.args.many * c.args.t2.count ≤ 32 * 8 = mul-le _ _ 32 8 c.requires.lent_by.3 c.requires.lent_by.0.few in
+    omega (arith, small)
+
+pub all-requires : goal.all-requires
+all-requires c =
+    starting c.requires.lent_by.0 c.lay_first-many_choices.ensures.lays c.lay.ensures c.requires.lent_by.2 c.requires.lent_by.3 4608 (omega arith) c.requires.lent_by.4 c.requires.by_index
+
+pub returns-then-many-count-le-FEW_SLOTS : goal.returns-then-many-count-le-FEW_SLOTS
+returns-then-many-count-le-FEW_SLOTS c =
+    yes c.all.ensures.long (counts_all c.requires.lent_by.0 c.lay_first-many_choices.ensures.lays c.lay.ensures c.requires.lent_by.2 c.all.ensures)
+
+pub all-requires-2 : goal.all-requires-2
+all-requires-2 c =
+    starting c.requires.lent_by.0 c.lay_first-many_choices.ensures.lays c.lay.ensures c.requires.lent_by.2 c.requires.lent_by.3 15360 (omega arith) c.requires.lent_by.4 c.requires.by_index
+
+pub returns : goal.returns
+returns c =
+    yes c.all-2.ensures.long (counts_all c.requires.lent_by.0 c.lay_first-many_choices.ensures.lays c.lay.ensures c.requires.lent_by.2 c.all-2.ensures)

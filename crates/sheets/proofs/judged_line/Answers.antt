@@ -1,0 +1,37 @@
+-- `sheets::judged_line` writes the line of accepted tables: rules too long, the line of a rule, or what is behind the lines.
+-- Assumes nothing.
+use Prim.Native.Nat.{◌<◌}
+use native.Mathlib.Omega.{arith}
+use lib.ListN.{length}
+use Rattle.texts.proofs.SpansLaws.{lies}
+use Rattle.sheets.proofs.JudgedLaws.{long-made, zero-made, no-line-at, found-made}
+use borrow.Author.Rules.{rules}
+use Rattle.sheets.proofs.judged_line.Goals as goal
+
+pub returns-then-rules-gt-RULES_LIMIT : goal.returns-then-rules-gt-RULES_LIMIT
+returns-then-rules-gt-RULES_LIMIT c =
+    let long : 32768 < length c.args.rules.now = omega (arith, c.if-rules-gt-RULES_LIMIT.true) in
+    λ T H. long-made T c.args.rules.now _ long c.long_rules.ensures
+
+pub returns-then-place-eq0 : goal.returns-then-place-eq0
+returns-then-place-eq0 c = λ T H. zero-made T c.args.rules.now _ _ c.if-place-eq0.true
+
+pub foot-requires : goal.foot-requires
+foot-requires c =
+    (c.requires.loaded, (c.requires.line_room_in_bounds, (c.if-rules-gt-RULES_LIMIT.false, no-line-at c.args.rules.now c.args.place c.line.ensures c.in_default.is c.if-place-eq0.false)))
+
+pub returns-in_default : goal.returns-in_default
+returns-in_default c = c.foot.ensures
+
+pub slice_bounds-rule_line-count : goal.slice_bounds-rule_line-count
+slice_bounds-rule_line-count c = (lies c.line.ensures c.in-Found.is).low
+
+pub slice_bounds-rule_line-start : goal.slice_bounds-rule_line-start
+slice_bounds-rule_line-start c = (lies c.line.ensures c.in-Found.is).low
+
+pub slice_bounds-rule_line-end : goal.slice_bounds-rule_line-end
+slice_bounds-rule_line-end c = (lies c.line.ensures c.in-Found.is).high
+
+pub returns : goal.returns
+returns c =
+    λ T H. found-made T _ _ c.if-rules-gt-RULES_LIMIT.false c.if-place-eq0.false c.line.ensures c.in-Found.is (c.rule_line.ensures T H)

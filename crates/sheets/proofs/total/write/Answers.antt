@@ -1,0 +1,19 @@
+-- `sheets::total::write` writes the line of a total.
+-- Assumes nothing.
+use native.Mathlib.Omega.{arith}
+use Rattle.syntax.specs.Bytes.{ascii}
+use Rattle.texts.proofs.OverwrittenLaws.{written-rest, rest-room}
+use Rattle.sheets.specs.Code.Turns.{front_text}
+use Rattle.sheets.proofs.LineLaws.{two-short}
+use Rattle.sheets.proofs.TotalLaws.{total-pieces}
+use Rattle.sheets.proofs.total.write.Goals as goal
+
+pub others-m-requires : goal.others-m-requires
+others-m-requires c =
+    let t = c.args.t in
+    rest-room {w = front_text t} 100 c.two-n.ensures (omega (arith, c.requires, two-short (ascii "total ") t.lines (ascii " held ") t.held))
+
+pub returns : goal.returns
+returns c =
+    let t = c.args.t in
+    rw (total-pieces t) (written-rest {w = front_text t} c.two-n.ensures c.others-m.ensures)

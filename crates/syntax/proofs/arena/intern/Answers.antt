@@ -1,0 +1,62 @@
+-- `intern` gives an equal node, or puts the node behind the others.
+-- Assumes nothing.
+use mathlib.Core.Path.{◌∙◌}
+use Prim.Native.Nat.{◌<◌, ◌≤◌, ◌+◌, ◌-◌}
+use native.Mathlib.Omega.{arith}
+use lib.ListN.{length, length-set}
+use lib.Seq.{get_or-set_same, get_or-set_other}
+use Rattle.syntax.specs.Code.Reading.{put}
+use Rattle.syntax.proofs.ArenaLaws.{tidy-more, stays-refl, sought-found, sought-none}
+use borrow.Author.Rules.{rules}
+use Rattle.syntax.proofs.arena.intern.Goals as goal
+
+-- The search begins among the nodes.
+
+pub offset_bounds-nodes-from : goal.offset_bounds-nodes-from
+offset_bounds-nodes-from c =
+    let h : c.lowest-from.result ≤ c.args.n = c.lowest-from.ensures c.args.n c.requires.low in
+    search rules
+
+pub slice_bounds-seek-count : goal.slice_bounds-seek-count
+slice_bounds-seek-count c =
+    let h : c.lowest-from.result ≤ c.args.n = c.lowest-from.ensures c.args.n c.requires.low in
+    search rules
+
+pub slice_bounds-seek-start : goal.slice_bounds-seek-start
+slice_bounds-seek-start c =
+    let h : c.lowest-from.result ≤ c.args.n = c.lowest-from.ensures c.args.n c.requires.low in
+    search rules
+
+pub overflow_sub-n : goal.overflow_sub-n
+overflow_sub-n c =
+    c.lowest-from.ensures c.args.n c.requires.low
+
+pub returns-then-k-n : goal.returns-then-k-n
+returns-then-k-n c =
+    let ns = c.args.nodes.now in
+    let from = c.lowest-from.result in
+    put {k = from + c.seek.result} {n = c.args.n}
+    (record {
+      within = search rules;
+      few = search rules;
+      at = sought-found ns from (length ns - from) c.args.n (omega arith) c.seek.ensures c.if-k-n.true ∙ c.pack-node.ensures;
+      stays = stays-refl _;
+      tidy = c.requires.tidy;
+    })
+
+pub returns : goal.returns
+returns c =
+    let ns = c.args.nodes.now in
+    let n = c.args.n in
+    let v = c.pack-node.result in
+    let from = c.lowest-from.result in
+    let e = c.pack-node.ensures in
+    let h : n < length ns = c.requires.room in
+    put {k = n} {n = n + 1}
+    (record {
+      within = search rules;
+      few = search rules;
+      at = get_or-set_same ns n v 0 h ∙ e;
+      stays = record { more = search rules; size = length-set ns n v; same = λ i l. get_or-set_other ns n i v 0 (omega arith) };
+      tidy = tidy-more ns n v h c.requires.tidy (rw e c.requires.low) (sought-none ns from (length ns - from) n (omega arith) c.seek.ensures c.requires.tidy.down (λ k l. c.lowest-from.ensures k (rw e at l)) c.if-k-n.false);
+    })

@@ -1,0 +1,43 @@
+-- `tables::rank_step`: the hierarchy test again, on the words that `load` left, where it refused by rank.
+-- Assumes nothing.
+use mathlib.Core.Path.{sym, ap, ◌∙◌}
+use mathlib.Core.List.{List, ◌++◌}
+use Prim.Native.Nat.{ℕ, ◌+◌, ◌-◌}
+use types.Run.{miss}
+use Rattle.answers.specs.Refusal.{last_number}
+use Rattle.tables.specs.declared.Outcome.TheVariants.{Refused}
+use Rattle.tables.specs.Flat.{tabulate}
+use Rattle.tables.specs.Code.Reads.{reading_outcome}
+use Rattle.tables.proofs.FitsLaws.{sections-sound}
+use Rattle.tables.proofs.LoadLaws.{never, refused-one, refused_as}
+use Rattle.tables.proofs.PartLaws.{counts-fit}
+use Rattle.tables.proofs.StopLaws.{rank-refused, rank_step_lem, rank-other}
+use Rattle.tables.proofs.rank_step.Goals as goal
+
+-- The other refusals' places in their enum, in which rank has 6.
+abbrev others : List ℕ
+others = tabulate 6 (λ i. i) ++ tabulate (last_number - 7) (λ i. i + 7)
+
+pub returns-in_default : goal.returns-in_default
+returns-in_default c = sym (rank-other c.args.bytes.now (λ q. never (sym (ap reading_outcome q) ∙ sym c.load.ensures.value ∙ c.in_default.is)))
+
+pub returns-in_default-refusal : goal.returns-in_default-refusal
+unfolding tabulate
+returns-in_default-refusal c =
+    sym (rank-other c.args.bytes.now (λ q.
+    let e = refused-one (sym c.in-Refused.is ∙ c.load.ensures.value ∙ ap reading_outcome q) in
+    miss others 6 tt (rw e at c.in_default-refusal.keys2)))
+
+pub failing_step-requires : goal.failing_step-requires
+failing_step-requires c =
+    let q = refused_as _ c.load.ensures.value (c.in-Refused.is ∙ ap Refused c.in-Rank.is) in
+    let w = rank-refused c.args.bytes.now q in
+    counts-fit w.tables (sections-sound c.args.bytes.now w.reads).fits (c.load.ensures.words_after_2 w.tables w.reads)
+
+pub returns : goal.returns
+returns c =
+    let q = refused_as _ c.load.ensures.value (c.in-Refused.is ∙ ap Refused c.in-Rank.is) in
+    let w = rank-refused c.args.bytes.now q in
+    let s = sections-sound c.args.bytes.now w.reads in
+    c.failing_step.ensures w.tables s.fits s.bounded (c.load.ensures.words_after_2 w.tables w.reads)
+    ∙ sym (rank_step_lem c.args.bytes.now q w.reads)

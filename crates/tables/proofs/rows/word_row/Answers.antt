@@ -1,0 +1,17 @@
+-- `tables::rows::word_row`: eight bytes, then the word that they are.
+-- Assumes nothing.
+use native.Mathlib.Omega.{arith}
+use Rattle.tables.specs.Code.Reads.{stops}
+use Rattle.tables.proofs.ReadLaws.{word-row-cut, word_row_lem}
+use Rattle.tables.proofs.rows.word_row.Goals as goal
+
+pub returns-then-bytes-at-lt8 : goal.returns-then-bytes-at-lt8
+returns-then-bytes-at-lt8 c =
+    let args = c.args in
+    stops (word-row-cut args.bytes.now args.at args.n c.if-bytes-at-lt8.true)
+
+pub returns : goal.returns
+returns c =
+    let args = c.args in
+    let pre = c.requires in
+    rw (word_row_lem args.bytes.now args.at args.n (omega (arith, pre))) c.word_within.ensures

@@ -1,0 +1,42 @@
+-- `tables::sections::done`: section 10, who already did what.
+-- Assumes nothing.
+use mathlib.Core.Path.{◌∙◌}
+use native.Mathlib.Omega.{arith}
+use lib.ListN.{get_or, length-set}
+use Rattle.tables.specs.Reading.{done_row}
+use Rattle.tables.specs.Code.Layout.{operation_count_at, object_count_at, done_count_at}
+use Rattle.tables.specs.Code.Reads.{put_deeds}
+use Rattle.tables.proofs.ReadLaws.{as-took, as-stop, stops_as, reads_as}
+use Rattle.tables.proofs.SectionLaws.{section-stop, section-on, counted}
+use Rattle.tables.proofs.sections.done.Goals as goal
+
+pub returns-in_default : goal.returns-in_default
+returns-in_default c =
+    let args = c.args in
+    let words = args.words.now in
+    stops_as c.in_default.is
+    (section-stop args.bytes.now args.at (λ n. done_row args.users (get_or words operation_count_at 0) (get_or words object_count_at 0))
+    (as-stop c.count-read.ensures c.in_default.is))
+
+pub bounds-words-4 : goal.bounds-words-4
+bounds-words-4 c = omega (arith, c.requires)
+
+pub bounds-words-5 : goal.bounds-words-5
+bounds-words-5 c = omega (arith, c.requires)
+
+pub done_rows-requires : goal.done_rows-requires
+done_rows-requires c =
+    let pre = c.requires in
+    let g = as-took c.count-read.ensures c.in-Took.is in
+    (g.within, (g.holds.few, simp length-set pre.1))
+
+pub shape_of-words : goal.shape_of-words
+shape_of-words c = c.done_rows.auto.1.1.1.1.1.1.0 ∙ simp length-set
+
+pub returns : goal.returns
+returns c =
+    let args = c.args in
+    let words = args.words.now in
+    let g = as-took c.count-read.ensures c.in-Took.is in
+    section-on args.bytes.now args.at (λ n. done_row args.users (get_or words operation_count_at 0) (get_or words object_count_at 0)) g
+    (reads_as c.done_rows.ensures (λ ds v x. counted put_deeds words done_count_at _ g.holds.few x))

@@ -1,0 +1,10 @@
+-- `values::items::is_sort` meets its contract.
+-- Assumes nothing.
+use Rattle.values.proofs.ItemLaws.{sort-yes, sort-no}
+use Rattle.values.proofs.items.is_sort.Goals as goal
+
+pub returns-then-kind-lt-FIRST_COLLECTION : goal.returns-then-kind-lt-FIRST_COLLECTION
+returns-then-kind-lt-FIRST_COLLECTION c = λ l. sort-yes c.args.sort c.args.kind c.requires c.if-kind-lt-FIRST_COLLECTION.true
+
+pub returns-else-kind-lt-FIRST_COLLECTION : goal.returns-else-kind-lt-FIRST_COLLECTION
+returns-else-kind-lt-FIRST_COLLECTION c = λ l. sort-no c.args.sort c.args.kind c.requires c.if-kind-lt-FIRST_COLLECTION.false l

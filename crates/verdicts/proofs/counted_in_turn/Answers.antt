@@ -1,0 +1,44 @@
+-- `verdicts::counted_in_turn` meets its contract: the rule is parsed once, and the known counts are those of the walk in turn.
+-- Assumes nothing.
+use mathlib.Core.Path.{◌≡◌, sym, ◌∙◌}
+use lib.ListN.{length}
+use lib.Seq.{length-take-le}
+use Rattle.verdicts.proofs.ParsedLaws.{parsed-few, parsed-lent}
+use Rattle.verdicts.proofs.CountedLaws.{turn-refused, turn-ordered, turn-counts, turn-fits, turn-ruled}
+use borrow.Author.Rules.{rules}
+use Rattle.verdicts.proofs.counted_in_turn.Goals as goal
+
+-- The parsed rule's parts have their lengths by their types.
+nodes-room : (c : tie.After-parse) → length c.parse-parsed.result.nodes ≡ 256
+nodes-room c = search rules
+
+kinds-room : (c : tie.After-parse) → length c.parse-parsed.result.kinds ≡ 256
+kinds-room c = search rules
+
+vars-room : (c : tie.After-parse) → length c.parse-parsed.result.vars ≡ 8
+vars-room c = search rules
+
+pub slice_bounds-variables-end : goal.slice_bounds-variables-end
+slice_bounds-variables-end c = parsed-few c.parse-parsed.ensures
+
+pub slice_bounds-listed-end : goal.slice_bounds-listed-end
+slice_bounds-listed-end c = sym (length-take-le _ _ (parsed-few c.parse-parsed.ensures))
+
+pub known-requires : goal.known-requires
+known-requires c =
+    let P = c.parse-parsed.ensures in
+    let h = c.in-Accepted.is in
+    let lent = parsed-lent P h c.requires.loaded (nodes-room c) (kinds-room c) (vars-room c) in
+    (record { lent = lent; few = parsed-few P }, turn-ordered P h (vars-room c), turn-counts P h c.requires.loaded c.requires.known_counts)
+
+pub ruled-requires : goal.ruled-requires
+ruled-requires c =
+    turn-fits c.parse-parsed.ensures c.in-Accepted.is c.requires.loaded c.known.ensures
+
+pub returns-in-Refused : goal.returns-in-Refused
+returns-in-Refused c =
+    λ T H. c.refused.ensures ∙ turn-refused c.parse-parsed.ensures c.in-Refused.is T
+
+pub returns-in-Accepted : goal.returns-in-Accepted
+returns-in-Accepted c =
+    λ T H. c.ruled.ensures ∙ turn-ruled c.parse-parsed.ensures c.in-Accepted.is c.requires.loaded c.known.ensures T H

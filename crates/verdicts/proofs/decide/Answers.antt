@@ -1,0 +1,23 @@
+-- `verdicts::decide` meets its contract: refused tables give their refusal, accepted ones go on to the rule.
+-- Assumes nothing.
+use mathlib.Core.Path.{sym, ◌∙◌}
+use Rattle.verdicts.proofs.OutcomeLaws.{same_gives}
+use Rattle.verdicts.proofs.LoadedLaws.{load-rejected, load-taken, took-loaded, took-judged}
+use Rattle.verdicts.proofs.JudgedLaws.{tables-rejected}
+use Rattle.verdicts.proofs.decide.Goals as goal
+
+pub on_tables-requires : goal.on_tables-requires
+on_tables-requires c =
+    took-loaded (load-taken c.args.tables.now c.load.ensures.value c.load.ensures.words_after c.in-Accepted.is)
+
+pub returns-in-Refused : goal.returns-in-Refused
+returns-in-Refused c =
+    let e = c.in-Refused.e in
+    let said = load-rejected c.args.tables.now c.load.ensures.value c.in-Refused.is in
+    same_gives (c.refused.ensures ∙ sym (tables-rejected c.args.tables.now c.args.rule.now c.args.order.now e said))
+
+pub returns-in-Accepted : goal.returns-in-Accepted
+returns-in-Accepted c =
+    let told = c.in-Accepted.is in
+    let q = load-taken c.args.tables.now c.load.ensures.value c.load.ensures.words_after told in
+    same_gives (took-judged q c.args.rule.now c.args.order.now (c.on_tables.ensures q.tables q.holds))

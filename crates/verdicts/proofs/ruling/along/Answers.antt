@@ -1,0 +1,62 @@
+-- `verdicts::ruling::along` meets its contract.
+-- Assumes nothing.
+use mathlib.Core.Path.{◌≡◌, sym, ap, ◌∙◌}
+use mathlib.Core.List.{[]}
+use native.Mathlib.Omega.{arith}
+use borrow.Author.Rules.{rules}
+use lib.ListN.{length, take}
+use Rattle.syntax.specs.Rule.{rule_vars}
+use Rattle.walks.specs.Order.{variables_of}
+use Rattle.walks.proofs.OrderLaws.{length-variables-of}
+use Rattle.verdicts.proofs.RulingLaws.{other_length, no-order, counts-fit, order-ruled}
+use Rattle.judging.proofs.WalkingLaws.{vars-long, tested}
+use Rattle.verdicts.proofs.ruling.along.Goals as goal
+
+-- The variables have room by their type.
+vars-room : (c : tie.Start) → length c.args.parsed.vars ≡ 8
+vars-room c = search rules
+
+-- The list that is tried is that of the variables of the order.
+same-list : (c : tie.After-variables) → take c.args.parsed.count c.variables-all.result ≡ variables_of c.args.order.now
+same-list c = rw c.if-order-count.false at c.variables-all.ensures
+
+pub returns-then-order-count : goal.returns-then-order-count
+returns-then-order-count c =
+    λ T ρ C. c.refused.ensures ∙ other_length C c.requires.lent.few c.args.order.now (λ e. c.if-order-count.true (e ∙ vars-long c.requires (vars-room c)))
+
+pub variables-all-requires : goal.variables-all-requires
+variables-all-requires c =
+    omega (arith, c.if-order-count.false, c.requires.few)
+
+pub slice_bounds-listed-end : goal.slice_bounds-listed-end
+slice_bounds-listed-end c =
+    sym (ap length (same-list c) ∙ length-variables-of c.args.order.now ∙ c.if-order-count.false)
+
+pub slice_bounds-vars-end : goal.slice_bounds-vars-end
+slice_bounds-vars-end c =
+    omega (arith, c.requires.few, vars-room c)
+
+pub slice_bounds-names-end-2 : goal.slice_bounds-names-end-2
+slice_bounds-names-end-2 c =
+    sym (vars-long c.requires (vars-room c))
+
+pub ordered-requires : goal.ordered-requires
+ordered-requires c =
+    (search rules, c.requires.few)
+
+pub whole-requires : goal.whole-requires
+whole-requires c =
+    (c.requires, tested c.requires c.names-names.result (take c.args.parsed.count c.variables-all.result) c.names-names.ensures (rw (vars-long c.requires (vars-room c)) (sym c.ordered.ensures ∙ c.if-ordered.true)))
+
+pub ruled-requires : goal.ruled-requires
+ruled-requires c =
+    let L = c.requires.lent in
+    counts-fit L.is_case L.few c.names-names.result c.args.order.now _ c.ordered.result (c.names-names.ensures (rule_vars [] L.rule) L.is_case.world.variables) (same-list c) (rw (vars-long c.requires (vars-room c)) c.ordered.ensures) c.if-ordered.true c.whole.result (c.whole.ensures L.tables L.rule L.is_case)
+
+pub returns-then-ordered : goal.returns-then-ordered
+returns-then-ordered c =
+    λ T ρ C. c.ruled.ensures ∙ order-ruled C c.requires.lent.few c.names-names.result c.args.order.now _ c.ordered.result (c.names-names.ensures (rule_vars [] ρ) C.world.variables) (same-list c) (rw (vars-long c.requires (vars-room c)) c.ordered.ensures) c.if-ordered.true c.whole.result (c.whole.ensures T ρ C)
+
+pub returns : goal.returns
+returns c =
+    λ T ρ C. c.refused-2.ensures ∙ no-order C c.requires.lent.few c.names-names.result c.args.order.now _ c.ordered.result (c.names-names.ensures (rule_vars [] ρ) C.world.variables) (same-list c) (rw (vars-long c.requires (vars-room c)) c.ordered.ensures) c.if-ordered.false
