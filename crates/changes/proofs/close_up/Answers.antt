@@ -9,8 +9,8 @@ use borrow.Author.Rules.{rules}
 use Rattle.changes.proofs.close_up.Goals as goal
 
 -- The place is inside.
-place_in : (c : tie.At-loop invariant-loop decreases-loop) → (c.loop-i.i < length c.loop-i.t) × (length c.loop-i.t ≡ length c.args.t.now)
-place_in c = let m = c.loop-i.invariant.0 in (omega (arith, m.same, m.within, c.loop-i.invariant.1), m.same)
+place_in : (c : goal.At-loop-i → (c.loop-i.i < length c.loop-i.t) × (length c.loop-i.t ≡ length c.args.t.now)
+place_in c = (omega (arith, c.loop-i.invariant.0.same, c.loop-i.invariant.0.within, c.loop-i.invariant.1), c.loop-i.invariant.0.same)
 
 pub loop-i-init : goal.loop-i-init
 loop-i-init c = (moving-first _ _ _ c.requires.0, c.requires.1)
@@ -22,16 +22,16 @@ pub overflow_add-t : goal.overflow_add-t
 overflow_add-t c = search rules
 
 pub offset_bounds-t-i : goal.offset_bounds-t-i
-offset_bounds-t-i c = let m = c.loop-i.invariant.0 in let l : c.loop-i.i + 1 < length c.loop-i.t = omega (arith, m.same, c.loop-i.invariant.1) in search rules
+offset_bounds-t-i c = let l : c.loop-i.i + 1 < length c.loop-i.t = omega (arith, c.loop-i.invariant.0.same, c.loop-i.invariant.1) in search rules
 
 pub bounds-t-i : goal.bounds-t-i
-bounds-t-i c = let m = c.loop-i.invariant.0 in omega (arith, m.same, c.loop-i.invariant.1)
+bounds-t-i c = omega (arith, c.loop-i.invariant.0.same, c.loop-i.invariant.1)
 
 pub offset_bounds-t-i-in-loop-i : goal.offset_bounds-t-i-in-loop-i
-offset_bounds-t-i-in-loop-i c = let l = place_in c in search rules
+offset_bounds-t-i-in-loop-i c = let l = place_in c.before.before in search rules
 
 pub bounds-t-i-in-loop-i : goal.bounds-t-i-in-loop-i
-bounds-t-i-in-loop-i c = (place_in c).0
+bounds-t-i-in-loop-i c = (place_in c.before.before).0
 
 pub overflow_add-i-in-loop-i : goal.overflow_add-i-in-loop-i
 overflow_add-i-in-loop-i c = search rules
@@ -43,13 +43,13 @@ pub loop-i-preserved : goal.loop-i-preserved
 loop-i-preserved c = (moving-next c.loop-i.invariant.0 c.loop-i.invariant.1 c.loop-i-test.true, c.loop-i.invariant.1)
 
 pub offset_bounds-t-i-2 : goal.offset_bounds-t-i-2
-offset_bounds-t-i-2 c = let l = place_in c in search rules
+offset_bounds-t-i-2 c = let l = place_in c.before in search rules
 
 pub bounds-t-i-2 : goal.bounds-t-i-2
-bounds-t-i-2 c = (place_in c).0
+bounds-t-i-2 c = (place_in c.before).0
 
 pub shape_of-t : goal.shape_of-t
-shape_of-t c = let l = place_in c in search rules
+shape_of-t c = let l = place_in c.before in search rules
 
 pub returns : goal.returns
 returns c = moving-last c.loop-i.invariant.0 c.loop-i.invariant.1 c.loop-i-test.false

@@ -13,27 +13,25 @@ use borrow.Author.Rules.{rules}
 use Rattle.changes.proofs.closed.Goals as goal
 
 -- The session is open.
-is_open : (c : tie.Start) → (c.args.number < room) × (length c.args.t.now ≡ whole_length)
+is_open : (c : goal.Start) → (c.args.number < room) × (length c.args.t.now ≡ whole_length)
 is_open c =
     let k = counts_of c.requires.holds in
     (omega (arith, k.few_sessions, closing-closes c.requires.tables _ c.requires.free), k.long)
 
 -- After both the words are as many, and the count is as it was.
-both-kept : (c : tie.After-slice-known4) → (length c.close_up-2.new.t ≡ whole_length) × (0 < get_or c.close_up-2.new.t session_count_at 0)
+both-kept : (c : goal.After-slice_known-4-1) → (length c.close_up-2.new.t ≡ whole_length) × (0 < get_or c.close_up-2.new.t session_count_at 0)
 both-kept c =
-    let one = c.close_up.ensures in
-    let two = c.close_up-2.ensures in
     let k = counts_of c.requires.holds in
     let n = closing-closes c.requires.tables _ c.requires.free in
-    let kept = two.before session_count_at (omega arith) ∙ one.before session_count_at (omega arith) ∙ k.sessions in
-    (two.same ∙ one.same ∙ k.long, omega (arith, kept, n))
+    let kept = c.close_up-2.ensures session_count_at (omega arith) ∙ c.close_up.ensures session_count_at (omega arith) ∙ k.sessions in
+    (c.close_up-2.ensures.same ∙ c.close_up.ensures.same ∙ k.long, omega (arith, kept, n))
 
 pub close_up-requires : goal.close_up-requires
-close_up-requires c = let k = is_open c in (omega (arith, k.0), omega (arith, k.1))
+close_up-requires c = let k = is_open c.before.before in (omega (arith, k.0), omega (arith, k.1))
 
 pub close_up-requires-2 : goal.close_up-requires-2
 close_up-requires-2 c =
-    let k = is_open c in
+    let k = is_open c.before.before.before.before.before.before in
     (omega (arith, k.0), omega (arith, k.1, c.close_up.ensures.same))
 
 pub bounds-t-3 : goal.bounds-t-3
@@ -47,13 +45,9 @@ bounds-t-3-2 c = let k = both-kept c in omega (arith, k.0)
 
 pub shape_of-t : goal.shape_of-t
 shape_of-t c =
-    let one = c.close_up.ensures in
-    let two = c.close_up-2.ensures in
-    let kept = two.same ∙ one.same in
+    let kept = c.close_up-2.ensures.same ∙ c.close_up.ensures.same in
     search rules
 
 pub returns : goal.returns
 returns c =
-    let one = c.close_up.ensures in
-    let two = c.close_up-2.ensures in
-    λ T a free. closed-made a _ free one two
+    λ T a free. closed-made a _ free c.close_up.ensures c.close_up-2.ensures

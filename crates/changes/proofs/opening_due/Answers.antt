@@ -1,7 +1,6 @@
 -- `changes::opening_due`: the five tests, one after the other.
 -- Assumes nothing.
 use native.Mathlib.Omega.{arith}
-use borrow.Author.Tests.{not-true, not-false}
 use Rattle.changes.proofs.CountLaws.{counts_of}
 use Rattle.changes.proofs.DueLaws.{due-full, due-user, due-word, due-left, due-reach, due-none}
 use Rattle.changes.proofs.opening_due.Goals as goal
@@ -40,7 +39,7 @@ contains-requires c =
 
 pub returns-then-not-contains : goal.returns-then-not-contains
 returns-then-not-contains c =
-    due-left _ _ c.if-t.false c.if-t-user.false c.outside.ensures c.if-outside.false c.contains.ensures (not-true _ c.if-not-contains.true)
+    due-left _ _ c.if-t.false c.if-t-user.false c.outside.ensures c.if-outside.false c.contains.ensures c.if-not-contains.true
 
 pub juniors_of_users-reach-requires : goal.juniors_of_users-reach-requires
 juniors_of_users-reach-requires c =
@@ -49,9 +48,9 @@ juniors_of_users-reach-requires c =
 pub returns-then-less-ne0 : goal.returns-then-less-ne0
 returns-then-less-ne0 c =
     due-reach _ _ c.if-t.false c.if-t-user.false c.outside.ensures c.if-outside.false c.contains.ensures
-    (not-false _ c.if-not-contains.false) c.item.ensures c.juniors_of_users-reach.ensures c.less.ensures c.if-less-ne0.true
+    c.if-not-contains.false c.item.ensures c.juniors_of_users-reach.ensures c.less.ensures c.if-less-ne0.true
 
 pub returns : goal.returns
 returns c =
     due-none _ _ c.if-t.false c.if-t-user.false c.outside.ensures c.if-outside.false c.contains.ensures
-    (not-false _ c.if-not-contains.false) c.item.ensures c.juniors_of_users-reach.ensures c.less.ensures c.if-less-ne0.false
+    c.if-not-contains.false c.item.ensures c.juniors_of_users-reach.ensures c.less.ensures c.if-less-ne0.false

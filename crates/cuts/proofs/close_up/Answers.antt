@@ -10,11 +10,9 @@ use Rattle.cuts.proofs.close_up.Goals as goal
 
 pub keep-k-requires : goal.keep-k-requires
 keep-k-requires c =
-    let args = c.args in
-    let pre = c.requires in
-    let users = part_length args.words.now args.users args.n pre.0.0 pre.1.0 pre.0.1 c.part.ensures in
-    let column = part_length args.words.now args.at args.n pre.0.0 pre.1.1 pre.0.1 c.part-2.ensures in
-    ((omega (arith, users, pre.0.1), column ∙ sym users), refl)
+    let users = part_length c.args.words.now c.args.users c.args.n c.requires.whole.0 c.requires.room_bound.0 c.requires.whole.1 c.part.ensures in
+    let column = part_length c.args.words.now c.args.at c.args.n c.requires.whole.0 c.requires.room_bound.1 c.requires.whole.1 c.part-2.ensures in
+    record { users_len_bound = (omega (arith, users, c.requires.whole.1), column ∙ sym users); kept_value = refl }
 
 pub replace-requires : goal.replace-requires
 replace-requires c = omega (arith, fills-long c.keep-k.ensures, c.requires.whole.0, c.requires.room_bound.1)
@@ -24,7 +22,5 @@ shape_of-words c = ap length c.replace.ensures ∙ length-put _ _ _
 
 pub returns : goal.returns
 returns c =
-    let args = c.args in
-    let pre = c.requires in
-    let users = part_length args.words.now args.users args.n pre.0.0 pre.1.0 pre.0.1 c.part.ensures in
+    let users = part_length c.args.words.now c.args.users c.args.n c.requires.whole.0 c.requires.room_bound.0 c.requires.whole.1 c.part.ensures in
     closes-up c.part.ensures c.part-2.ensures users c.keep-k.ensures c.replace.ensures

@@ -12,10 +12,8 @@ use Rattle.cuts.proofs.collection.Goals as goal
 
 pub cut_words-n-requires : goal.cut_words-n-requires
 cut_words-n-requires c =
-    let pre = c.requires in
-    let words = c.args.words.now in
-    let long = part_length words cu_at (get_or words cu_count_at 0) pre.whole (omega arith) pre.cus c.part.ensures in
-    (omega (arith, long, pre.cus), refl)
+    let long = part_length c.args.words.now cu_at (get_or c.args.words.now cu_count_at 0) c.requires.whole (omega arith) c.requires.cus c.part.ensures in
+    record { words_len_bound = omega (arith, long, c.requires.cus); kept_value = refl }
 
 pub replace-requires : goal.replace-requires
 replace-requires c = simp length-set (omega (arith, fills-long c.cut_words-n.ensures, c.requires.whole))

@@ -34,14 +34,10 @@ overflow_add-n c =
 
 pub loop-i-preserved : goal.loop-i-preserved
 loop-i-preserved c =
-    let few = c.requires.words_len_bound in
-    let turn = c.loop-i-test.true in
-    let met = c.meet-word.ensures in
-    let new = c.is_new.ensures in
-    let front = keeping-front c.loop-i.invariant few in
+    let front = keeping-front c.loop-i.invariant c.requires.words_len_bound in
     ⊎_elim
-    (λ w. keeping-in c.loop-i.invariant _ few turn (first-in _ _ _ met front new w.0.taken) w.1 w.2)
-    (λ w. keeping-out c.loop-i.invariant turn (first_out _ _ _ met front new w.0.left) w.1 w.2)
+    (λ w. keeping-in c.loop-i.invariant _ c.requires.words_len_bound c.loop-i-test.true (first-in _ _ _ c.meet-word.ensures front c.is_new.ensures w.0.taken) w.1 w.2)
+    (λ w. keeping-out c.loop-i.invariant c.loop-i-test.true (first_out _ _ _ c.meet-word.ensures front c.is_new.ensures w.0.left) w.1 w.2)
     c.if-is_new.branch-raw
 
 pub shape_of-kept : goal.shape_of-kept

@@ -8,15 +8,14 @@ use Rattle.cuts.proofs.TurnLaws.{done-turned}
 use Rattle.cuts.proofs.done.Goals as goal
 
 pub close_up-requires : goal.close_up-requires
-close_up-requires c = let pre = c.requires in ((pre.whole, pre.done), (omega arith, omega arith))
+close_up-requires c = record { whole = (c.requires.whole, c.requires.done); room_bound = (omega arith, omega arith) }
 
 pub close_up-requires-2 : goal.close_up-requires-2
-close_up-requires-2 c = let pre = c.requires in ((closes-long c.close_up.ensures ∙ pre.whole, pre.done), (omega arith, omega arith))
+close_up-requires-2 c = record { whole = (closes-long c.close_up.ensures ∙ c.requires.whole, c.requires.done); room_bound = (omega arith, omega arith) }
 
 pub close_up-k-requires : goal.close_up-k-requires
 close_up-k-requires c =
-    let pre = c.requires in
-    ((closes-long c.close_up-2.ensures ∙ closes-long c.close_up.ensures ∙ pre.whole, pre.done), (omega arith, omega arith))
+    record { whole = (closes-long c.close_up-2.ensures ∙ closes-long c.close_up.ensures ∙ c.requires.whole, c.requires.done); room_bound = (omega arith, omega arith) }
 
 pub bounds-words-10-2 : goal.bounds-words-10-2
 bounds-words-10-2 c =

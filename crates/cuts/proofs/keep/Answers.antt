@@ -29,12 +29,9 @@ overflow_add-n c =
 
 pub loop-i-preserved : goal.loop-i-preserved
 loop-i-preserved c =
-    let few = c.requires.users_len_bound.0 in
-    let turn = c.loop-i-test.true in
-    let met = c.meet.ensures in
     ⊎_elim
-    (λ w. keeping-in c.loop-i.invariant _ few turn (kept_in _ _ c.args.column.now _ met w.0.taken) w.2 w.3)
-    (λ w. keeping-out c.loop-i.invariant turn (kept_out _ _ c.args.column.now _ met w.0.left) w.1 w.2)
+    (λ w. keeping-in c.loop-i.invariant _ c.requires.users_len_bound.0 c.loop-i-test.true (kept_in _ _ c.args.column.now _ c.meet.ensures w.0.taken) w.2 w.3)
+    (λ w. keeping-out c.loop-i.invariant c.loop-i-test.true (kept_out _ _ c.args.column.now _ c.meet.ensures w.0.left) w.1 w.2)
     c.if-meet-ne0.branch-raw
 
 pub shape_of-kept : goal.shape_of-kept

@@ -24,11 +24,9 @@ bounds-kept-i c =
 
 pub loop-i-preserved : goal.loop-i-preserved
 loop-i-preserved c =
-    let few = c.requires.rows_len_bound in
-    let turn = c.loop-i-test.true in
     ⊎_elim
-    (λ w. rows_in few c.loop-i.invariant turn c.contains.ensures w.0.taken w.2)
-    (λ w. rows_out few c.loop-i.invariant turn c.contains.ensures w.0.left w.1)
+    (λ w. rows_in c.requires.rows_len_bound c.loop-i.invariant c.loop-i-test.true c.contains.ensures w.0.taken w.2)
+    (λ w. rows_out c.requires.rows_len_bound c.loop-i.invariant c.loop-i-test.true c.contains.ensures w.0.left w.1)
     c.if-contains.branch-raw
 
 pub shape_of-kept : goal.shape_of-kept

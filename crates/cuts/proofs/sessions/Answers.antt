@@ -8,10 +8,10 @@ use Rattle.cuts.proofs.TurnLaws.{sessions-turned}
 use Rattle.cuts.proofs.sessions.Goals as goal
 
 pub close_up-requires : goal.close_up-requires
-close_up-requires c = let pre = c.requires in ((pre.whole, pre.sessions), (omega arith, omega arith))
+close_up-requires c = record { whole = (c.requires.whole, c.requires.sessions); room_bound = (omega arith, omega arith) }
 
 pub close_up-k-requires : goal.close_up-k-requires
-close_up-k-requires c = let pre = c.requires in ((closes-long c.close_up.ensures ∙ pre.whole, pre.sessions), (omega arith, omega arith))
+close_up-k-requires c = record { whole = (closes-long c.close_up.ensures ∙ c.requires.whole, c.requires.sessions); room_bound = (omega arith, omega arith) }
 
 pub bounds-words-3-2 : goal.bounds-words-3-2
 bounds-words-3-2 c = omega (arith, c.requires.whole, closes-long c.close_up.ensures, closes-long c.close_up-k.ensures)

@@ -13,10 +13,8 @@ use Rattle.cuts.proofs.users.Goals as goal
 
 pub keep_rows-requires : goal.keep_rows-requires
 keep_rows-requires c =
-    let pre = c.requires in
-    let words = c.args.words.now in
-    let long = part_length words user_rows_at (get_or words user_count_at 0) pre.whole (omega arith) pre.users c.part.ensures in
-    (omega (arith, long, pre.users), refl)
+    let long = part_length c.args.words.now user_rows_at (get_or c.args.words.now user_count_at 0) c.requires.whole (omega arith) c.requires.users c.part.ensures in
+    record { rows_len_bound = omega (arith, long, c.requires.users); kept_value = refl }
 
 pub replace-requires : goal.replace-requires
 replace-requires c = simp length-set (omega (arith, ap length c.keep_rows.ensures ∙ length-padded room _, c.requires.whole))

@@ -18,7 +18,7 @@ slice_bounds-known-end c =
 pub formula_length-size-requires : goal.formula_length-size-requires
 formula_length-size-requires c =
     let t = found-tidy c.find.ensures c.in-Rule.is in
-    (t.0, (omega (arith, t.0.fits), t.1))
+    record { tidy = t.0; n_le_rule_limit = omega (arith, t.0.fits); root_lt_n = t.1 }
 
 pub ceiling-requires : goal.ceiling-requires
 ceiling-requires c =

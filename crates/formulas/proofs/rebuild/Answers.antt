@@ -3,7 +3,6 @@
 use mathlib.Core.Path.{sym, ◌∙◌}
 use native.Mathlib.Omega.{arith}
 use lib.Seq.{length-take-le}
-use borrow.Author.Tests.{not-true, not-false}
 use borrow.Author.Rules.{rules}
 use Rattle.syntax.proofs.FormulaLaws.{as-nothing, as-root}
 use Rattle.formulas.proofs.WrittenLaws.{answers-wrote}
@@ -20,7 +19,7 @@ pub returns-in_default : goal.returns-in_default
 returns-in_default c = rebuild-unread _ _ (as-nothing c.formula.ensures c.in_default.is)
 
 pub rule_length-requires : goal.rule_length-requires
-rule_length-requires c = let t = as-root c.formula.ensures c.in-Root.is in (t.tidy, t.within)
+rule_length-requires c = let t = as-root c.formula.ensures c.in-Root.is in record { tidy = t.tidy; root_lt_n = t.within }
 
 pub returns-then-rule_length-gt-LENGTH_LIMIT : goal.returns-then-rule_length-gt-LENGTH_LIMIT
 returns-then-rule_length-gt-LENGTH_LIMIT c =
@@ -47,11 +46,11 @@ slice_bounds-alike-end c = sym (length-take-le _ _ (answers-wrote _ _ c.reduce.e
 pub returns-then-not-alike : goal.returns-then-not-alike
 returns-then-not-alike c =
     let t = as-root c.formula.ensures c.in-Root.is in
-    rebuild-apart _ _ t.is (rebuild-text t c.write_rule-l.ensures) c.reduce.ensures c.in-Wrote.is (sym c.alike.ensures ∙ not-true _ c.if-not-alike.true)
+    rebuild-apart _ _ t.is (rebuild-text t c.write_rule-l.ensures) c.reduce.ensures c.in-Wrote.is (sym c.alike.ensures ∙ c.if-not-alike.true)
 
 pub slice_bounds-lend-end : goal.slice_bounds-lend-end
 slice_bounds-lend-end c = sym (length-take-le _ _ (search rules))
 
 pub returns : goal.returns
 returns c =
-    rebuild-gives (rebuild-same _ c.reduce.ensures c.in-Wrote.is (sym c.alike.ensures ∙ not-false _ c.if-not-alike.false)) c.lend.ensures
+    rebuild-gives (rebuild-same _ c.reduce.ensures c.in-Wrote.is (sym c.alike.ensures ∙ c.if-not-alike.false)) c.lend.ensures

@@ -17,7 +17,7 @@ slice_bounds-known-end c =
 pub formula_length-l-requires : goal.formula_length-l-requires
 formula_length-l-requires c =
     let t = found-tidy c.find.ensures c.in-Rule.is in
-    (t.0, (omega (arith, t.0.fits), t.1))
+    record { tidy = t.0; n_le_rule_limit = omega (arith, t.0.fits); root_lt_n = t.1 }
 
 pub returns-then-out-l : goal.returns-then-out-l
 returns-then-out-l c =

@@ -9,5 +9,4 @@ use Rattle.functions.proofs.image.Goals as goal
 
 pub returns : goal.returns
 returns c = λ T e.
-    let A = c.args in
-    c.image.ensures ∙ image-section T A.at (length A.t.now - A.at) c.requires.1.0 (omega (arith, c.requires)) A.w e
+    c.image.ensures ∙ image-section T c.args.at (length c.args.t.now - c.args.at) c.requires.1.0 (omega (arith, c.requires)) c.args.w e

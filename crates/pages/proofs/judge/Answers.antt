@@ -6,18 +6,13 @@ use Rattle.pages.proofs.judge.Goals as goal
 
 pub on_tables-requires : goal.on_tables-requires
 on_tables-requires c =
-    let tables = c.args.tables.now in
-    let told = c.in-Accepted.is in
-    took-loaded (load-taken tables c.load.ensures.value c.load.ensures.words_after told)
+    took-loaded (load-taken c.args.tables.now c.load.ensures.value c.load.ensures.words_after c.in-Accepted.is)
 
 pub returns-in-Refused : goal.returns-in-Refused
 returns-in-Refused c =
-    let tables = c.args.tables.now in
-    refusal-answers _ _ (tables-refused tables _ (load-rejected tables c.load.ensures.value c.in-Refused.is))
+    refusal-answers _ _ (tables-refused c.args.tables.now _ (load-rejected c.args.tables.now c.load.ensures.value c.in-Refused.is))
 
 pub returns-in-Accepted : goal.returns-in-Accepted
 returns-in-Accepted c =
-    let tables = c.args.tables.now in
-    let told = c.in-Accepted.is in
-    let q = load-taken tables c.load.ensures.value c.load.ensures.words_after told in
-    rw (tables-taken tables c.args.page.now q.is) (c.on_tables.ensures q.tables q.holds)
+    let q = load-taken c.args.tables.now c.load.ensures.value c.load.ensures.words_after c.in-Accepted.is in
+    rw (tables-taken c.args.tables.now c.args.page.now q.is) (c.on_tables.ensures q.tables q.holds)

@@ -9,11 +9,11 @@ use Rattle.pages.proofs.judged.Goals as goal
 
 pub tallied-requires : goal.tallied-requires
 tallied-requires c =
-    (c.requires.loaded, (c.requires.ready, (c.requires.groups_len, record { for_fulls = search rules; for_breakings = search rules; for_firsts = search rules })))
+    record { loaded = c.requires.loaded; ready = c.requires.ready; groups_len = c.requires.groups_len; lanes = record { for_fulls = search rules; for_breakings = search rules; for_firsts = search rules } }
 
 pub write_page-requires : goal.write_page-requires
 write_page-requires c =
-    (record { for_fulls = search rules; for_breakings = search rules; for_firsts = search rules }, ((c.requires.ready.few, c.requires.walks_le_page_limit), all_fit c.requires.ready c.tallied.ensures c.requires.loaded))
+    record { lanes = record { for_fulls = search rules; for_breakings = search rules; for_firsts = search rules }; many_le_page_limit = (c.requires.ready.few, c.requires.walks_le_page_limit); all_fit = all_fit c.requires.ready c.tallied.ensures c.requires.loaded }
 
 pub returns : goal.returns
 returns c =

@@ -15,12 +15,12 @@ pub returns-then-many-gt-PAGE_LIMIT : goal.returns-then-many-gt-PAGE_LIMIT
 returns-then-many-gt-PAGE_LIMIT c = λ T H. refusal-answers _ _ (many-refused T _ c.count-many.ensures c.if-many-gt-PAGE_LIMIT.true)
 
 pub sort-requires : goal.sort-requires
-sort-requires c = (sym (c.count-many.ensures.few c.if-many-gt-PAGE_LIMIT.false), (c.if-many-gt-PAGE_LIMIT.false, search rules))
+sort-requires c = record { page_len = sym (c.count-many.ensures.few c.if-many-gt-PAGE_LIMIT.false); many_le_page_limit = c.if-many-gt-PAGE_LIMIT.false; groups_len = search rules }
 
 pub judged-requires : goal.judged-requires
 judged-requires c =
     let g = was-sorted c.sort.ensures c.in-Walks.is in
-    (c.requires, (g.ready, (search rules, g.few)))
+    record { loaded = c.requires; ready = g.ready; groups_len = search rules; walks_le_page_limit = g.few }
 
 pub returns-in-Refused : goal.returns-in-Refused
 returns-in-Refused c =

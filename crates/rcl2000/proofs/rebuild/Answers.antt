@@ -9,5 +9,4 @@ number-requires c = call_fits c.rebuild.ensures.answers (rebuilt-short c.rebuild
 
 pub returns : goal.returns
 returns c =
-    let x = c.rebuild.ensures in
-    record { answer = x.answer; rebuilds = x.rebuilds; sees = call-seen x.answers c.number.ensures }
+    record { answer = c.rebuild.ensures.answer; rebuilds = c.rebuild.ensures.rebuilds; sees = call-seen c.rebuild.ensures.answers c.number.ensures }

@@ -7,14 +7,12 @@ use Rattle.readers.proofs.lend_line.Goals as goal
 
 pub slice_bounds-text-end : goal.slice_bounds-text-end
 slice_bounds-text-end c =
-    let loaded = c.requires in
-    let o = c.judged_line-n.ensures loaded.tables loaded.holds in
+    let o = c.judged_line-n.ensures c.requires.tables c.requires.holds in
     omega (arith, o.count, o.fits, written-length o)
 
 pub slice_bounds-lend-end : goal.slice_bounds-lend-end
 slice_bounds-lend-end c =
-    let loaded = c.requires in
-    part_length (c.judged_line-n.ensures loaded.tables loaded.holds)
+    part_length (c.judged_line-n.ensures c.requires.tables c.requires.holds)
 
 pub returns : goal.returns
 unfolding sheet_by

@@ -12,28 +12,23 @@ outside-requires c =
 
 pub returns-then-outside : goal.returns-then-outside
 returns-then-outside c =
-    let args = c.args in
-    let took = load-taken args.tables.now c.load.ensures.value c.load.ensures.words_after c.in-Accepted.is in
-    line-beyond took args.reader c.ranges.reader.fits args.rules.now args.place c.outside.ensures c.if-outside.true args.out.now
+    let took = load-taken c.args.tables.now c.load.ensures.value c.load.ensures.words_after c.in-Accepted.is in
+    line-beyond took c.args.reader c.ranges.reader.fits c.args.rules.now c.args.place c.outside.ensures c.if-outside.true c.args.out.now
 
 pub cut-requires : goal.cut-requires
 cut-requires c =
-    let args = c.args in
-    took-fits (load-taken args.tables.now c.load.ensures.value c.load.ensures.words_after c.in-Accepted.is)
+    took-fits (load-taken c.args.tables.now c.load.ensures.value c.load.ensures.words_after c.in-Accepted.is)
 
 pub lend_line-requires : goal.lend_line-requires
 lend_line-requires c =
-    let args = c.args in
-    let took = load-taken args.tables.now c.load.ensures.value c.load.ensures.words_after c.in-Accepted.is in
-    cut-loaded took args.reader c.cut.ensures
+    let took = load-taken c.args.tables.now c.load.ensures.value c.load.ensures.words_after c.in-Accepted.is in
+    cut-loaded took c.args.reader c.cut.ensures
 
 pub returns-in-Refused : goal.returns-in-Refused
 returns-in-Refused c =
-    let args = c.args in
-    line-rejected args.tables.now (load-rejected args.tables.now c.load.ensures.value c.in-Refused.is) args.reader args.rules.now args.place args.out.now
+    line-rejected c.args.tables.now (load-rejected c.args.tables.now c.load.ensures.value c.in-Refused.is) c.args.reader c.args.rules.now c.args.place c.args.out.now
 
 pub returns-else-outside : goal.returns-else-outside
 returns-else-outside c =
-    let args = c.args in
-    let took = load-taken args.tables.now c.load.ensures.value c.load.ensures.words_after c.in-Accepted.is in
-    line-lent took args.reader c.ranges.reader.fits args.rules.now args.place c.outside.ensures c.if-outside.false c.cut.ensures c.lend_line.ensures
+    let took = load-taken c.args.tables.now c.load.ensures.value c.load.ensures.words_after c.in-Accepted.is in
+    line-lent took c.args.reader c.ranges.reader.fits c.args.rules.now c.args.place c.outside.ensures c.if-outside.false c.cut.ensures c.lend_line.ensures

@@ -22,7 +22,7 @@ pub check_tree-requires : goal.check_tree-requires
 check_tree-requires c =
     let f = as_passed c.check_text.ensures c.in_default.is in
     let t = as-root c.rule.ensures c.in-Root.is in
-    (t.tidy, (t.within, (omega (arith, t.few, f.short, c.requires), c.requires.vars_len)))
+    record { tidy = t.tidy; root_lt_n = t.within; n_in_bounds = omega (arith, t.few, f.short, c.requires); vars_len = c.requires.vars_len }
 
 pub returns : goal.returns
 returns c =

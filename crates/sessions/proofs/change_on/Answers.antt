@@ -24,36 +24,22 @@ make-requires c =
 
 pub put_verdict-a-requires : goal.put_verdict-a-requires
 put_verdict-a-requires c =
-    let H = c.requires.holds in
-    let F = c.requires.front in
-    let room = c.if-out-next_length.false in
-    let next = c.next_length.ensures in
-    let apart = next-room H F c.args.change in
-    let long = front_length H F in
-    (made-loaded H F c.args.change c.requires.ready c.make.ensures, (F, search rules))
+    let apart = next-room c.requires.holds c.requires.front c.args.change in
+    let long = front_length c.requires.holds c.requires.front in
+    record { loaded = made-loaded c.requires.holds c.requires.front c.args.change c.requires.ready c.make.ensures; front = c.requires.front; in_bounds = search rules }
 
 pub add_rule-b-requires : goal.add_rule-b-requires
 add_rule-b-requires c =
-    let H = c.requires.holds in
-    let F = c.requires.front in
-    let room = c.if-out-next_length.false in
-    let next = c.next_length.ensures in
-    let apart = next-room H F c.args.change in
-    let long = front_length H F in
-    let n = c.put_verdict-a.ensures.value in
+    let apart = next-room c.requires.holds c.requires.front c.args.change in
+    let long = front_length c.requires.holds c.requires.front in
     let same = ap length (to_end 28 c.args.front.now) in
     (search rules, omega (arith, same, long.1))
 
 pub add_changed-requires : goal.add_changed-requires
 add_changed-requires c =
-    let H = c.requires.holds in
-    let F = c.requires.front in
-    let c' = c.args.change in
     let rule = rw (to_end 28 c.args.front.now) at c.add_rule-b.ensures in
-    (made-changed H F c' c.requires.ready c.make.ensures, next_fits H F c' c.requires.ready c.make.ensures c.put_verdict-a.ensures.puts_verdict rule c.next_length.ensures c.if-out-next_length.false)
+    record { changed = made-changed c.requires.holds c.requires.front c.args.change c.requires.ready c.make.ensures; tables_in_bounds = next_fits c.requires.holds c.requires.front c.args.change c.requires.ready c.make.ensures c.put_verdict-a.ensures.puts_verdict rule c.next_length.ensures c.if-out-next_length.false }
 
 pub returns : goal.returns
 returns c =
-    let H = c.requires.holds in
-    let F = c.requires.front in
-    change-written H F c.args.change c.make.ensures c.put_verdict-a.ensures.puts_verdict (rw (to_end 28 c.args.front.now) at c.add_rule-b.ensures) c.add_changed.ensures
+    change-written c.requires.holds c.requires.front c.args.change c.make.ensures c.put_verdict-a.ensures.puts_verdict (rw (to_end 28 c.args.front.now) at c.add_rule-b.ensures) c.add_changed.ensures

@@ -17,21 +17,15 @@ returns-then-out-rule c =
 
 pub put_current-a-requires : goal.put_current-a-requires
 put_current-a-requires c =
-    let room = c.if-out-rule.false in
-    (holds-loaded c.requires, (record { text = _; parses = c.parse-parsed.ensures }, (c.in-Accepted.is, search rules)))
+    record { loaded = holds-loaded c.requires; some_rule = record { text = _; parses = c.parse-parsed.ensures }; outcome_value = c.in-Accepted.is; in_bounds = search rules }
 
 pub add_rule-b-requires : goal.add_rule-b-requires
 add_rule-b-requires c =
-    let room = c.if-out-rule.false in
-    let n = c.put_current-a.ensures.value in
     let few = parsed-short c.parse-parsed.ensures c.in-Accepted.is in
     (search rules, few)
 
 pub add-requires : goal.add-requires
 add-requires c =
-    let room = c.if-out-rule.false in
-    let n = c.put_current-a.ensures.value in
-    let m = c.add_rule-b.ensures.0 in
     let l = rule-length c.args.rule.now in
     search rules
 

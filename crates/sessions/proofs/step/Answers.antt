@@ -34,10 +34,9 @@ slice_bounds-step_on-start c =
 
 pub step_on-requires : goal.step_on-requires
 step_on-requires c =
-    let s = c.args.state.now in
-    let ends = end-in s c.rule_end-end.ensures c.if-end-eq0.false in
+    let ends = end-in c.args.state.now c.rule_end-end.ensures c.if-end-eq0.false in
     let q = load-taken _ c.load.ensures.value c.load.ensures.words_after c.in-Accepted.is in
-    (took-holds q (tables-known s c.rule_end-end.ensures c.if-end-eq0.false c.args.change (bytes-known s c.shared_slice_known-1.given)), omega (arith, ends.0, length-take-le c.rule_end-end.result s ends.1))
+    record { holds = took-holds q (tables-known c.args.state.now c.rule_end-end.ensures c.if-end-eq0.false c.args.change (bytes-known c.args.state.now c.shared_slice_known-1.given)); in_bounds = omega (arith, ends.0, length-take-le c.rule_end-end.result c.args.state.now ends.1) }
 
 pub returns-in-Refused : goal.returns-in-Refused
 returns-in-Refused c =

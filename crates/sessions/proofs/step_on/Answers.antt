@@ -10,10 +10,8 @@ due-requires c =
 
 pub change_on-requires : goal.change_on-requires
 change_on-requires c =
-    let front = c.args.front.now in
-    let P = rw (to_end 28 front) at c.parse-parsed.ensures in
-    let h = c.in-Accepted.is in
-    (step-ready _ front _ _ P h c.due.ensures c.in-Accepted-due.is c.requires.holds, (c.requires.holds, record { long = c.requires.in_bounds; parses = P; accepts = h }))
+    let P = rw (to_end 28 c.args.front.now) at c.parse-parsed.ensures in
+    record { ready = step-ready _ c.args.front.now _ _ P c.in-Accepted.is c.due.ensures c.in-Accepted-due.is c.requires.holds; holds = c.requires.holds; front = record { long = c.requires.in_bounds; parses = P; accepts = c.in-Accepted.is } }
 
 pub returns-in-Refused : goal.returns-in-Refused
 returns-in-Refused c =
@@ -21,10 +19,8 @@ returns-in-Refused c =
 
 pub returns-in-Refused-due : goal.returns-in-Refused-due
 returns-in-Refused-due c =
-    let front = c.args.front.now in
-    step-refused _ front _ _ (rw (to_end 28 front) at c.parse-parsed.ensures) c.in-Accepted.is c.due.ensures _ c.in-Refused-due.is
+    step-refused _ c.args.front.now _ _ (rw (to_end 28 c.args.front.now) at c.parse-parsed.ensures) c.in-Accepted.is c.due.ensures _ c.in-Refused-due.is
 
 pub returns-in-Accepted-due : goal.returns-in-Accepted-due
 returns-in-Accepted-due c =
-    let front = c.args.front.now in
-    step-changed _ front _ _ (rw (to_end 28 front) at c.parse-parsed.ensures) c.in-Accepted.is c.due.ensures c.in-Accepted-due.is c.change_on.ensures
+    step-changed _ c.args.front.now _ _ (rw (to_end 28 c.args.front.now) at c.parse-parsed.ensures) c.in-Accepted.is c.due.ensures c.in-Accepted-due.is c.change_on.ensures

@@ -18,7 +18,7 @@ returns-then-place-eq0 c = λ T H. zero-made T c.args.rules.now _ _ c.if-place-e
 
 pub foot-requires : goal.foot-requires
 foot-requires c =
-    (c.requires.loaded, (c.requires.line_room_in_bounds, (c.if-rules-gt-RULES_LIMIT.false, no-line-at c.args.rules.now c.args.place c.line.ensures c.in_default.is c.if-place-eq0.false)))
+    record { loaded = c.requires.loaded; line_room_in_bounds = c.requires.line_room_in_bounds; rules_len_bound = (c.if-rules-gt-RULES_LIMIT.false, no-line-at c.args.rules.now c.args.place c.line.ensures c.in_default.is c.if-place-eq0.false) }
 
 pub returns-in_default : goal.returns-in_default
 returns-in_default c = c.foot.ensures

@@ -7,7 +7,7 @@ use Rattle.sheets.proofs.write_line.Goals as goal
 
 pub judged_line-requires : goal.judged_line-requires
 judged_line-requires c =
-    (took-loaded (was-taken c.args.tables.now c.read-loaded.ensures.outcome_value c.read-loaded.ensures.words_value c.in-Accepted.is), search rules)
+    record { loaded = took-loaded (was-taken c.args.tables.now c.read-loaded.ensures.outcome_value c.read-loaded.ensures.words_value c.in-Accepted.is); line_room_in_bounds = search rules }
 
 pub returns-in-Refused : goal.returns-in-Refused
 returns-in-Refused c =

@@ -10,7 +10,7 @@ use borrow.Author.Rules.{rules}
 use Rattle.syntax.proofs.formula.Goals as goal
 
 pub read_formula-p-requires : goal.read_formula-p-requires
-read_formula-p-requires c = (record { room = c.requires.0; within = omega arith; count = omega (arith, c.requires); tidy = tidy-none _ c.requires.1; choices = []; knows = knows-none }, (search rules, omega arith))
+read_formula-p-requires c = record { readable = record { room = c.requires.0; within = omega arith; count = omega (arith, c.requires); tidy = tidy-none _ c.requires.1; choices = []; knows = knows-none }; vars_len = (search rules, omega arith) }
 
 pub returns : goal.returns
 returns c =

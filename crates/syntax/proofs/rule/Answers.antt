@@ -20,5 +20,4 @@ read_rule-p-requires c = record { room = c.requires.0; within = omega arith; cou
 pub returns : goal.returns
 unfolding rule_of
 returns c =
-    let s = c.args.s.now in
-    reads-alike (length-take-le (length s) (replicate clause_room 0) (omega (arith, c.requires))) (c.ended.ensures _ _ _ (c.read_rule-p.ensures [] knows-none))
+    reads-alike (length-take-le (length c.args.s.now) (replicate clause_room 0) (omega (arith, c.requires))) (c.ended.ensures _ _ _ (c.read_rule-p.ensures [] knows-none))

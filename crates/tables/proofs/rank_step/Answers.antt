@@ -1,12 +1,7 @@
 -- `tables::rank_step`: the hierarchy test again, on the words that `load` left, where it refused by rank.
 -- Assumes nothing.
 use mathlib.Core.Path.{sym, ap, ◌∙◌}
-use mathlib.Core.List.{List, ◌++◌}
-use Prim.Native.Nat.{ℕ, ◌+◌, ◌-◌}
-use types.Run.{miss}
-use Rattle.answers.specs.Refusal.{last_number}
 use Rattle.tables.specs.declared.Outcome.TheVariants.{Refused}
-use Rattle.tables.specs.Flat.{tabulate}
 use Rattle.tables.specs.Code.Reads.{reading_outcome}
 use Rattle.tables.proofs.FitsLaws.{sections-sound}
 use Rattle.tables.proofs.LoadLaws.{never, refused-one, refused_as}
@@ -14,19 +9,12 @@ use Rattle.tables.proofs.PartLaws.{counts-fit}
 use Rattle.tables.proofs.StopLaws.{rank-refused, rank_step_lem, rank-other}
 use Rattle.tables.proofs.rank_step.Goals as goal
 
--- The other refusals' places in their enum, in which rank has 6.
-abbrev others : List ℕ
-others = tabulate 6 (λ i. i) ++ tabulate (last_number - 7) (λ i. i + 7)
-
 pub returns-in_default : goal.returns-in_default
 returns-in_default c = sym (rank-other c.args.bytes.now (λ q. never (sym (ap reading_outcome q) ∙ sym c.load.ensures.value ∙ c.in_default.is)))
 
 pub returns-in_default-refusal : goal.returns-in_default-refusal
-unfolding tabulate
 returns-in_default-refusal c =
-    sym (rank-other c.args.bytes.now (λ q.
-    let e = refused-one (sym c.in-Refused.is ∙ c.load.ensures.value ∙ ap reading_outcome q) in
-    miss others 6 tt (rw e at c.in_default-refusal.keys2)))
+    sym (rank-other c.args.bytes.now (λ q. c.in_default-refusal.not-Rank (refused-one (sym c.in-Refused.is ∙ c.load.ensures.value ∙ ap reading_outcome q))))
 
 pub failing_step-requires : goal.failing_step-requires
 failing_step-requires c =

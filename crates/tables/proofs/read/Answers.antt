@@ -6,13 +6,9 @@ use Rattle.tables.proofs.read.Goals as goal
 
 pub returns-in_default : goal.returns-in_default
 returns-in_default c =
-    let args = c.args in
-    let load = c.load-outcome in
-    let R = tables_of args.bytes.now in
-    (outcome-number R load.ensures.0, refused-words R load.ensures.0 c.in_default.is)
+    let R = tables_of c.args.bytes.now in
+    record { outcome_value = outcome-number R c.load-outcome.ensures.value; words_value = refused-words R c.load-outcome.ensures.value c.in_default.is }
 
 pub returns : goal.returns
 returns c =
-    let args = c.args in
-    let load = c.load-outcome in
-    (outcome-number (tables_of args.bytes.now) load.ensures.0, load.ensures.1.0 c.in-Accepted.is)
+    record { outcome_value = outcome-number (tables_of c.args.bytes.now) c.load-outcome.ensures.value; words_value = c.load-outcome.ensures.words_after c.in-Accepted.is }

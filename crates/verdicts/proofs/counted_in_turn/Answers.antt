@@ -9,13 +9,13 @@ use borrow.Author.Rules.{rules}
 use Rattle.verdicts.proofs.counted_in_turn.Goals as goal
 
 -- The parsed rule's parts have their lengths by their types.
-nodes-room : (c : tie.After-parse) → length c.parse-parsed.result.nodes ≡ 256
+nodes-room : (c : goal.After-parse-parsed) → length c.parse-parsed.result.nodes ≡ 256
 nodes-room c = search rules
 
-kinds-room : (c : tie.After-parse) → length c.parse-parsed.result.kinds ≡ 256
+kinds-room : (c : goal.After-parse-parsed) → length c.parse-parsed.result.kinds ≡ 256
 kinds-room c = search rules
 
-vars-room : (c : tie.After-parse) → length c.parse-parsed.result.vars ≡ 8
+vars-room : (c : goal.After-parse-parsed) → length c.parse-parsed.result.vars ≡ 8
 vars-room c = search rules
 
 pub slice_bounds-variables-end : goal.slice_bounds-variables-end
@@ -26,10 +26,8 @@ slice_bounds-listed-end c = sym (length-take-le _ _ (parsed-few c.parse-parsed.e
 
 pub known-requires : goal.known-requires
 known-requires c =
-    let P = c.parse-parsed.ensures in
-    let h = c.in-Accepted.is in
-    let lent = parsed-lent P h c.requires.loaded (nodes-room c) (kinds-room c) (vars-room c) in
-    (record { lent = lent; few = parsed-few P }, turn-ordered P h (vars-room c), turn-counts P h c.requires.loaded c.requires.known_counts)
+    let lent = parsed-lent c.parse-parsed.ensures c.in-Accepted.is c.requires.loaded (nodes-room c.before.before.before) (kinds-room c.before.before.before) (vars-room c.before.before.before) in
+    (record { lent = lent; few = parsed-few c.parse-parsed.ensures }, turn-ordered c.parse-parsed.ensures c.in-Accepted.is (vars-room c.before.before.before), turn-counts c.parse-parsed.ensures c.in-Accepted.is c.requires.loaded c.requires.known_counts)
 
 pub ruled-requires : goal.ruled-requires
 ruled-requires c =

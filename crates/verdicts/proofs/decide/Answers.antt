@@ -12,12 +12,10 @@ on_tables-requires c =
 
 pub returns-in-Refused : goal.returns-in-Refused
 returns-in-Refused c =
-    let e = c.in-Refused.e in
     let said = load-rejected c.args.tables.now c.load.ensures.value c.in-Refused.is in
-    same_gives (c.refused.ensures ∙ sym (tables-rejected c.args.tables.now c.args.rule.now c.args.order.now e said))
+    same_gives (c.refused.ensures ∙ sym (tables-rejected c.args.tables.now c.args.rule.now c.args.order.now c.in-Refused.e said))
 
 pub returns-in-Accepted : goal.returns-in-Accepted
 returns-in-Accepted c =
-    let told = c.in-Accepted.is in
-    let q = load-taken c.args.tables.now c.load.ensures.value c.load.ensures.words_after told in
+    let q = load-taken c.args.tables.now c.load.ensures.value c.load.ensures.words_after c.in-Accepted.is in
     same_gives (took-judged q c.args.rule.now c.args.order.now (c.on_tables.ensures q.tables q.holds))

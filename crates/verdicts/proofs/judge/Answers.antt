@@ -10,9 +10,8 @@ use Rattle.verdicts.proofs.judge.Goals as goal
 pub returns-in-Refused : goal.returns-in-Refused
 unfolding answer_by
 returns-in-Refused c =
-    let O = c.args.out.now in
     rw (← judged-by c.args.tables.now c.args.rule.now c.args.order.now c.decide-found.result (Refused c.in-Refused.e) c.decide-found.ensures c.in-Refused.is)
-    (kept-refused (length O) O c.in-Refused.e)
+    (kept-refused (length c.args.out.now) c.args.out.now c.in-Refused.e)
 
 pub returns-in-Held : goal.returns-in-Held
 unfolding answer_by

@@ -5,7 +5,7 @@ use Rattle.verdicts.proofs.ParsedLaws.{parsed-refused}
 use Rattle.verdicts.proofs.of_parsed.Goals as goal
 
 pub of_accepted-requires : goal.of_accepted-requires
-of_accepted-requires c = (c.requires.loaded, (c.requires.some_rule, c.in-Accepted.is))
+of_accepted-requires c = record { loaded = c.requires.loaded; some_rule = c.requires.some_rule; outcome_value = c.in-Accepted.is }
 
 pub returns-in-Refused : goal.returns-in-Refused
 returns-in-Refused c =

@@ -9,13 +9,13 @@ use borrow.Author.Rules.{rules}
 use Rattle.verdicts.proofs.parsed_in_turn.Goals as goal
 
 -- The parsed rule's parts have their lengths by their types.
-nodes-room : (c : tie.Start) → length c.args.parsed.nodes ≡ 256
+nodes-room : (c : goal.Start) → length c.args.parsed.nodes ≡ 256
 nodes-room c = search rules
 
-kinds-room : (c : tie.Start) → length c.args.parsed.kinds ≡ 256
+kinds-room : (c : goal.Start) → length c.args.parsed.kinds ≡ 256
 kinds-room c = search rules
 
-vars-room : (c : tie.Start) → length c.args.parsed.vars ≡ 8
+vars-room : (c : goal.Start) → length c.args.parsed.vars ≡ 8
 vars-room c = search rules
 
 pub slice_bounds-variables-end : goal.slice_bounds-variables-end
@@ -26,10 +26,8 @@ slice_bounds-listed-end c = sym (length-take-le _ _ (parsed-few c.requires.some_
 
 pub whole-requires : goal.whole-requires
 whole-requires c =
-    let P = c.requires.some_rule.parses in
-    let h = c.in-Accepted.is in
-    let lent = parsed-lent P h c.requires.loaded (nodes-room c) (kinds-room c) (vars-room c) in
-    (record { lent = lent; few = parsed-few P }, turn-ordered P h (vars-room c))
+    let lent = parsed-lent c.requires.some_rule.parses c.in-Accepted.is c.requires.loaded (nodes-room c.before.before.before.before) (kinds-room c.before.before.before.before) (vars-room c.before.before.before.before) in
+    (record { lent = lent; few = parsed-few c.requires.some_rule.parses }, turn-ordered c.requires.some_rule.parses c.in-Accepted.is (vars-room c.before.before.before.before))
 
 pub ruled-requires : goal.ruled-requires
 ruled-requires c =

@@ -26,10 +26,9 @@ loop-i-smaller c = omega arith
 
 pub loop-i-preserved : goal.loop-i-preserved
 loop-i-preserved c =
-    let lt = c.loop-i-test.true in
     ⊎_elim
-    (λ w. omega (arith, c.loop-i.invariant.2, count-hit c.args.order.now c.loop-i.i c.args.u lt w.0.taken))
-    (λ w. omega (arith, c.loop-i.invariant.2, count-miss c.args.order.now c.loop-i.i c.args.u lt w.0.left))
+    (λ w. omega (arith, c.loop-i.invariant.2, count-hit c.args.order.now c.loop-i.i c.args.u c.loop-i-test.true w.0.taken))
+    (λ w. omega (arith, c.loop-i.invariant.2, count-miss c.args.order.now c.loop-i.i c.args.u c.loop-i-test.true w.0.left))
     c.if-u-v.branch-raw
 
 pub returns : goal.returns

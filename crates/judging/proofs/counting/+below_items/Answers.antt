@@ -17,11 +17,10 @@ below-overflow_sub-result t c = omega (arith, c.requires.modes)
 
 pub below-returns-then-left-eq0 : goal.below-returns-then-left-eq0
 below-returns-then-left-eq0 t c =
-    let Q = c.requires in
     record {
       room = refl;
       slots = refl;
-      goes = λ y T ρ P st ke. (below-whole P c.args.mode (depth_of c.args.plan.now c.args.left) c.args.choice Q.modes (omega (arith, P.turns.many, c.if-left-eq0.true)), st, ke);
+      goes = λ y T ρ P st ke. (below-whole P c.args.mode (depth_of c.args.plan.now c.args.left) c.args.choice c.requires.modes (omega (arith, P.turns.many, c.if-left-eq0.true)), st, ke);
     }
 
 pub below-bounds-plan-850 : goal.below-bounds-plan-850
@@ -58,13 +57,12 @@ below-bounds-cache-plan t c =
 
 pub below-returns-then-mode-left-eq1 : goal.below-returns-then-mode-left-eq1
 below-returns-then-mode-left-eq1 t c =
-    let Q = c.requires in
     let d : ℕ = depth_of c.args.plan.now c.args.left in
     record {
       room = refl;
       slots = refl;
       goes = λ y T ρ P st ke. (
-        below_last P c.args.mode d c.args.choice (omega (arith, P.turns.many, Q.within, c.if-left-eq0.false)) st (omega (arith, c.if-mode-left-eq1.true, c.if-left-eq0.false)) (omega (arith, P.turns.many, Q.within, c.if-mode-left-eq1.true, c.if-left-eq0.false)) c.size-size.result c.size-size.ensures,
+        below_last P c.args.mode d c.args.choice (omega (arith, P.turns.many, c.requires.within, c.if-left-eq0.false)) st (omega (arith, c.if-mode-left-eq1.true, c.if-left-eq0.false)) (omega (arith, P.turns.many, c.requires.within, c.if-mode-left-eq1.true, c.if-left-eq0.false)) c.size-size.result c.size-size.ensures,
         st,
         ke,
       );
@@ -107,14 +105,13 @@ below-shape_of-kept-then-hit t c = refl
 
 pub below-returns-then-hit : goal.below-returns-then-hit
 below-returns-then-hit t c =
-    let Q = c.requires in
     let d : ℕ = depth_of c.args.plan.now c.args.left in
     let h = c.hit.ensures c.if-hit.true in
     record {
       room = refl;
       slots = refl;
       goes = λ y T ρ P st ke. (
-        rw (c.taken.ensures.0, c.taken.ensures.1) (below-hit P c.args.mode d Q.modes (omega (arith, P.turns.many, Q.within, c.if-left-eq0.false)) c.slot-place.ensures c.args.choice c.meet-key.ensures ke h.0 h.1 h.2),
+        rw (c.taken.ensures.0, c.taken.ensures.1) (below-hit P c.args.mode d c.requires.modes (omega (arith, P.turns.many, c.requires.within, c.if-left-eq0.false)) c.slot-place.ensures c.args.choice c.meet-key.ensures ke h.0 h.1 h.2),
         st,
         ke,
       );
@@ -126,8 +123,7 @@ below-items-sum-requires t c =
 
 pub below-keep-requires : goal.below-keep-requires
 below-keep-requires t c =
-    let Q = c.requires in
-    (omega (arith, c.slot-place.ensures.is, c.slot-place.ensures.small, c.requires.modes, c.requires.planned.turns.many, c.requires.planned.turns.short, c.requires.within, c.if-left-eq0.false), counted-fits Q.planned c.args.choice (c.items-sum.ensures.goes Q.layout Q.tables Q.rule Q.planned Q.stored Q.keeps).0)
+    (omega (arith, c.slot-place.ensures.is, c.slot-place.ensures.small, c.requires.modes, c.requires.planned.turns.many, c.requires.planned.turns.short, c.requires.within, c.if-left-eq0.false), counted-fits c.requires.planned c.args.choice (c.items-sum.ensures.goes c.requires.layout c.requires.tables c.requires.rule c.requires.planned c.requires.stored c.requires.keeps).0)
 
 pub below-shape_of-cache : goal.below-shape_of-cache
 below-shape_of-cache t c =
@@ -139,14 +135,13 @@ below-shape_of-kept t c =
 
 pub below-returns : goal.below-returns
 below-returns t c =
-    let Q = c.requires in
     let d : ℕ = depth_of c.args.plan.now c.args.left in
     record {
       room = c.items-sum.ensures.room;
       slots = keeping-length c.slot-place.result c.items-sum.result.full c.items-sum.result.breaking c.meet-key.result c.keep.ensures ∙ c.items-sum.ensures.slots;
       goes = λ y T ρ P st ke.
           let r = c.items-sum.ensures.goes y T ρ P st ke in
-          (r.0, r.1, below-write P c.args.mode d Q.modes (omega (arith, P.turns.many, Q.within, c.if-left-eq0.false)) c.slot-place.ensures c.args.choice c.meet-key.ensures r.2 r.0 c.keep.ensures);
+          (r.0, r.1, below-write P c.args.mode d c.requires.modes (omega (arith, P.turns.many, c.requires.within, c.if-left-eq0.false)) c.slot-place.ensures c.args.choice c.meet-key.ensures r.2 r.0 c.keep.ensures);
     }
 
 pub items-bounds-plan-850 : goal.items-bounds-plan-850
@@ -195,10 +190,9 @@ items-loop-rest-init t c =
 pub items-put-chosen-requires : goal.items-put-chosen-requires
 items-put-chosen-requires t c =
     let l = lowest-item c.loop-rest.invariant.2 c.loop-rest-test.true c.lowest-x.ensures in
-    let Q = c.requires.0 in
     let d : ℕ = depth_of c.args.plan.now c.args.left in
-    let lo : d < length Q.layout.order = omega (arith, Q.planned.turns.many, Q.within, c.requires.1) in
-    (omega (arith, Q.planned.turns.variables d lo, Q.planned.turns.known d lo, Q.planned.turns.few), omega arith)
+    let lo : d < length c.requires.0.layout.order = omega (arith, c.requires.0.planned.turns.many, c.requires.0.within, c.requires.1) in
+    (omega (arith, c.requires.0.planned.turns.variables d lo, c.requires.0.planned.turns.known d lo, c.requires.0.planned.turns.few), omega arith)
 
 pub items-overflow_add-d : goal.items-overflow_add-d
 items-overflow_add-d t c =
@@ -206,8 +200,7 @@ items-overflow_add-d t c =
 
 pub items-enter-next-requires : goal.items-enter-next-requires
 items-enter-next-requires t c =
-    let Q = c.requires.0 in
-    (Q.planned.whole, plan-runs Q.planned, c.loop-rest.invariant.0 ∙ Q.room, omega (arith, Q.planned.turns.many, Q.planned.turns.short, Q.within, c.requires.1), Q.modes)
+    (c.requires.0.planned.whole, plan-runs c.requires.0.planned, c.loop-rest.invariant.0 ∙ c.requires.0.room, omega (arith, c.requires.0.planned.turns.many, c.requires.0.planned.turns.short, c.requires.0.within, c.requires.1), c.requires.0.modes)
 
 pub items-overflow_sub-left : goal.items-overflow_sub-left
 items-overflow_sub-left t c =
@@ -215,22 +208,21 @@ items-overflow_sub-left t c =
 
 pub items-below-sum-requires : goal.items-below-sum-requires
 items-below-sum-requires t c =
-    let Q = c.requires.0 in
     let d : ℕ = depth_of c.args.plan.now c.args.left in
-    let lo : d < length Q.layout.order = omega (arith, Q.planned.turns.many, Q.within, c.requires.1) in
-    let put = c.put-chosen.ensures ∙ ap (λ (v : ℕ). set (choice_of c.args.choice) v c.lowest-x.result) (Q.planned.turns.variables d lo) in
-    let r = c.loop-rest.invariant.3 Q.layout Q.tables Q.rule Q.planned Q.stored Q.keeps in
-    let e = c.enter-next.ensures.goes Q.layout Q.tables Q.rule Q.planned (caches-on Q.planned c.args.choice c.put-chosen.result c.lowest-x.result d lo put r.1) in
-    let deep : depth_of c.args.plan.now (c.args.left - 1) ≡ d + 1 = omega (arith, Q.within, c.requires.1) in (
+    let lo : d < length c.requires.0.layout.order = omega (arith, c.requires.0.planned.turns.many, c.requires.0.within, c.requires.1) in
+    let put = c.put-chosen.ensures ∙ ap (λ (v : ℕ). set (choice_of c.args.choice) v c.lowest-x.result) (c.requires.0.planned.turns.variables d lo) in
+    let r = c.loop-rest.invariant.3 c.requires.0.layout c.requires.0.tables c.requires.0.rule c.requires.0.planned c.requires.0.stored c.requires.0.keeps in
+    let e = c.enter-next.ensures.goes c.requires.0.layout c.requires.0.tables c.requires.0.rule c.requires.0.planned (caches-on c.requires.0.planned c.args.choice c.put-chosen.result c.lowest-x.result d lo put r.1) in
+    let deep : depth_of c.args.plan.now (c.args.left - 1) ≡ d + 1 = omega (arith, c.requires.0.within, c.requires.1) in (
       omega (arith, c.decreases, c.requires.1),
       record {
-        layout = Q.layout;
-        tables = Q.tables;
-        rule = Q.rule;
-        planned = Q.planned;
+        layout = c.requires.0.layout;
+        tables = c.requires.0.tables;
+        rule = c.requires.0.rule;
+        planned = c.requires.0.planned;
         modes = c.enter-next.ensures.modes;
-        within = omega (arith, Q.within);
-        room = c.enter-next.ensures.room ∙ c.loop-rest.invariant.0 ∙ Q.room;
+        within = omega (arith, c.requires.0.within);
+        room = c.enter-next.ensures.room ∙ c.loop-rest.invariant.0 ∙ c.requires.0.room;
         stored = rw deep e.0;
         keeps = r.2;
       },
@@ -238,27 +230,23 @@ items-below-sum-requires t c =
 
 pub items-overflow_add-full : goal.items-overflow_add-full
 items-overflow_add-full t c =
-    let Q = c.requires.0 in
     let d : ℕ = depth_of c.args.plan.now c.args.left in
-    let deep : depth_of c.args.plan.now (c.args.left - 1) ≡ d + 1 = omega (arith, Q.within, c.requires.1) in
+    let deep : depth_of c.args.plan.now (c.args.left - 1) ≡ d + 1 = omega (arith, c.requires.0.within, c.requires.1) in
     let l = lowest-item c.loop-rest.invariant.2 c.loop-rest-test.true c.lowest-x.ensures in
-    let P = Q.planned in
-    let lo : d < length Q.layout.order = omega (arith, P.turns.many, Q.within, c.requires.1) in
-    let r = c.loop-rest.invariant.3 Q.layout Q.tables Q.rule P Q.stored Q.keeps in
-    let u = turned P c.args.choice c.lowest-x.result d (c.args.left - 1) lo deep c.put-chosen.ensures c.enter-next.ensures c.below-sum.ensures r.1 r.2 in
-    omega (arith, (items-room P c.args.mode d c.args.choice _ c.put-chosen.result c.lowest-x.result u.0 u.1 u.2 lo (set-in P c.args.choice d lo Q.stored) r.0 l (c.lowest-x.ensures.found l)).0)
+    let lo : d < length c.requires.0.layout.order = omega (arith, c.requires.0.planned.turns.many, c.requires.0.within, c.requires.1) in
+    let r = c.loop-rest.invariant.3 c.requires.0.layout c.requires.0.tables c.requires.0.rule c.requires.0.planned c.requires.0.stored c.requires.0.keeps in
+    let u = turned c.requires.0.planned c.args.choice c.lowest-x.result d (c.args.left - 1) lo deep c.put-chosen.ensures c.enter-next.ensures c.below-sum.ensures r.1 r.2 in
+    omega (arith, (items-room c.requires.0.planned c.args.mode d c.args.choice _ c.put-chosen.result c.lowest-x.result u.0 u.1 u.2 lo (set-in c.requires.0.planned c.args.choice d lo c.requires.0.stored) r.0 l (c.lowest-x.ensures.found l)).0)
 
 pub items-overflow_add-breaking : goal.items-overflow_add-breaking
 items-overflow_add-breaking t c =
-    let Q = c.requires.0 in
     let d : ℕ = depth_of c.args.plan.now c.args.left in
-    let deep : depth_of c.args.plan.now (c.args.left - 1) ≡ d + 1 = omega (arith, Q.within, c.requires.1) in
+    let deep : depth_of c.args.plan.now (c.args.left - 1) ≡ d + 1 = omega (arith, c.requires.0.within, c.requires.1) in
     let l = lowest-item c.loop-rest.invariant.2 c.loop-rest-test.true c.lowest-x.ensures in
-    let P = Q.planned in
-    let lo : d < length Q.layout.order = omega (arith, P.turns.many, Q.within, c.requires.1) in
-    let r = c.loop-rest.invariant.3 Q.layout Q.tables Q.rule P Q.stored Q.keeps in
-    let u = turned P c.args.choice c.lowest-x.result d (c.args.left - 1) lo deep c.put-chosen.ensures c.enter-next.ensures c.below-sum.ensures r.1 r.2 in
-    omega (arith, (items-room P c.args.mode d c.args.choice _ c.put-chosen.result c.lowest-x.result u.0 u.1 u.2 lo (set-in P c.args.choice d lo Q.stored) r.0 l (c.lowest-x.ensures.found l)).1)
+    let lo : d < length c.requires.0.layout.order = omega (arith, c.requires.0.planned.turns.many, c.requires.0.within, c.requires.1) in
+    let r = c.loop-rest.invariant.3 c.requires.0.layout c.requires.0.tables c.requires.0.rule c.requires.0.planned c.requires.0.stored c.requires.0.keeps in
+    let u = turned c.requires.0.planned c.args.choice c.lowest-x.result d (c.args.left - 1) lo deep c.put-chosen.ensures c.enter-next.ensures c.below-sum.ensures r.1 r.2 in
+    omega (arith, (items-room c.requires.0.planned c.args.mode d c.args.choice _ c.put-chosen.result c.lowest-x.result u.0 u.1 u.2 lo (set-in c.requires.0.planned c.args.choice d lo c.requires.0.stored) r.0 l (c.lowest-x.ensures.found l)).1)
 
 pub items-loop-rest-smaller : goal.items-loop-rest-smaller
 items-loop-rest-smaller t c =
@@ -267,16 +255,15 @@ items-loop-rest-smaller t c =
 
 pub items-loop-rest-preserved : goal.items-loop-rest-preserved
 items-loop-rest-preserved t c =
-    let Q = c.requires.0 in
     let d : ℕ = depth_of c.args.plan.now c.args.left in
-    let deep : depth_of c.args.plan.now (c.args.left - 1) ≡ d + 1 = omega (arith, Q.within, c.requires.1) in
+    let deep : depth_of c.args.plan.now (c.args.left - 1) ≡ d + 1 = omega (arith, c.requires.0.within, c.requires.1) in
     let l = lowest-item c.loop-rest.invariant.2 c.loop-rest-test.true c.lowest-x.ensures in
     let smaller : c.less-rest.result < c.loop-rest.rest = rw (c.less-rest.ensures, c.item.ensures) (less-smaller c.loop-rest.rest c.lowest-x.result c.loop-rest.invariant.2 l (c.lowest-x.ensures.found l)) in (
       c.below-sum.ensures.room ∙ c.enter-next.ensures.room ∙ c.loop-rest.invariant.0,
       c.below-sum.ensures.slots ∙ c.loop-rest.invariant.1,
       omega (arith, c.loop-rest.invariant.2, smaller),
       λ y T ρ P st ke.
-          let lo : d < length y.order = omega (arith, P.turns.many, Q.within, c.requires.1) in
+          let lo : d < length y.order = omega (arith, P.turns.many, c.requires.0.within, c.requires.1) in
           let r = c.loop-rest.invariant.3 y T ρ P st ke in
           let u = turned P c.args.choice c.lowest-x.result d (c.args.left - 1) lo deep c.put-chosen.ensures c.enter-next.ensures c.below-sum.ensures r.1 r.2 in
           (rw (c.less-rest.ensures, c.item.ensures) (items-next P c.args.mode d c.args.choice _ c.put-chosen.result c.lowest-x.result u.0 u.1 u.2 r.0 l (c.lowest-x.ensures.found l)), u.3, u.4),
@@ -290,13 +277,12 @@ items-shape_of-kept t c = c.loop-rest.invariant.1
 
 pub items-returns : goal.items-returns
 items-returns t c =
-    let Q = c.requires.0 in
     let d : ℕ = depth_of c.args.plan.now c.args.left in
     record {
       room = c.loop-rest.invariant.0;
       slots = c.loop-rest.invariant.1;
       goes = λ y T ρ P st ke.
           let r = c.loop-rest.invariant.3 y T ρ P st ke in
-          let lo : d < length y.order = omega (arith, P.turns.many, Q.within, c.requires.1) in
+          let lo : d < length y.order = omega (arith, P.turns.many, c.requires.0.within, c.requires.1) in
           (items-end P c.args.mode d c.args.choice _ lo (set-in P c.args.choice d lo st) r.0 c.loop-rest-test.false, r.1, r.2);
     }

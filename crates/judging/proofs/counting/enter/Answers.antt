@@ -9,7 +9,7 @@ pub returns-then-mode-eq0 : goal.returns-then-mode-eq0
 returns-then-mode-eq0 c =
     record {
       modes = omega arith;
-      room = c.settle.auto.1.1.1.0;
+      room = c.settle.auto.cache;
       goes = λ y T ρ P S. (c.settle.ensures y.nodes y.n y.kinds y.vars y.order y.levels P.nodes P.level S, entered-lost P c.args.mode c.args.level c.args.choice c.if-mode-eq0.true);
     }
 
@@ -17,7 +17,7 @@ pub returns-then-holds : goal.returns-then-holds
 returns-then-holds c =
     record {
       modes = omega arith;
-      room = c.settle.auto.1.1.1.0;
+      room = c.settle.auto.cache;
       goes = λ y T ρ P S.
           let now-stored = c.settle.ensures y.nodes y.n y.kinds y.vars y.order y.levels P.nodes P.level S in (
             now-stored,
@@ -30,7 +30,7 @@ pub returns : goal.returns
 returns c =
     record {
       modes = omega arith;
-      room = c.settle.auto.1.1.1.0;
+      room = c.settle.auto.cache;
       goes = λ y T ρ P S.
           let now-stored = c.settle.ensures y.nodes y.n y.kinds y.vars y.order y.levels P.nodes P.level S in (
             now-stored,

@@ -58,10 +58,9 @@ loop-rest-init c =
 pub put-chosen-requires : goal.put-chosen-requires
 put-chosen-requires c =
     let l = lowest-item c.loop-rest.invariant.2 c.loop-rest-test.true c.lowest-x.ensures in
-    let Q = c.requires.0 in
     let d : ℕ = depth_of c.args.plan.now c.args.left in
-    let lo : d < length Q.layout.order = omega (arith, Q.planned.turns.many, Q.within, c.requires.1) in
-    (omega (arith, Q.planned.turns.variables d lo, Q.planned.turns.known d lo, Q.planned.turns.few), omega arith)
+    let lo : d < length c.requires.0.layout.order = omega (arith, c.requires.0.planned.turns.many, c.requires.0.within, c.requires.1) in
+    (omega (arith, c.requires.0.planned.turns.variables d lo, c.requires.0.planned.turns.known d lo, c.requires.0.planned.turns.few), omega arith)
 
 pub overflow_add-d : goal.overflow_add-d
 overflow_add-d c =
@@ -69,8 +68,7 @@ overflow_add-d c =
 
 pub enter-next-requires : goal.enter-next-requires
 enter-next-requires c =
-    let Q = c.requires.0 in
-    (Q.planned.whole, plan-runs Q.planned, c.loop-rest.invariant.0 ∙ Q.room, omega (arith, Q.planned.turns.many, Q.planned.turns.short, Q.within, c.requires.1), Q.modes)
+    (c.requires.0.planned.whole, plan-runs c.requires.0.planned, c.loop-rest.invariant.0 ∙ c.requires.0.room, omega (arith, c.requires.0.planned.turns.many, c.requires.0.planned.turns.short, c.requires.0.within, c.requires.1), c.requires.0.modes)
 
 pub overflow_sub-left : goal.overflow_sub-left
 overflow_sub-left c =
@@ -78,21 +76,20 @@ overflow_sub-left c =
 
 pub below-under-requires : goal.below-under-requires
 below-under-requires c =
-    let Q = c.requires.0 in
     let d : ℕ = depth_of c.args.plan.now c.args.left in
-    let lo : d < length Q.layout.order = omega (arith, Q.planned.turns.many, Q.within, c.requires.1) in
-    let put = c.put-chosen.ensures ∙ ap (λ (v : ℕ). set (choice_of c.args.choice) v c.lowest-x.result) (Q.planned.turns.variables d lo) in
-    let r = c.loop-rest.invariant.3 Q.layout Q.tables Q.rule Q.planned Q.stored Q.keeps in
-    let e = c.enter-next.ensures.goes Q.layout Q.tables Q.rule Q.planned (caches-on Q.planned c.args.choice c.put-chosen.result c.lowest-x.result d lo put r.1) in
-    let deep : depth_of c.args.plan.now (c.args.left - 1) ≡ d + 1 = omega (arith, Q.within, c.requires.1) in
+    let lo : d < length c.requires.0.layout.order = omega (arith, c.requires.0.planned.turns.many, c.requires.0.within, c.requires.1) in
+    let put = c.put-chosen.ensures ∙ ap (λ (v : ℕ). set (choice_of c.args.choice) v c.lowest-x.result) (c.requires.0.planned.turns.variables d lo) in
+    let r = c.loop-rest.invariant.3 c.requires.0.layout c.requires.0.tables c.requires.0.rule c.requires.0.planned c.requires.0.stored c.requires.0.keeps in
+    let e = c.enter-next.ensures.goes c.requires.0.layout c.requires.0.tables c.requires.0.rule c.requires.0.planned (caches-on c.requires.0.planned c.args.choice c.put-chosen.result c.lowest-x.result d lo put r.1) in
+    let deep : depth_of c.args.plan.now (c.args.left - 1) ≡ d + 1 = omega (arith, c.requires.0.within, c.requires.1) in
     record {
-      layout = Q.layout;
-      tables = Q.tables;
-      rule = Q.rule;
-      planned = Q.planned;
+      layout = c.requires.0.layout;
+      tables = c.requires.0.tables;
+      rule = c.requires.0.rule;
+      planned = c.requires.0.planned;
       modes = c.enter-next.ensures.modes;
-      within = omega (arith, Q.within);
-      room = c.enter-next.ensures.room ∙ c.loop-rest.invariant.0 ∙ Q.room;
+      within = omega (arith, c.requires.0.within);
+      room = c.enter-next.ensures.room ∙ c.loop-rest.invariant.0 ∙ c.requires.0.room;
       stored = rw deep e.0;
       keeps = r.2;
     }
@@ -107,16 +104,15 @@ shape_of-kept-then-under-ne0 c =
 
 pub returns-then-under-ne0 : goal.returns-then-under-ne0
 returns-then-under-ne0 c =
-    let Q = c.requires.0 in
     let d : ℕ = depth_of c.args.plan.now c.args.left in
-    let deep : depth_of c.args.plan.now (c.args.left - 1) ≡ d + 1 = omega (arith, Q.within, c.requires.1) in
+    let deep : depth_of c.args.plan.now (c.args.left - 1) ≡ d + 1 = omega (arith, c.requires.0.within, c.requires.1) in
     let l = lowest-item c.loop-rest.invariant.2 c.loop-rest-test.true c.lowest-x.ensures in (
       l,
       record {
         room = c.below-under.ensures.room ∙ c.enter-next.ensures.room ∙ c.loop-rest.invariant.0;
         slots = c.below-under.ensures.slots ∙ c.loop-rest.invariant.1;
         goes = λ y T ρ P st ke.
-            let lo : d < length y.order = omega (arith, P.turns.many, Q.within, c.requires.1) in
+            let lo : d < length y.order = omega (arith, P.turns.many, c.requires.0.within, c.requires.1) in
             let r = c.loop-rest.invariant.3 y T ρ P st ke in
             let u = turned P c.args.choice c.lowest-x.result d (c.args.left - 1) lo deep c.put-chosen.ensures c.enter-next.ensures c.below-under.ensures r.1 r.2 in
             let b = below-is P c.args.mode d c.args.choice c.put-chosen.result c.lowest-x.result u.0 u.1 u.2 in
@@ -131,16 +127,15 @@ loop-rest-smaller c =
 
 pub loop-rest-preserved : goal.loop-rest-preserved
 loop-rest-preserved c =
-    let Q = c.requires.0 in
     let d : ℕ = depth_of c.args.plan.now c.args.left in
-    let deep : depth_of c.args.plan.now (c.args.left - 1) ≡ d + 1 = omega (arith, Q.within, c.requires.1) in
+    let deep : depth_of c.args.plan.now (c.args.left - 1) ≡ d + 1 = omega (arith, c.requires.0.within, c.requires.1) in
     let l = lowest-item c.loop-rest.invariant.2 c.loop-rest-test.true c.lowest-x.ensures in
     let smaller : c.less-rest.result < c.loop-rest.rest = rw (c.less-rest.ensures, c.item.ensures) (less-smaller c.loop-rest.rest c.lowest-x.result c.loop-rest.invariant.2 l (c.lowest-x.ensures.found l)) in (
       c.below-under.ensures.room ∙ c.enter-next.ensures.room ∙ c.loop-rest.invariant.0,
       c.below-under.ensures.slots ∙ c.loop-rest.invariant.1,
       omega (arith, c.loop-rest.invariant.2, smaller),
       λ y T ρ P st ke.
-          let lo : d < length y.order = omega (arith, P.turns.many, Q.within, c.requires.1) in
+          let lo : d < length y.order = omega (arith, P.turns.many, c.requires.0.within, c.requires.1) in
           let r = c.loop-rest.invariant.3 y T ρ P st ke in
           let u = turned P c.args.choice c.lowest-x.result d (c.args.left - 1) lo deep c.put-chosen.ensures c.enter-next.ensures c.below-under.ensures r.1 r.2 in
           let b = below-is P c.args.mode d c.args.choice c.put-chosen.result c.lowest-x.result u.0 u.1 u.2 in
@@ -155,14 +150,13 @@ shape_of-kept c = c.loop-rest.invariant.1
 
 pub returns : goal.returns
 returns c =
-    let Q = c.requires.0 in
     let d : ℕ = depth_of c.args.plan.now c.args.left in (
       omega arith,
       record {
         room = c.loop-rest.invariant.0;
         slots = c.loop-rest.invariant.1;
         goes = λ y T ρ P st ke.
-            let lo : d < length y.order = omega (arith, P.turns.many, Q.within, c.requires.1) in
+            let lo : d < length y.order = omega (arith, P.turns.many, c.requires.0.within, c.requires.1) in
             let r = c.loop-rest.invariant.3 y T ρ P st ke in
             (least-some P c.args.mode d c.args.choice _ lo (set-in P c.args.choice d lo st) (rw c.loop-rest-test.false at r.0) 0, r.1, r.2);
       },

@@ -37,7 +37,6 @@ loop-j-smaller c = omega (arith, c.loop-j-test.true)
 
 pub loop-j-preserved : goal.loop-j-preserved
 loop-j-preserved c =
-    let few = c.loop-j-test.true in
     let same : get_or c.loop-j.plan (contexts_from + c.loop-j.j) 0 ≡ get_or c.args.plan.now (contexts_from + c.loop-j.j) 0 = c.loop-j.invariant.1.outside (contexts_from + c.loop-j.j) (λ h. absurd (omega arith)) in
     (omega arith, filled_more c.loop-j.invariant.1 (omega (arith, c.requires)) c.spread-mask.result (rw (← same) c.spread-mask.ensures))
 

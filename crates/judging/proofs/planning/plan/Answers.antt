@@ -11,13 +11,13 @@ use borrow.Author.Rules.{rules}
 use Rattle.judging.proofs.planning.plan.Goals as goal
 
 -- The arrays have their length by their type.
-terms-room : (c : tie.After-terms3) → length c.terms.new.found ≡ 256
+terms-room : (c : goal.After-terms-2-1) → length c.terms.new.found ≡ 256
 terms-room c = search rules
 
-named-room : (c : tie.After-named2) → length c.scopes.new.found ≡ 256
+named-room : (c : goal.After-named-2-1) → length c.scopes.new.found ≡ 256
 named-room c = search rules
 
-names-room : (c : tie.After-sets2) → length c.sets-names.result ≡ 8
+names-room : (c : goal.After-sets-names) → length c.sets-names.result ≡ 8
 names-room c = search rules
 
 pub terms-requires : goal.terms-requires
@@ -26,7 +26,7 @@ terms-requires c =
 
 pub levels-node_levels-requires : goal.levels-node_levels-requires
 levels-node_levels-requires c =
-    (c.requires.0.small, omega (arith, c.requires.0.small, terms-room c), c.requires.0.short, λ i l. omega (arith, c.requires.0.known i l, c.requires.0.few))
+    (c.requires.0.small, omega (arith, c.requires.0.small, terms-room c.before), c.requires.0.short, λ i l. omega (arith, c.requires.0.known i l, c.requires.0.few))
 
 pub chain-first-requires : goal.chain-first-requires
 chain-first-requires c =
@@ -57,12 +57,11 @@ clauses-many-requires c =
 
 pub slice_bounds-scopes-end : goal.slice_bounds-scopes-end
 slice_bounds-scopes-end c =
-    sym (terms-room c)
+    sym (terms-room c.before.before.before.before.before.before.before.before.before.before.before.before.before.before.before.before.before.before.before.before.before.before)
 
 pub scopes-requires : goal.scopes-requires
 scopes-requires c =
-    let fits = c.requires.0.small in
-    let room = terms-room c in (
+    let room = terms-room c.before.before.before.before.before.before.before.before.before.before.before.before.before.before.before.before.before.before.before.before.before.before.before in (
       c.clauses-many.ensures.filled.long ∙ c.starts.ensures.long ∙ c.steps.ensures.long ∙ c.requires.1,
       c.clauses-many.ensures.small,
       refl,
@@ -71,7 +70,7 @@ scopes-requires c =
 
 pub clause_levels-requires : goal.clause_levels-requires
 clause_levels-requires c =
-    let room = named-room c in
+    let room = named-room c.before.before in
     (c.clauses-many.ensures.filled.long ∙ c.starts.ensures.long ∙ c.steps.ensures.long ∙ c.requires.1, c.clauses-many.ensures.small, room, c.requires.0.short, λ i l. omega (arith, c.requires.0.known i l, c.requires.0.few))
 
 pub places-requires : goal.places-requires
@@ -84,16 +83,16 @@ sets-requires c =
 
 pub slice_bounds-sets-end : goal.slice_bounds-sets-end
 slice_bounds-sets-end c =
-    sym (terms-room c)
+    sym (terms-room c.before.before.before.before.before.before.before.before.before.before.before.before.before.before.before.before.before.before.before.before.before.before.before.before.before.before.before.before.before.before.before.before.before.before.before.before.before.before.before)
 
 pub sets-names-requires : goal.sets-names-requires
 sets-names-requires c =
-    (c.requires.0.few, λ i l. omega (arith, c.requires.0.nodes i l, c.requires.0.small, terms-room c))
+    (c.requires.0.few, λ i l. omega (arith, c.requires.0.nodes i l, c.requires.0.small, terms-room c.before.before.before.before.before.before.before.before.before.before.before.before.before.before.before.before.before.before.before.before.before.before.before.before.before.before.before.before.before.before.before.before.before.before.before.before.before.before.before))
 
 pub contexts-requires : goal.contexts-requires
 contexts-requires c =
-    let room = named-room c in
-    let eight = names-room c in (
+    let room = named-room c.before.before.before.before.before.before.before.before.before.before.before.before.before.before.before.before.before.before in
+    let eight = names-room c.before.before.before in (
       eight,
       c.sets.ensures.long ∙ c.places.ensures.long ∙ c.clause_levels.ensures.long ∙ c.clauses-many.ensures.filled.long ∙ c.starts.ensures.long ∙ c.steps.ensures.long ∙ c.requires.1,
       room,
@@ -109,21 +108,21 @@ masks-requires c =
 
 pub slice_bounds-named-end : goal.slice_bounds-named-end
 slice_bounds-named-end c =
-    omega (arith, named-room c)
+    omega (arith, named-room c.before.before.before.before.before.before.before.before.before.before.before.before.before.before.before.before.before.before.before.before.before.before.before.before.before.before)
 
 pub slice_bounds-note-end : goal.slice_bounds-note-end
 slice_bounds-note-end c =
-    sym (length-take-le 64 c.scopes.new.found (omega (arith, named-room c)))
+    sym (length-take-le 64 c.scopes.new.found (omega (arith, named-room c.before.before.before.before.before.before.before.before.before.before.before.before.before.before.before.before.before.before.before.before.before.before.before.before.before.before.before)))
 
 pub note-requires : goal.note-requires
 note-requires c =
-    let room = named-room c in
+    let room = named-room c.before.before.before.before.before.before.before.before.before.before.before.before.before.before.before.before.before.before.before.before.before.before.before.before.before.before.before in
     let taken : length (take 64 c.scopes.new.found) ≡ 64 = length-take-le 64 c.scopes.new.found (omega arith) in
     (c.masks.ensures.long ∙ c.contexts.ensures.long ∙ c.sets.ensures.long ∙ c.places.ensures.long ∙ c.clause_levels.ensures.long ∙ c.clauses-many.ensures.filled.long ∙ c.starts.ensures.long ∙ c.steps.ensures.long ∙ c.requires.1, omega arith, omega arith)
 
 pub note-requires-2 : goal.note-requires-2
 note-requires-2 c =
-    let eight = names-room c in
+    let eight = names-room c.before.before.before.before.before.before.before.before.before.before.before.before.before.before.before.before.before in
     (c.note.ensures.long ∙ c.masks.ensures.long ∙ c.contexts.ensures.long ∙ c.sets.ensures.long ∙ c.places.ensures.long ∙ c.clause_levels.ensures.long ∙ c.clauses-many.ensures.filled.long ∙ c.starts.ensures.long ∙ c.steps.ensures.long ∙ c.requires.1, omega arith, omega arith)
 
 pub sorts-requires : goal.sorts-requires

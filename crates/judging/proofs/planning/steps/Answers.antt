@@ -29,5 +29,4 @@ shape_of-plan c = c.loop-k.invariant.1.long
 
 pub returns : goal.returns
 returns c =
-    let all = c.loop-k.invariant.0 in
     record { long = c.loop-k.invariant.1.long; inside = λ i l. c.loop-k.invariant.1.inside i (omega (arith, c.loop-k-test.false)); outside = λ j h. c.loop-k.invariant.1.outside j (λ m. omega (arith, h m)) }

@@ -10,8 +10,7 @@ use Rattle.judging.proofs.walking.counted.Goals as goal
 
 pub below-sum-requires : goal.below-sum-requires
 below-sum-requires c =
-    let L = c.requires.0.lent in
-    standing-at (once-for c.requires.0 c.requires.1 L.is_case) (after-for c.requires.0 c.requires.1 L.is_case) _ (c.requires.2.ready L.tables L.rule L.is_case) (omega arith) c.requires.2.small c.requires.2.room
+    standing-at (once-for c.requires.0 c.requires.1 c.requires.0.lent.is_case) (after-for c.requires.0 c.requires.1 c.requires.0.lent.is_case) _ (c.requires.2.ready c.requires.0.lent.tables c.requires.0.lent.rule c.requires.0.lent.is_case) (omega arith) c.requires.2.small c.requires.2.room
 
 pub shape_of-cache-then-sum-eq0 : goal.shape_of-cache-then-sum-eq0
 shape_of-cache-then-sum-eq0 c =

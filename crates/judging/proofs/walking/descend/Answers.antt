@@ -23,9 +23,7 @@ overflow_sub-order c =
 
 pub least-x-requires : goal.least-x-requires
 least-x-requires c =
-    let L = c.requires.0.lent in
-    let O = c.requires.1 in
-    (standing-at (once-for c.requires.0 O L.is_case) (after-for c.requires.0 O L.is_case) _ (c.turn-here.ensures.ready L.tables L.rule L.is_case) (omega (arith, c.loop-depth-test.true)) c.turn-here.ensures.small c.turn-here.ensures.room, omega (arith, c.loop-depth-test.true))
+    (standing-at (once-for c.requires.0 c.requires.1 c.requires.0.lent.is_case) (after-for c.requires.0 c.requires.1 c.requires.0.lent.is_case) _ (c.turn-here.ensures.ready c.requires.0.lent.tables c.requires.0.lent.rule c.requires.0.lent.is_case) (omega (arith, c.loop-depth-test.true)) c.turn-here.ensures.small c.turn-here.ensures.room, omega (arith, c.loop-depth-test.true))
 
 pub bounds-order-depth : goal.bounds-order-depth
 bounds-order-depth c =
@@ -45,7 +43,7 @@ overflow_add-depth c =
 
 pub enter-at-requires : goal.enter-at-requires
 enter-at-requires c =
-    let L = c.requires.0.lent in (L.ready.whole, plan-runs (c.turn-here.ensures.ready L.tables L.rule L.is_case).along.planned, c.least-x.ensures.1.room ∙ c.turn-here.ensures.room, omega (arith, c.loop-depth-test.true, c.requires.1.list.short), c.turn-here.ensures.small)
+    (c.requires.0.lent.ready.whole, plan-runs (c.turn-here.ensures.ready c.requires.0.lent.tables c.requires.0.lent.rule c.requires.0.lent.is_case).along.planned, c.least-x.ensures.1.room ∙ c.turn-here.ensures.room, omega (arith, c.loop-depth-test.true, c.requires.1.list.short), c.turn-here.ensures.small)
 
 pub overflow_add-depth-in-loop-depth : goal.overflow_add-depth-in-loop-depth
 overflow_add-depth-in-loop-depth c =

@@ -10,9 +10,8 @@ use Rattle.judging.proofs.walking.known.Goals as goal
 pub returns-then-breaking-eq0 : goal.returns-then-breaking-eq0
 returns-then-breaking-eq0 c =
     λ T ρ C.
-    let Q = c.requires in
-    let n = Q.2 T ρ C in
-    known-none T ρ c.args.order.now (once-for Q.0 Q.1 C) (after-for Q.0 Q.1 C) n.0 n.1 c.if-breaking-eq0.true
+    let n = c.requires.2 T ρ C in
+    known-none T ρ c.args.order.now (once-for c.requires.0 c.requires.1 C) (after-for c.requires.0 c.requires.1 C) n.0 n.1 c.if-breaking-eq0.true
 
 pub lay_first-requires : goal.lay_first-requires
 lay_first-requires c =
@@ -20,8 +19,7 @@ lay_first-requires c =
 
 pub entered-mode-requires : goal.entered-mode-requires
 entered-mode-requires c =
-    let L = c.requires.0.lent in
-    (L.ready.whole, plan-runs (c.lay_first.ensures.lays.along L.tables L.rule L.is_case).planned, refl, omega arith)
+    (c.requires.0.lent.ready.whole, plan-runs (c.lay_first.ensures.lays.along c.requires.0.lent.tables c.requires.0.lent.rule c.requires.0.lent.is_case).planned, refl, omega arith)
 
 pub descend-choice-requires : goal.descend-choice-requires
 descend-choice-requires c =
@@ -30,9 +28,8 @@ descend-choice-requires c =
 pub returns : goal.returns
 returns c =
     λ T ρ C.
-    let Q = c.requires in
-    let n = Q.2 T ρ C in
-    let o = once-for Q.0 Q.1 C in
-    let a = after-for Q.0 Q.1 C in
+    let n = c.requires.2 T ρ C in
+    let o = once-for c.requires.0 c.requires.1 C in
+    let a = after-for c.requires.0 c.requires.1 C in
     let d = c.descend-choice.ensures T ρ C (known-breaks T ρ c.args.order.now o a n.0 n.1 (omega (arith, c.if-breaking-eq0.false))) in
     known_some T ρ c.args.order.now o a n.0 n.1 c.descend-choice.result d c.bytes-first.result c.bytes-first.ensures

@@ -8,16 +8,16 @@ use borrow.Author.Rules.{rules}
 use Rattle.judging.proofs.walking.lay_first.Goals as goal
 
 -- The variables have room by their type.
-vars-room : (c : tie.Start) → length c.args.t2.vars ≡ 8
+vars-room : (c : goal.Start) → length c.args.t2.vars ≡ 8
 vars-room c = search rules
 
 pub slice_bounds-all-end : goal.slice_bounds-all-end
 slice_bounds-all-end c =
-    omega (arith, c.requires.0.few, vars-room c)
+    omega (arith, c.requires.0.few, vars-room c.before.before.before.before.before)
 
 pub slice_bounds-vars-end : goal.slice_bounds-vars-end
 slice_bounds-vars-end c =
-    sym (vars-long c.requires.0 (vars-room c))
+    sym (vars-long c.requires.0 (vars-room c.before.before.before.before.before.before))
 
 pub plan-requires : goal.plan-requires
 plan-requires c =
@@ -25,11 +25,11 @@ plan-requires c =
 
 pub ceiling-many-requires : goal.ceiling-many-requires
 ceiling-many-requires c =
-    (c.requires.0.lent.ready.whole, simp length-take (omega (arith, c.requires.0.few, vars-room c)))
+    (c.requires.0.lent.ready.whole, simp length-take (omega (arith, c.requires.0.few, vars-room c.before.before.before.before.before.before.before.before.before.before.before.before.before.before.before)))
 
 pub returns-then-many-lt-SEARCHED_FROM : goal.returns-then-many-lt-SEARCHED_FROM
 returns-then-many-lt-SEARCHED_FROM c =
-    (laid-along c.requires.0 c.requires.1 c.plan.ensures refl, c.ceiling-many.ensures)
+    record { lays = laid-along c.requires.0 c.requires.1 c.plan.ensures refl; ceiling_by = c.ceiling-many.ensures }
 
 pub worth-requires : goal.worth-requires
 worth-requires c =
@@ -37,7 +37,7 @@ worth-requires c =
 
 pub returns-then-not-worth : goal.returns-then-not-worth
 returns-then-not-worth c =
-    (laid-along c.requires.0 c.requires.1 c.plan.ensures refl, c.ceiling-many.ensures)
+    record { lays = laid-along c.requires.0 c.requires.1 c.plan.ensures refl; ceiling_by = c.ceiling-many.ensures }
 
 pub lay-requires : goal.lay-requires
 lay-requires c =
@@ -45,4 +45,4 @@ lay-requires c =
 
 pub returns : goal.returns
 returns c =
-    (c.lay.ensures, c.ceiling-many.ensures)
+    record { lays = c.lay.ensures; ceiling_by = c.ceiling-many.ensures }

@@ -17,7 +17,7 @@ returns-then-plan-d c =
 
 pub entered-requires : goal.entered-requires
 entered-requires c =
-    let L = c.requires.0.lent in (L.ready.whole, plan-runs (c.lay.ensures.along L.tables L.rule L.is_case).planned, c.requires.3.room, omega (arith, c.requires.2, c.requires.1.list.short))
+    (c.requires.0.lent.ready.whole, plan-runs (c.lay.ensures.along c.requires.0.lent.tables c.requires.0.lent.rule c.requires.0.lent.is_case).planned, c.requires.3.room, omega (arith, c.requires.2, c.requires.1.list.short))
 
 pub returns : goal.returns
 returns c =

@@ -21,8 +21,7 @@ returns-then-many-eq0 c = c.known.ensures
 
 pub entered-mode-requires : goal.entered-mode-requires
 entered-mode-requires c =
-    let L = c.requires.0.lent in
-    (L.ready.whole, plan-runs (c.lay_first-many.ensures.lays.along L.tables L.rule L.is_case).planned, refl, omega arith)
+    (c.requires.0.lent.ready.whole, plan-runs (c.lay_first-many.ensures.lays.along c.requires.0.lent.tables c.requires.0.lent.rule c.requires.0.lent.is_case).planned, refl, omega arith)
 
 pub overflow_sub-result : goal.overflow_sub-result
 overflow_sub-result c = omega (arith, c.entered-mode.ensures.modes)

@@ -10,9 +10,7 @@ returns-then-n-lens c =
 
 pub alike_again-requires : goal.alike_again-requires
 alike_again-requires c =
-    let h = c.requires.held in
-    let near = c.requires.j_lt_k in
-    ((omega (arith, h.within), h.accepted _ (omega arith)), (omega (arith, h.within, near), h.accepted _ (omega (arith, near))))
+    record { i_in_bounds = (omega (arith, c.requires.held.within), c.requires.held.accepted _ (omega arith)); j_in_bounds = (omega (arith, c.requires.held.within, c.requires.j_lt_k), c.requires.held.accepted _ (omega (arith, c.requires.j_lt_k))) }
 
 pub returns : goal.returns
 returns c =

@@ -8,11 +8,11 @@ use lib.Seq.{length-take-le}
 use Rattle.pages.proofs.PartLaws.{says-ends, says-accepted, again-same}
 use Rattle.pages.proofs.parts.alike_again.Goals as goal
 
-first-room : (c : tie.After-part-at) → length c.part_at.new.out ≡ 4096
-first-room c = c.part_at.auto.1.1.0 ∙ length-replicate {A = ℕ} 4096 0
+first-room : (c : goal.After-part_at) → length c.part_at.new.out ≡ 4096
+first-room c = c.part_at.auto.out ∙ length-replicate {A = ℕ} 4096 0
 
-second-room : (c : tie.After-part-at2) → length c.part_at-2.new.out ≡ 4096
-second-room c = c.part_at-2.auto.1.1.0 ∙ length-replicate {A = ℕ} 4096 0
+second-room : (c : goal.After-part_at-2) → length c.part_at-2.new.out ≡ 4096
+second-room c = c.part_at-2.auto.out ∙ length-replicate {A = ℕ} 4096 0
 
 pub returns-in_default : goal.returns-in_default
 returns-in_default c =
@@ -24,19 +24,19 @@ returns-in_default-part_at c =
 
 pub slice_bounds-a-end : goal.slice_bounds-a-end
 slice_bounds-a-end c =
-    omega (arith, (says-ends c.part_at.ensures c.in-Ends.is).short, first-room c)
+    omega (arith, (says-ends c.part_at.ensures c.in-Ends.is).short, first-room c.before.before.before.before.before.before.before.before.before.before)
 
 pub slice_bounds-alike-end : goal.slice_bounds-alike-end
 slice_bounds-alike-end c =
-    sym (length-take-le _ _ (omega (arith, (says-ends c.part_at.ensures c.in-Ends.is).short, first-room c)))
+    sym (length-take-le _ _ (omega (arith, (says-ends c.part_at.ensures c.in-Ends.is).short, first-room c.before.before.before.before.before.before.before.before.before.before.before)))
 
 pub slice_bounds-b-end : goal.slice_bounds-b-end
 slice_bounds-b-end c =
-    omega (arith, (says-ends c.part_at-2.ensures c.in-Ends-part_at.is).short, second-room c)
+    omega (arith, (says-ends c.part_at-2.ensures c.in-Ends-part_at.is).short, second-room c.before.before.before.before.before)
 
 pub slice_bounds-alike-end-2 : goal.slice_bounds-alike-end-2
 slice_bounds-alike-end-2 c =
-    sym (length-take-le _ _ (omega (arith, (says-ends c.part_at-2.ensures c.in-Ends-part_at.is).short, second-room c)))
+    sym (length-take-le _ _ (omega (arith, (says-ends c.part_at-2.ensures c.in-Ends-part_at.is).short, second-room c.before.before.before.before.before.before)))
 
 pub returns : goal.returns
 returns c =

@@ -11,19 +11,17 @@ loop-j-init c = (omega arith, seek-first _ _)
 
 pub alike-requires : goal.alike-requires
 alike-requires c =
-    (c.requires.room, (c.requires.held, omega (arith, c.loop-j-test.true)))
+    record { room = c.requires.room; held = c.requires.held; j_lt_k = omega (arith, c.loop-j-test.true) }
 
 pub returns-then-alike : goal.returns-then-alike
 returns-then-alike c =
-    let near = c.loop-j-test.true in
-    (seek_hit c.loop-j.invariant.1 (omega (arith, near, c.requires.held.within)) c.alike.ensures c.if-alike.true, omega (arith, near))
+    record { value = seek_hit c.loop-j.invariant.1 (omega (arith, c.loop-j-test.true, c.requires.held.within)) c.alike.ensures c.if-alike.true; upper_bound = omega (arith, c.loop-j-test.true) }
 
 pub loop-j-preserved : goal.loop-j-preserved
 loop-j-preserved c =
-    let near = c.loop-j-test.true in
-    (omega (arith, near), seek-next c.loop-j.invariant.1 (omega (arith, near, c.requires.held.within)) c.alike.ensures c.if-alike.false)
+    (omega (arith, c.loop-j-test.true), seek-next c.loop-j.invariant.1 (omega (arith, c.loop-j-test.true, c.requires.held.within)) c.alike.ensures c.if-alike.false)
 
 pub returns : goal.returns
 returns c =
     let end : c.loop-j.j ≡ c.args.k = omega (arith, c.loop-j.invariant.0, c.loop-j-test.false) in
-    (seek-self (rw end at c.loop-j.invariant.1) (omega (arith, c.requires.held.within)), omega arith)
+    record { value = seek-self (rw end at c.loop-j.invariant.1) (omega (arith, c.requires.held.within)); upper_bound = omega arith }

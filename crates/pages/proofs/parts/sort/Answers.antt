@@ -16,10 +16,7 @@ pub slice_bounds-slot_of-end : goal.slice_bounds-slot_of-end
 slice_bounds-slot_of-end c = sym c.loop-k.invariant.1.wide_slots
 
 pub slot_of-requires : goal.slot_of-requires
-slot_of-requires c = (
-  omega (arith, c.requires.page_len, c.loop-k-test.true),
-  omega (arith, c.requires.many_le_page_limit, c.loop-k-test.true, c.loop-k.invariant.1.wide_slots),
-)
+slot_of-requires c = record { k_in_bounds = omega (arith, c.requires.page_len, c.loop-k-test.true); slot_room_in_bounds = omega (arith, c.requires.many_le_page_limit, c.loop-k-test.true, c.loop-k.invariant.1.wide_slots) }
 
 pub shape_of-groups-in-Refused : goal.shape_of-groups-in-Refused
 shape_of-groups-in-Refused c =
@@ -33,13 +30,10 @@ pub first_with-first-requires : goal.first_with-first-requires
 first_with-first-requires c =
     let within : c.loop-k.k < length (lines c.args.page.now) = omega (arith, c.requires.page_len, c.loop-k-test.true) in
     let room : c.loop-k.k < length c.loop-k.lens = omega (arith, c.requires.many_le_page_limit, c.loop-k-test.true, c.loop-k.invariant.1.wide_lens) in
-    let stands = slot-ends c.slot_of.ensures c.in-Ends.is in (
-      record {
+    let stands = slot-ends c.slot_of.ensures c.in-Ends.is in record { room = record {
         all_slots = omega (arith, c.requires.many_le_page_limit, c.loop-k-test.true, c.loop-k.invariant.1.wide_slots, stands.slot.same);
         all_lens = rw length-set (omega arith);
-      },
-      sorting-held c.loop-k.invariant.0 within c.slot_of.ensures c.in-Ends.is room,
-    )
+      }; held = sorting-held c.loop-k.invariant.0 within c.slot_of.ensures c.in-Ends.is room }
 
 pub bounds-groups-k : goal.bounds-groups-k
 bounds-groups-k c =
@@ -51,13 +45,12 @@ overflow_add-walks c =
 
 pub loop-k-preserved : goal.loop-k-preserved
 loop-k-preserved c =
-    let page = c.args.page.now in
-    let within : c.loop-k.k < length (lines page) = omega (arith, c.requires.page_len, c.loop-k-test.true) in
+    let within : c.loop-k.k < length (lines c.args.page.now) = omega (arith, c.requires.page_len, c.loop-k-test.true) in
     let room : c.loop-k.k < length c.loop-k.lens = omega (arith, c.requires.many_le_page_limit, c.loop-k-test.true, c.loop-k.invariant.1.wide_lens) in
-    let told = c.in-Ends.is in (
-      sorting-next c.loop-k.invariant.0 within c.slot_of.ensures told room c.first_with-first.ensures.value c.first_with-first.ensures.upper_bound c.new_walk-walks.ensures
+    (
+      sorting-next c.loop-k.invariant.0 within c.slot_of.ensures c.in-Ends.is room c.first_with-first.ensures.value c.first_with-first.ensures.upper_bound c.new_walk-walks.ensures
           (omega (arith, c.loop-k.invariant.1.wide_groups, c.requires.many_le_page_limit, c.loop-k-test.true)),
-      wide-next _ _ _ _ c.loop-k.invariant.1 (slot-ends c.slot_of.ensures told).slot.same,
+      wide-next _ _ _ _ c.loop-k.invariant.1 (slot-ends c.slot_of.ensures c.in-Ends.is).slot.same,
     )
 
 pub shape_of-groups : goal.shape_of-groups

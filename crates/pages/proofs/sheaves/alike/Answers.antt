@@ -41,12 +41,11 @@ loop-j-smaller c =
 
 pub loop-j-preserved : goal.loop-j-preserved
 loop-j-preserved c =
-    let L = c.loop-j.invariant in
-    let more = lines-add c.loop-j.j L.1 c.requires.0 c.loop-j-test.true in (
-      omega (arith, L.0),
+    let more = lines-add c.loop-j.j c.loop-j.invariant.1 c.requires.0 c.loop-j-test.true in (
+      omega (arith, c.loop-j.invariant.0),
       ⊎_elim
           (λ w. rw (w.5 ∙ w.4.ensures ∙ ap (join_of c.loop-j.found) w.3.ensures) more)
-          (λ w. ⊎_elim (λ z. rw z.3 L.1) (λ z. rw z.1 L.1) w)
+          (λ w. ⊎_elim (λ z. rw z.3 c.loop-j.invariant.1) (λ z. rw z.1 c.loop-j.invariant.1) w)
           c.if-groups-j.branch-raw,
     )
 

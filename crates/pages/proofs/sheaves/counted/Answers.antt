@@ -9,10 +9,10 @@ use Rattle.pages.proofs.WholeLaws.{whole-lent, whole-starts, whole-ranges, as-co
 use Rattle.pages.proofs.sheaves.counted.Goals as goal
 
 -- The parsed rule's arrays have room by their type.
-kinds-room : (c : tie.Start) → length c.args.parsed.kinds ≡ 256
+kinds-room : (c : goal.Start) → length c.args.parsed.kinds ≡ 256
 kinds-room c = search rules
 
-vars-room : (c : tie.Start) → length c.args.parsed.vars ≡ 8
+vars-room : (c : goal.Start) → length c.args.parsed.vars ≡ 8
 vars-room c = search rules
 
 pub slice_bounds-counts-end : goal.slice_bounds-counts-end
@@ -20,8 +20,7 @@ slice_bounds-counts-end c = search rules
 
 pub counts-requires : goal.counts-requires
 counts-requires c =
-    let W = c.requires.loaded.1 in
-    ((whole-lent W c.requires.loaded.0 (kinds-room c) (vars-room c), whole-starts W, whole-ranges W, W.few, length-replicate {A = ℕ} 32 0), zeros-none)
+    record { lent_by = (whole-lent c.requires.loaded.1 c.requires.loaded.0 (kinds-room c.before.before.before.before.before.before) (vars-room c.before.before.before.before.before.before), whole-starts c.requires.loaded.1, whole-ranges c.requires.loaded.1, c.requires.loaded.1.few, length-replicate {A = ℕ} 32 0); by_index = zeros-none }
 
 pub enum_known-full : goal.enum_known-full
 enum_known-full c = search rules
@@ -38,11 +37,10 @@ slice_bounds-spread-end c =
 
 pub spread-requires : goal.spread-requires
 spread-requires c =
-    let W = c.requires.loaded.1 in
     record {
-      few = W.few;
-      for_members = W.for_members;
-      below = W.below;
+      few = c.requires.loaded.1.few;
+      for_members = c.requires.loaded.1.for_members;
+      below = c.requires.loaded.1.below;
       for_counts = (as-counted c.counts.ensures c.in-Yes.is).0;
       for_fulls = c.requires.fulls_len.0;
       for_breakings = c.requires.fulls_len.1;

@@ -54,9 +54,8 @@ shape_of-members-in_default c =
 
 pub returns-in_default : goal.returns-in_default
 returns-in_default c =
-    let I = c.loop-rest.invariant in
-    let j = lowest-item I.small c.loop-rest-test.true c.lowest-j.ensures in
-    line-there _ _ c.line.ensures c.in_default.is (c.requires.0.inside _ (I.inside _ (c.lowest-j.ensures.found j)))
+    let j = lowest-item c.loop-rest.invariant.small c.loop-rest-test.true c.lowest-j.ensures in
+    line-there _ _ c.line.ensures c.in_default.is (c.requires.0.inside _ (c.loop-rest.invariant.inside _ (c.lowest-j.ensures.found j)))
 
 pub slice_bounds-add-count : goal.slice_bounds-add-count
 slice_bounds-add-count c =
@@ -72,9 +71,8 @@ slice_bounds-add-end c =
 
 pub add-requires : goal.add-requires
 add-requires c =
-    let I = c.loop-rest.invariant in
-    let j = lowest-item I.small c.loop-rest-test.true c.lowest-j.ensures in
-    (rw (← line-is _ _ c.line.ensures c.in-Found.is) (c.requires.0.accepted _ (I.inside _ (c.lowest-j.ensures.found j))), I.gathers.sheaf.room)
+    let j = lowest-item c.loop-rest.invariant.small c.loop-rest-test.true c.lowest-j.ensures in
+    record { line_value = rw (← line-is _ _ c.line.ensures c.in-Found.is) (c.requires.0.accepted _ (c.loop-rest.invariant.inside _ (c.lowest-j.ensures.found j))); room = c.loop-rest.invariant.gathers.sheaf.room }
 
 pub enum_known-m : goal.enum_known-m
 enum_known-m c = search rules
@@ -111,50 +109,43 @@ returns-in_default-add c =
 
 pub offset_bounds-members-lines : goal.offset_bounds-members-lines
 offset_bounds-members-lines c =
-    let I = c.loop-rest.invariant in
-    let j = lowest-item I.small c.loop-rest-test.true c.lowest-j.ensures in
-    omega (arith, I.behind _ (c.lowest-j.ensures.found j))
+    let j = lowest-item c.loop-rest.invariant.small c.loop-rest-test.true c.lowest-j.ensures in
+    omega (arith, c.loop-rest.invariant.behind _ (c.lowest-j.ensures.found j))
 
 pub bounds-members-lines : goal.bounds-members-lines
 bounds-members-lines c =
-    let I = c.loop-rest.invariant in
-    let j = lowest-item I.small c.loop-rest-test.true c.lowest-j.ensures in
+    let j = lowest-item c.loop-rest.invariant.small c.loop-rest-test.true c.lowest-j.ensures in
     let found = c.lowest-j.ensures.found j in
-    omega (arith, I.behind _ found, c.requires.0.inside _ (I.inside _ found), c.requires.0.few, I.gathers.members_of.for_members)
+    omega (arith, c.loop-rest.invariant.behind _ found, c.requires.0.inside _ (c.loop-rest.invariant.inside _ found), c.requires.0.few, c.loop-rest.invariant.gathers.members_of.for_members)
 
 pub overflow_add-lines : goal.overflow_add-lines
 overflow_add-lines c =
-    let I = c.loop-rest.invariant in
-    let j = lowest-item I.small c.loop-rest-test.true c.lowest-j.ensures in
-    omega (arith, I.behind _ (c.lowest-j.ensures.found j))
+    let j = lowest-item c.loop-rest.invariant.small c.loop-rest-test.true c.lowest-j.ensures in
+    omega (arith, c.loop-rest.invariant.behind _ (c.lowest-j.ensures.found j))
 
 pub offset_bounds-starts-lines : goal.offset_bounds-starts-lines
 offset_bounds-starts-lines c =
-    let I = c.loop-rest.invariant in
-    let j = lowest-item I.small c.loop-rest-test.true c.lowest-j.ensures in
-    omega (arith, I.behind _ (c.lowest-j.ensures.found j))
+    let j = lowest-item c.loop-rest.invariant.small c.loop-rest-test.true c.lowest-j.ensures in
+    omega (arith, c.loop-rest.invariant.behind _ (c.lowest-j.ensures.found j))
 
 pub bounds-starts-lines : goal.bounds-starts-lines
 bounds-starts-lines c =
-    let I = c.loop-rest.invariant in
-    let j = lowest-item I.small c.loop-rest-test.true c.lowest-j.ensures in
+    let j = lowest-item c.loop-rest.invariant.small c.loop-rest-test.true c.lowest-j.ensures in
     let found = c.lowest-j.ensures.found j in
-    omega (arith, I.behind _ found, c.requires.0.inside _ (I.inside _ found), c.requires.0.few, I.gathers.members_of.for_starts)
+    omega (arith, c.loop-rest.invariant.behind _ found, c.requires.0.inside _ (c.loop-rest.invariant.inside _ found), c.requires.0.few, c.loop-rest.invariant.gathers.members_of.for_starts)
 
 pub overflow_add-lines-in-loop-rest : goal.overflow_add-lines-in-loop-rest
 overflow_add-lines-in-loop-rest c =
-    let I = c.loop-rest.invariant in
-    let j = lowest-item I.small c.loop-rest-test.true c.lowest-j.ensures in
-    omega (arith, I.behind _ (c.lowest-j.ensures.found j))
+    let j = lowest-item c.loop-rest.invariant.small c.loop-rest-test.true c.lowest-j.ensures in
+    omega (arith, c.loop-rest.invariant.behind _ (c.lowest-j.ensures.found j))
 
 pub crowded-requires : goal.crowded-requires
 crowded-requires c =
-    let I = c.loop-rest.invariant in
-    let j = lowest-item I.small c.loop-rest-test.true c.lowest-j.ensures in
+    let j = lowest-item c.loop-rest.invariant.small c.loop-rest-test.true c.lowest-j.ensures in
     let found = c.lowest-j.ensures.found j in
-    let room : c.loop-rest.lines < 32 = omega (arith, I.behind _ found, c.requires.0.inside _ (I.inside _ found), c.requires.0.few) in
-    let G = gathers-next I.gathers c.add.ensures c.in-Yes.is _ (I.inside _ found) room (line-is _ _ c.line.ensures c.in-Found.is) in
-    (omega (arith, I.behind _ found, c.requires.0.inside _ (I.inside _ found), c.requires.0.few), G.sheaf.room.known)
+    let room : c.loop-rest.lines < 32 = omega (arith, c.loop-rest.invariant.behind _ found, c.requires.0.inside _ (c.loop-rest.invariant.inside _ found), c.requires.0.few) in
+    let G = gathers-next c.loop-rest.invariant.gathers c.add.ensures c.in-Yes.is _ (c.loop-rest.invariant.inside _ found) room (line-is _ _ c.line.ensures c.in-Found.is) in
+    (omega (arith, c.loop-rest.invariant.behind _ found, c.requires.0.inside _ (c.loop-rest.invariant.inside _ found), c.requires.0.few), G.sheaf.room.known)
 
 pub loop-rest-smaller-then-crowded : goal.loop-rest-smaller-then-crowded
 loop-rest-smaller-then-crowded c =
@@ -162,26 +153,23 @@ loop-rest-smaller-then-crowded c =
 
 pub loop-rest-preserved-then-crowded : goal.loop-rest-preserved-then-crowded
 loop-rest-preserved-then-crowded c =
-    let I = c.loop-rest.invariant in
-    let j = lowest-item I.small c.loop-rest-test.true c.lowest-j.ensures in
+    let j = lowest-item c.loop-rest.invariant.small c.loop-rest-test.true c.lowest-j.ensures in
     let found = c.lowest-j.ensures.found j in
-    let room : c.loop-rest.lines < 32 = omega (arith, I.behind _ found, c.requires.0.inside _ (I.inside _ found), c.requires.0.few) in
-    going_end (gathers-next I.gathers c.add.ensures c.in-Yes.is _ (I.inside _ found) room (line-is _ _ c.line.ensures c.in-Found.is))
+    let room : c.loop-rest.lines < 32 = omega (arith, c.loop-rest.invariant.behind _ found, c.requires.0.inside _ (c.loop-rest.invariant.inside _ found), c.requires.0.few) in
+    going_end (gathers-next c.loop-rest.invariant.gathers c.add.ensures c.in-Yes.is _ (c.loop-rest.invariant.inside _ found) room (line-is _ _ c.line.ensures c.in-Found.is))
 
 pub loop-rest-smaller : goal.loop-rest-smaller
 loop-rest-smaller c =
-    let I = c.loop-rest.invariant in
-    let j = lowest-item I.small c.loop-rest-test.true c.lowest-j.ensures in
-    rw (c.less-rest.ensures, c.item.ensures) (less-smaller c.loop-rest.rest c.lowest-j.result I.small j (c.lowest-j.ensures.found j))
+    let j = lowest-item c.loop-rest.invariant.small c.loop-rest-test.true c.lowest-j.ensures in
+    rw (c.less-rest.ensures, c.item.ensures) (less-smaller c.loop-rest.rest c.lowest-j.result c.loop-rest.invariant.small j (c.lowest-j.ensures.found j))
 
 pub loop-rest-preserved : goal.loop-rest-preserved
 loop-rest-preserved c =
-    let I = c.loop-rest.invariant in
-    let j = lowest-item I.small c.loop-rest-test.true c.lowest-j.ensures in
+    let j = lowest-item c.loop-rest.invariant.small c.loop-rest-test.true c.lowest-j.ensures in
     let found = c.lowest-j.ensures.found j in
-    let room : c.loop-rest.lines < 32 = omega (arith, I.behind _ found, c.requires.0.inside _ (I.inside _ found), c.requires.0.few) in
+    let room : c.loop-rest.lines < 32 = omega (arith, c.loop-rest.invariant.behind _ found, c.requires.0.inside _ (c.loop-rest.invariant.inside _ found), c.requires.0.few) in
     rw (c.less-rest.ensures, c.item.ensures)
-    (going_on c.args.wanted I.small I.inside I.behind c.lowest-j.ensures j (gathers-next I.gathers c.add.ensures c.in-Yes.is _ (I.inside _ found) room (line-is _ _ c.line.ensures c.in-Found.is)))
+    (going_on c.args.wanted c.loop-rest.invariant.small c.loop-rest.invariant.inside c.loop-rest.invariant.behind c.lowest-j.ensures j (gathers-next c.loop-rest.invariant.gathers c.add.ensures c.in-Yes.is _ (c.loop-rest.invariant.inside _ found) room (line-is _ _ c.line.ensures c.in-Found.is)))
 
 pub shape_of-nodes : goal.shape_of-nodes
 shape_of-nodes c =

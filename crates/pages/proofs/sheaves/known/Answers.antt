@@ -21,7 +21,7 @@ alike-wanted-requires c =
 
 pub sheaf-more-requires : goal.sheaf-more-requires
 sheaf-more-requires c =
-    ((c.requires.loaded.0, wanted-lines c.requires.loaded.1 c.alike-wanted.ensures), (c.loop-k.invariant.for_fulls, c.loop-k.invariant.for_breakings))
+    record { loaded = (c.requires.loaded.0, wanted-lines c.requires.loaded.1 c.alike-wanted.ensures); fulls_len = (c.loop-k.invariant.for_fulls, c.loop-k.invariant.for_breakings) }
 
 pub overflow_add-k : goal.overflow_add-k
 overflow_add-k c =
@@ -33,10 +33,9 @@ loop-k-smaller c =
 
 pub loop-k-preserved : goal.loop-k-preserved
 loop-k-preserved c =
-    let K = c.loop-k.invariant in
     ⊎_elim
-    (λ w. rw (w.10, w.11, w.12 ∙ w.9.ensures) (w.4.ensures c.loop-k.found K))
-    (λ w. rw (w.1, w.2, w.3) K)
+    (λ w. rw (w.10, w.11, w.12 ∙ w.9.ensures) (w.4.ensures c.loop-k.found c.loop-k.invariant))
+    (λ w. rw (w.1, w.2, w.3) c.loop-k.invariant)
     c.if-due.branch-raw
 
 pub shape_of-fulls : goal.shape_of-fulls

@@ -82,10 +82,9 @@ slice_bounds-counted-end-2 c =
 
 pub counted-requires : goal.counted-requires
 counted-requires c =
-    let G = c.gather-found.ensures in
-    let B = c.close-parsed.ensures G.rules G.sheaf c.in-Accepted.is in
+    let B = c.close-parsed.ensures c.gather-found.ensures.rules c.gather-found.ensures.sheaf c.in-Accepted.is in
     let some_line : 0 < c.gather-found.result.lines = omega (arith, c.if-found-lt2.false) in
-    ((c.requires.loaded.0, whole_of G c.requires.loaded.1 c.close-parsed.result B some_line, c.in-Accepted.is), (c.requires.fulls_len.0, c.requires.fulls_len.1))
+    record { loaded = (c.requires.loaded.0, whole_of c.gather-found.ensures c.requires.loaded.1 c.close-parsed.result B some_line, c.in-Accepted.is); fulls_len = (c.requires.fulls_len.0, c.requires.fulls_len.1) }
 
 pub shape_of-fulls : goal.shape_of-fulls
 shape_of-fulls c =
@@ -97,7 +96,6 @@ shape_of-breakings c =
 
 pub returns : goal.returns
 returns c =
-    let G = c.gather-found.ensures in
-    let B = c.close-parsed.ensures G.rules G.sheaf c.in-Accepted.is in
+    let B = c.close-parsed.ensures c.gather-found.ensures.rules c.gather-found.ensures.sheaf c.in-Accepted.is in
     let some_line : 0 < c.gather-found.result.lines = omega (arith, c.if-found-lt2.false) in
-    grows-by c.args.page.now (whole_of G c.requires.loaded.1 c.close-parsed.result B some_line) (whole-rule G c.requires.loaded.1 c.close-parsed.result B some_line) c.counted.ensures
+    grows-by c.args.page.now (whole_of c.gather-found.ensures c.requires.loaded.1 c.close-parsed.result B some_line) (whole-rule c.gather-found.ensures c.requires.loaded.1 c.close-parsed.result B some_line) c.counted.ensures

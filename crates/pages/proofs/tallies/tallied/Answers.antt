@@ -13,18 +13,16 @@ use Rattle.pages.proofs.SheafLaws.{known_from, known-after, known-counts}
 use borrow.Author.Rules.{rules}
 use Rattle.pages.proofs.tallies.tallied.Goals as goal
 
-eight : (c : tie.After-verdict invariant-loop decreases-loop) → length c.verdict-judged.result.first ≡ 8
+eight : (c : goal.After-verdict-judged → length c.verdict-judged.result.first ≡ 8
 eight c = search rules
 
 pub known-known-requires : goal.known-known-requires
 known-known-requires c =
-    let lanes = c.requires.lanes in
-    ((c.requires.loaded, c.requires.ready, c.requires.groups_len), (lanes.for_fulls, lanes.for_breakings))
+    record { loaded = (c.requires.loaded, c.requires.ready, c.requires.groups_len); fulls_len = (c.requires.lanes.for_fulls, c.requires.lanes.for_breakings) }
 
 pub loop-k-init : goal.loop-k-init
 loop-k-init c =
-    let K = c.known-known.ensures in
-    (record { for_fulls = K.for_fulls; for_breakings = K.for_breakings; for_firsts = c.requires.lanes.for_firsts }, tallies-none _ _ _ _ _, known_from K)
+    (record { for_fulls = c.known-known.ensures.for_fulls; for_breakings = c.known-known.ensures.for_breakings; for_firsts = c.requires.lanes.for_firsts }, tallies-none _ _ _ _ _, known_from c.known-known.ensures)
 
 pub shape_of-fulls-in_default : goal.shape_of-fulls-in_default
 shape_of-fulls-in_default c =
@@ -69,7 +67,7 @@ bounds-breakings-k c =
 pub verdict-judged-requires : goal.verdict-judged-requires
 verdict-judged-requires c =
     let line = line-is _ _ c.line.ensures c.in-Found.is in
-    (c.requires.loaded, λ e. rw line at (known-counts c.loop-k.invariant.2 (sym c.contains-shared.ensures ∙ e)))
+    record { loaded = c.requires.loaded; known_counts = λ e. rw line at (known-counts c.loop-k.invariant.2 (sym c.contains-shared.ensures ∙ e)) }
 
 pub offset_bounds-fulls-k-in-loop-k : goal.offset_bounds-fulls-k-in-loop-k
 offset_bounds-fulls-k-in-loop-k c =
@@ -105,7 +103,7 @@ slice_bounds-put-end-in-loop-k c =
 
 pub put-requires : goal.put-requires
 put-requires c =
-    simp (length-take, length-drop) (omega (arith, eight c, c.loop-k.invariant.0.for_firsts, c.requires.ready.few, c.loop-k-test.true))
+    simp (length-take, length-drop) (omega (arith, eight c.before.before.before, c.loop-k.invariant.0.for_firsts, c.requires.ready.few, c.loop-k-test.true))
 
 pub overflow_add-k : goal.overflow_add-k
 overflow_add-k c =
@@ -117,14 +115,12 @@ loop-k-smaller c =
 
 pub loop-k-preserved : goal.loop-k-preserved
 loop-k-preserved c =
-    let v = c.verdict-judged.result in
-    let taken = c.loop-k-test.true in
     let within : c.loop-k.k < 32 = omega (arith, c.requires.ready.few) in
-    let ok = c.requires.ready.accepted c.loop-k.k taken in
-    let judged : JudgesInTurn c.args.words.now (line_at c.args.page.now c.loop-k.k) v = rw (line-is _ _ c.line.ensures c.in-Found.is) c.verdict-judged.ensures in (
-      lanes_next v c.loop-k.invariant.0 within c.loop-k.invariant.1 judged ok (eight c) c.put.ensures,
-      tallies-next v c.loop-k.invariant.0 within c.loop-k.invariant.1 judged ok (eight c) c.put.ensures,
-      known-after v.full v.breaking c.loop-k.invariant.2,
+    let ok = c.requires.ready.accepted c.loop-k.k c.loop-k-test.true in
+    let judged : JudgesInTurn c.args.words.now (line_at c.args.page.now c.loop-k.k) c.verdict-judged.result = rw (line-is _ _ c.line.ensures c.in-Found.is) c.verdict-judged.ensures in (
+      lanes_next c.verdict-judged.result c.loop-k.invariant.0 within c.loop-k.invariant.1 judged ok (eight c.before.before.before.before.before.before) c.put.ensures,
+      tallies-next c.verdict-judged.result c.loop-k.invariant.0 within c.loop-k.invariant.1 judged ok (eight c.before.before.before.before.before.before) c.put.ensures,
+      known-after c.verdict-judged.result.full c.verdict-judged.result.breaking c.loop-k.invariant.2,
     )
 
 pub shape_of-fulls : goal.shape_of-fulls

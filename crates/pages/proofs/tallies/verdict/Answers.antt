@@ -4,4 +4,4 @@ use Rattle.pages.proofs.tallies.verdict.Goals as goal
 
 pub counted_in_turn-requires : goal.counted_in_turn-requires
 counted_in_turn-requires c =
-    (c.requires.loaded, c.requires.known_counts c.if-known.true)
+    record { loaded = c.requires.loaded; known_counts = c.requires.known_counts c.if-known.true }

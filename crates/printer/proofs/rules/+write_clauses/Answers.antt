@@ -22,7 +22,7 @@ left_at-requires t c = ready-size c.requires.printable
 
 pub write_clause-end-requires : goal.write_clause-end-requires
 write_clause-end-requires t c =
-    ((ready-left c.requires.printable c.left_at.ensures (omega (arith, c.op_at.ensures, c.if-op_at-ne-ALSO.false))).0, c.requires.at_in_bounds)
+    record { printable = (ready-left c.requires.printable c.left_at.ensures (omega (arith, c.op_at.ensures, c.if-op_at-ne-ALSO.false))).0; at_in_bounds = c.requires.at_in_bounds }
 
 pub put-end-requires : goal.put-end-requires
 put-end-requires t c = omega (arith, c.write_clause-end.ensures.room)

@@ -9,7 +9,7 @@ pub returns-then-vars-d : goal.returns-then-vars-d
 returns-then-vars-d t c = quantifiers-none _ c.if-vars-d.true
 
 pub write_quantifier-at-requires : goal.write_quantifier-at-requires
-write_quantifier-at-requires t c = ((c.if-vars-d.false, omega (arith, c.if-vars-d.false, c.requires.few)), ready-choice c.requires c.if-vars-d.false)
+write_quantifier-at-requires t c = record { d_in_bounds = (c.if-vars-d.false, omega (arith, c.if-vars-d.false, c.requires.few)); printable = ready-choice c.requires c.if-vars-d.false }
 
 pub write_quantifiers-requires : goal.write_quantifiers-requires
 write_quantifiers-requires t c =

@@ -12,11 +12,11 @@ returns-then-op_at-ne-WHEN c =
 
 pub write_test-end-requires : goal.write_test-end-requires
 write_test-end-requires c =
-    ((ready-left c.requires.printable c.left_at.ensures (omega (arith, c.op_at.ensures, c.if-op_at-ne-WHEN.false))).0, c.requires.at_in_bounds)
+    record { printable = (ready-left c.requires.printable c.left_at.ensures (omega (arith, c.op_at.ensures, c.if-op_at-ne-WHEN.false))).0; at_in_bounds = c.requires.at_in_bounds }
 
 pub write_test-requires-2 : goal.write_test-requires-2
 write_test-requires-2 c =
-    ((ready-right c.requires.printable c.right_at.ensures (two-high _ (omega (arith, c.op_at.ensures, c.if-op_at-ne-WHEN.false)))).0, omega (arith, c.put-end.ensures.room))
+    record { printable = (ready-right c.requires.printable c.right_at.ensures (two-high _ (omega (arith, c.op_at.ensures, c.if-op_at-ne-WHEN.false)))).0; at_in_bounds = omega (arith, c.put-end.ensures.room) }
 
 pub returns : goal.returns
 returns c =

@@ -7,7 +7,7 @@ use Rattle.printer.proofs.rules.write_left.Goals as goal
 
 pub write_term-requires : goal.write_term-requires
 write_term-requires c =
-    ((ready-left c.requires.printable c.left_at-i.ensures (omega (arith, c.requires))).0, c.requires.at_in_bounds)
+    record { printable = (ready-left c.requires.printable c.left_at-i.ensures (omega (arith, c.requires))).0; at_in_bounds = c.requires.at_in_bounds }
 
 pub returns-then-op_at-lt-FIRST_NUMBERED : goal.returns-then-op_at-lt-FIRST_NUMBERED
 returns-then-op_at-lt-FIRST_NUMBERED c =
@@ -15,7 +15,7 @@ returns-then-op_at-lt-FIRST_NUMBERED c =
 
 pub write_count-requires : goal.write_count-requires
 write_count-requires c =
-    ((ready-left c.requires.printable c.left_at-i.ensures (omega (arith, c.requires))).0, c.requires.at_in_bounds)
+    record { printable = (ready-left c.requires.printable c.left_at-i.ensures (omega (arith, c.requires))).0; at_in_bounds = c.requires.at_in_bounds }
 
 pub returns : goal.returns
 returns c =

@@ -8,7 +8,7 @@ use Rattle.printer.proofs.rules.write_right.Goals as goal
 
 pub write_term-requires : goal.write_term-requires
 write_term-requires c =
-    ((ready-right c.requires.printable c.right_at-m.ensures (two-low _ (omega (arith, c.requires)) (omega (arith, c.op_at-op.ensures, c.if-op-lt-IS_EMPTY.true)))).0, c.requires.at_in_bounds)
+    record { printable = (ready-right c.requires.printable c.right_at-m.ensures (two-low _ (omega (arith, c.requires)) (omega (arith, c.op_at-op.ensures, c.if-op-lt-IS_EMPTY.true)))).0; at_in_bounds = c.requires.at_in_bounds }
 
 pub returns-then-op-lt-IS_EMPTY : goal.returns-then-op-lt-IS_EMPTY
 returns-then-op-lt-IS_EMPTY c =
@@ -24,7 +24,7 @@ returns-then-op-lt-FIRST_COUNTED c =
 
 pub write_count-requires : goal.write_count-requires
 write_count-requires c =
-    ((ready-right c.requires.printable c.right_at-m.ensures (two-high _ (omega (arith, c.op_at-op.ensures, c.if-op-lt-FIRST_COUNTED.false)))).0, c.requires.at_in_bounds)
+    record { printable = (ready-right c.requires.printable c.right_at-m.ensures (two-high _ (omega (arith, c.op_at-op.ensures, c.if-op-lt-FIRST_COUNTED.false)))).0; at_in_bounds = c.requires.at_in_bounds }
 
 pub returns : goal.returns
 returns c =

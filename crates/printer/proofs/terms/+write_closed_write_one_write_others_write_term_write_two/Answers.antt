@@ -9,7 +9,7 @@ use Rattle.printer.proofs.terms.+write_closed_write_one_write_others_write_term_
 use Rattle.printer.proofs.terms.+write_closed_write_one_write_others_write_term_write_two.Goals as goal
 
 pub write_closed-put_sign-end-requires : goal.write_closed-put_sign-end-requires
-write_closed-put_sign-end-requires t c = (omega (arith, c.requires), c.requires.at_in_bounds)
+write_closed-put_sign-end-requires t c = record { op_lt_signs_end = omega (arith, c.requires); at_in_bounds = c.requires.at_in_bounds }
 
 pub write_closed-write_term-end-requires : goal.write_closed-write_term-end-requires
 write_closed-write_term-end-requires t c =
@@ -53,7 +53,7 @@ write_one-returns-then-d-vars t c =
 
 pub write_one-put_choice-requires : goal.write_one-put_choice-requires
 write_one-put_choice-requires t c =
-    (omega (arith, c.requires.printable.few, c.seek-d.ensures.within, c.if-d-vars.false), c.requires.at_in_bounds)
+    record { d_bound = omega (arith, c.requires.printable.few, c.seek-d.ensures.within, c.if-d-vars.false); at_in_bounds = c.requires.at_in_bounds }
 
 pub write_one-returns-then-op-eq-OE : goal.write_one-returns-then-op-eq-OE
 write_one-returns-then-op-eq-OE t c =
@@ -77,7 +77,7 @@ write_others-write_term-end-requires t c =
 
 pub write_others-put_without-requires : goal.write_others-put_without-requires
 write_others-put_without-requires t c =
-    (c.requires.d_bound, omega (arith, c.write_term-end.ensures.room))
+    record { d_bound = c.requires.d_bound; at_in_bounds = omega (arith, c.write_term-end.ensures.room) }
 
 pub write_others-returns : goal.write_others-returns
 write_others-returns t c =
@@ -93,7 +93,7 @@ write_term-op_at-op-requires t c = ready-size c.requires.printable
 
 pub write_term-put_sign-requires : goal.write_term-put_sign-requires
 write_term-put_sign-requires t c =
-    (omega arith, c.requires.at_in_bounds)
+    record { op_lt_signs_end = omega arith; at_in_bounds = c.requires.at_in_bounds }
 
 pub write_term-returns-then-op-lt-FIRST_CALL : goal.write_term-returns-then-op-lt-FIRST_CALL
 write_term-returns-then-op-lt-FIRST_CALL t c =
@@ -121,7 +121,7 @@ pub write_two-op_at-op-requires : goal.write_two-op_at-op-requires
 write_two-op_at-op-requires t c = ready-size c.requires.printable
 
 pub write_two-put_open-end-requires : goal.write_two-put_open-end-requires
-write_two-put_open-end-requires t c = ((omega (arith, c.requires, c.op_at-op.ensures), omega (arith, c.requires, c.op_at-op.ensures)), c.requires.at_in_bounds)
+write_two-put_open-end-requires t c = record { first_pair_le_op = (omega (arith, c.requires, c.op_at-op.ensures), omega (arith, c.requires, c.op_at-op.ensures)); at_in_bounds = c.requires.at_in_bounds }
 
 pub write_two-left_at-requires : goal.write_two-left_at-requires
 write_two-left_at-requires t c =

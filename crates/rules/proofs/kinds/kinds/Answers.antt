@@ -14,8 +14,7 @@ loop-k-init c = (omega arith, refl, kind-none _ _)
 
 pub loop-k-preserved : goal.loop-k-preserved
 loop-k-preserved c =
-    let l = c.loop-k in
-    (omega arith, length-set l.kinds l.k c.kind_of.result ∙ l.invariant.1, kind-step c.args.nodes.now l.kinds l.k l.invariant.2 c.kind_of.ensures (omega arith))
+    (omega arith, length-set c.loop-k.kinds c.loop-k.k c.kind_of.result ∙ c.loop-k.invariant.1, kind-step c.args.nodes.now c.loop-k.kinds c.loop-k.k c.loop-k.invariant.2 c.kind_of.ensures (omega arith))
 
 pub returns : goal.returns
 returns c =

@@ -6,5 +6,4 @@ use Rattle.rules.proofs.lengths.formula_length.Goals as goal
 
 pub returns : goal.returns
 returns c = λ ρ h k.
-    let start = c.args in
-    c.totalled.ensures.is start.nodes.now start.n ρ c.requires.root_lt_n h k (c.lengths.ensures.measured (rule_vars [] ρ) k)
+    c.totalled.ensures.is c.args.nodes.now c.args.n ρ c.requires.root_lt_n h k (c.lengths.ensures.measured (rule_vars [] ρ) k)

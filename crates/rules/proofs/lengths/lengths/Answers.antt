@@ -15,10 +15,10 @@ overflow_cast-lens c = omega (arith, c.length_of.ensures)
 
 pub loop-k-preserved : goal.loop-k-preserved
 loop-k-preserved c =
-    let l = c.loop-k in (
+    (
       omega arith,
-      length-set l.lens l.k c.length_of.result ∙ l.invariant.1,
-      λ σ w. measured-next c.requires.tidy.apart (omega arith) w (l.invariant.2 σ w) c.length_of.ensures (omega arith),
+      length-set c.loop-k.lens c.loop-k.k c.length_of.result ∙ c.loop-k.invariant.1,
+      λ σ w. measured-next c.requires.tidy.apart (omega arith) w (c.loop-k.invariant.2 σ w) c.length_of.ensures (omega arith),
     )
 
 pub returns : goal.returns

@@ -9,7 +9,6 @@ use Rattle.rules.proofs.variables.+walk.Goals as goal
 
 pub bounds-nodes-k : goal.bounds-nodes-k
 bounds-nodes-k t c =
-    let f = c.requires.tidy.fits in
     omega (arith, c.requires)
 
 pub returns-then-op-lt-FIRST_CALL : goal.returns-then-op-lt-FIRST_CALL
@@ -17,9 +16,8 @@ returns-then-op-lt-FIRST_CALL t c = walked-bare c.operation-op.ensures c.if-op-l
 
 pub walk-c-requires : goal.walk-c-requires
 walk-c-requires t c =
-    let P = c.requires in
-    let l = left_below P.1.0 P.1.1.0 c.operation-op.ensures c.left-below.ensures c.if-op-lt-FIRST_CALL.false in
-    (omega (arith, P), (P.1.0, (omega (arith, P), P.1.1.1)))
+    let l = left_below c.requires.tidy c.requires.k_lt_n c.operation-op.ensures c.left-below.ensures c.if-op-lt-FIRST_CALL.false in
+    (omega (arith, c.requires), (c.requires.tidy, (omega (arith, c.requires), c.requires.vars_len)))
 
 pub returns-then-op-lt-OE : goal.returns-then-op-lt-OE
 returns-then-op-lt-OE t c =
@@ -31,15 +29,13 @@ add-requires t c =
 
 pub returns-then-op-lt-FIRST_PAIR : goal.returns-then-op-lt-FIRST_PAIR
 returns-then-op-lt-FIRST_PAIR t c =
-    let P = c.requires in
-    let l = left_below P.1.0 P.1.1.0 c.operation-op.ensures c.left-below.ensures c.if-op-lt-FIRST_CALL.false in
-    walked-choosing c.operation-op.ensures c.left-below.ensures c.walk-c.ensures c.if-op-lt-OE.false c.if-op-lt-FIRST_PAIR.true P.1.0.apart (omega (arith, P)) P.1.1.1 c.add.ensures
+    let l = left_below c.requires.tidy c.requires.k_lt_n c.operation-op.ensures c.left-below.ensures c.if-op-lt-FIRST_CALL.false in
+    walked-choosing c.operation-op.ensures c.left-below.ensures c.walk-c.ensures c.if-op-lt-OE.false c.if-op-lt-FIRST_PAIR.true c.requires.tidy.apart (omega (arith, c.requires)) c.requires.vars_len c.add.ensures
 
 pub walk-requires : goal.walk-requires
 walk-requires t c =
-    let P = c.requires in
-    let l = right-below P.1.0 P.1.1.0 c.operation-op.ensures c.right.ensures (sym c.has_two.ensures ∙ c.if-has_two.true) in
-    (omega (arith, P), (P.1.0, (omega (arith, P), c.walk-c.ensures.size ∙ P.1.1.1)))
+    let l = right-below c.requires.tidy c.requires.k_lt_n c.operation-op.ensures c.right.ensures (sym c.has_two.ensures ∙ c.if-has_two.true) in
+    (omega (arith, c.requires), (c.requires.tidy, (omega (arith, c.requires), c.walk-c.ensures.size ∙ c.requires.vars_len)))
 
 pub returns-then-has_two : goal.returns-then-has_two
 returns-then-has_two t c =

@@ -7,13 +7,11 @@ use Rattle.sessions.proofs.rows.add_changed.Goals as goal
 
 pub add_opened-requires : goal.add_opened-requires
 add_opened-requires c =
-    let q = c.in-Opening.is in
-    (subst (Changed _ _) q c.requires.changed, omega (arith, rw q at c.requires.tables_in_bounds))
+    record { changed = subst (Changed _ _) c.in-Opening.is c.requires.changed; row_length_in_bounds = omega (arith, rw c.in-Opening.is at c.requires.tables_in_bounds) }
 
 pub add_closed-requires : goal.add_closed-requires
 add_closed-requires c =
-    let q = c.in-Closing.is in
-    (subst (Changed _ _) q c.requires.changed, omega (arith, rw q at c.requires.tables_in_bounds))
+    record { changed = subst (Changed _ _) c.in-Closing.is c.requires.changed; tables_in_bounds = omega (arith, rw c.in-Closing.is at c.requires.tables_in_bounds) }
 
 pub returns-in-Opening : goal.returns-in-Opening
 returns-in-Opening c = rw c.in-Opening.is c.add_opened.ensures

@@ -6,8 +6,8 @@ use borrow.Author.Rules.{rules}
 use Rattle.sessions.proofs.rows.add_closed.Goals as goal
 
 -- What is known of the numbers once it is known where the rows begin.
-sizes : (c : tie.After-rows-at) → ClosedFits c.args.words.now c.args.tables.now c.args.k c.rows_at-rows.result
-sizes c = let p = c.requires.changed in closed-fits p.tables _ p.free p.at p.bytes c.rows_at-rows.ensures
+sizes : (c : goal.After-rows_at-rows) → ClosedFits c.args.words.now c.args.tables.now c.args.k c.rows_at-rows.result
+sizes c = closed-fits c.requires.changed.tables _ c.requires.changed.free c.requires.changed.at c.requires.changed.bytes c.rows_at-rows.ensures
 
 pub rows_at-rows-requires : goal.rows_at-rows-requires
 rows_at-rows-requires c = record { tables = _; holds = c.requires.changed.at }
@@ -23,43 +23,37 @@ overflow_add-rest c = let z = sizes c in omega (arith, z.few, z.low)
 
 pub add_count-a-requires : goal.add_count-a-requires
 add_count-a-requires c =
-    let z = sizes c in
-    let room = c.requires.tables_in_bounds in
-    (record { tables = _; holds = c.requires.changed.at }, (omega (arith, z.at, z.last), search rules))
+    let z = sizes c.before in
+    record { loaded = record { tables = _; holds = c.requires.changed.at }; words_in_bounds = (omega (arith, z.at, z.last), search rules) }
 
 pub slice_bounds-add-count : goal.slice_bounds-add-count
 slice_bounds-add-count c =
-    let z = sizes c in omega arith
+    let z = sizes c.before.before.before.before in omega arith
 
 pub slice_bounds-add-start : goal.slice_bounds-add-start
 slice_bounds-add-start c =
-    let z = sizes c in omega arith
+    let z = sizes c.before.before.before.before in omega arith
 
 pub slice_bounds-add-end : goal.slice_bounds-add-end
 slice_bounds-add-end c =
-    let z = sizes c in omega (arith, z.last)
+    let z = sizes c.before.before.before.before in omega (arith, z.last)
 
 pub add-b-requires : goal.add-b-requires
 add-b-requires c =
-    let z = sizes c in
-    let room = c.requires.tables_in_bounds in
-    let i = c.add_count-a.ensures.0 in
+    let z = sizes c.before.before.before.before.before.before in
     search rules
 
 pub slice_bounds-add-count-2 : goal.slice_bounds-add-count-2
 slice_bounds-add-count-2 c =
-    let z = sizes c in omega (arith, z.last)
+    let z = sizes c.before.before.before.before.before.before.before.before.before in omega (arith, z.last)
 
 pub slice_bounds-add-start-2 : goal.slice_bounds-add-start-2
 slice_bounds-add-start-2 c =
-    let z = sizes c in omega (arith, z.last)
+    let z = sizes c.before.before.before.before.before.before.before.before.before in omega (arith, z.last)
 
 pub add-requires : goal.add-requires
 add-requires c =
-    let z = sizes c in
-    let room = c.requires.tables_in_bounds in
-    let i = c.add_count-a.ensures.0 in
-    let j = c.add-b.ensures.0 in
+    let z = sizes c.before.before.before.before.before.before.before.before.before.before.before in
     search rules
 
 pub returns : goal.returns

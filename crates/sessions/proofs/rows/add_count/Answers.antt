@@ -10,13 +10,12 @@ use Rattle.sessions.proofs.LayLaws.{add-then}
 use borrow.Author.Rules.{rules}
 use Rattle.sessions.proofs.rows.add_count.Goals as goal
 
-front_length : (c : tie.After-rows-at) → length (take (c.rows_at-at.result - 1) c.args.tables.now) ≡ c.rows_at-at.result - 1
+front_length : (c : goal.After-rows_at-at) → length (take (c.rows_at-at.result - 1) c.args.tables.now) ≡ c.rows_at-at.result - 1
 front_length c =
-    let at = c.rows_at-at.ensures in
-    length-take-le (c.rows_at-at.result - 1) c.args.tables.now (omega (arith, at, c.requires.words_in_bounds.0))
+    length-take-le (c.rows_at-at.result - 1) c.args.tables.now (omega (arith, c.rows_at-at.ensures, c.requires.words_in_bounds.0))
 
 pub overflow_sub-at : goal.overflow_sub-at
-overflow_sub-at c = let at = c.rows_at-at.ensures in omega (arith, at)
+overflow_sub-at c = omega (arith, c.rows_at-at.ensures)
 
 pub bounds-words-3 : goal.bounds-words-3
 bounds-words-3 c = omega (arith, (counts_of c.requires.loaded.holds).long)
@@ -26,21 +25,16 @@ overflow_cast-count c = let k = counts_of c.requires.loaded.holds in omega (arit
 
 pub slice_bounds-add-end : goal.slice_bounds-add-end
 slice_bounds-add-end c =
-    sym (front_length c)
+    sym (front_length c.before.before)
 
 pub add-a-requires : goal.add-a-requires
 add-a-requires c =
-    let at = c.rows_at-at.ensures in
-    let long = front_length c in
-    let room = c.requires.words_in_bounds.1 in
+    let long = front_length c.before.before.before in
     search rules
 
 pub add-requires : goal.add-requires
 add-requires c =
-    let at = c.rows_at-at.ensures in
-    let long = front_length c in
-    let room = c.requires.words_in_bounds.1 in
-    let n = c.add-a.ensures.0 in
+    let long = front_length c.before.before.before.before.before.before.before.before in
     search rules
 
 pub returns : goal.returns

@@ -9,11 +9,5 @@ use Rattle.sessions.proofs.state.put_current.Goals as goal
 
 pub returns : goal.returns
 returns c =
-    let loaded = c.requires.loaded in
-    let P = c.requires.some_rule.parses in
-    let h = c.requires.outcome_value in
-    let t = (parsed-rule P h).reads in
-    let own = current-written _ P h (c.parsed_in_turn-verdict.ensures _ P) c.word_of.ensures c.write.ensures in (
-      λ rule Q. current-written rule Q h (c.parsed_in_turn-verdict.ensures rule Q) c.word_of.ensures c.write.ensures,
-      (own loaded.tables (parsed-rule P h).tree loaded.holds t).count ∙ current-length (given-at loaded.holds P h t),
-    )
+    let t = (parsed-rule c.requires.some_rule.parses c.requires.outcome_value).reads in
+    let own = current-written _ c.requires.some_rule.parses c.requires.outcome_value (c.parsed_in_turn-verdict.ensures _ c.requires.some_rule.parses) c.word_of.ensures c.write.ensures in record { puts_current = λ rule Q. current-written rule Q c.requires.outcome_value (c.parsed_in_turn-verdict.ensures rule Q) c.word_of.ensures c.write.ensures; value = (own c.requires.loaded.tables (parsed-rule c.requires.some_rule.parses c.requires.outcome_value).tree c.requires.loaded.holds t).count ∙ current-length (given-at c.requires.loaded.holds c.requires.some_rule.parses c.requires.outcome_value t) }

@@ -11,19 +11,17 @@ use Rattle.sessions.proofs.state.put_verdict.Goals as goal
 
 pub returns-then-sessions : goal.returns-then-sessions
 returns-then-sessions c =
-    let front = c.args.front.now in
-    (verdict-afresh front (c.sessions.ensures ∙ ap mentions (to_end 28 front)) c.if-sessions.true (c.put_current.ensures.puts_current _ c.requires.front.parses), c.put_current.ensures.value)
+    record { puts_verdict = verdict-afresh c.args.front.now (c.sessions.ensures ∙ ap mentions (to_end 28 c.args.front.now)) c.if-sessions.true (c.put_current.ensures.puts_current _ c.requires.front.parses); value = c.put_current.ensures.value }
 
 pub slice_bounds-put-end : goal.slice_bounds-put-end
 slice_bounds-put-end c =
-    let front = c.args.front.now in sym (length-take-le 26 front (omega (arith, c.requires.front.long)))
+    sym (length-take-le 26 c.args.front.now (omega (arith, c.requires.front.long)))
 
 pub put-requires : goal.put-requires
 put-requires c =
-    let front = c.args.front.now in let long = length-take-le 26 front (omega (arith, c.requires.front.long)) in let room = c.requires.in_bounds in search rules
+    let long = length-take-le 26 c.args.front.now (omega (arith, c.requires.front.long)) in search rules
 
 pub returns : goal.returns
 returns c =
-    let front = c.args.front.now in
-    let long = length-take-le 26 front (omega (arith, c.requires.front.long)) in
-    (verdict-kept front (c.sessions.ensures ∙ ap mentions (to_end 28 front)) c.if-sessions.false c.put.ensures, c.put.ensures.count ∙ long)
+    let long = length-take-le 26 c.args.front.now (omega (arith, c.requires.front.long)) in
+    record { puts_verdict = verdict-kept c.args.front.now (c.sessions.ensures ∙ ap mentions (to_end 28 c.args.front.now)) c.if-sessions.false c.put.ensures; value = c.put.ensures.count ∙ long }

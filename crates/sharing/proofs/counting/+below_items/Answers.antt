@@ -30,17 +30,16 @@ below-slice_bounds-below-end-then-at-eq0 t c =
 
 pub below-below-requires : goal.below-below-requires
 below-below-requires t c =
-    let Q = c.requires in
     record {
-      layout = Q.held.layout;
-      tables = Q.held.tables;
-      rule = Q.held.rule;
-      planned = Q.grouped.planned;
+      layout = c.requires.held.layout;
+      tables = c.requires.held.tables;
+      rule = c.requires.held.rule;
+      planned = c.requires.grouped.planned;
       modes = omega arith;
-      within = Q.within;
-      room = Q.room;
-      stored = Q.stored;
-      keeps = Q.keeps.whole;
+      within = c.requires.within;
+      room = c.requires.room;
+      stored = c.requires.stored;
+      keeps = c.requires.keeps.whole;
     }
 
 pub below-shape_of-cache-then-at-eq0 : goal.below-shape_of-cache-then-at-eq0
@@ -53,21 +52,18 @@ below-shape_of-kept-then-at-eq0 t c =
 
 pub below-returns-then-at-eq0 : goal.below-returns-then-at-eq0
 below-returns-then-at-eq0 t c =
-    let Q = c.requires in
-    let e = c.below.ensures in
     record {
-      room = e.room;
-      slots = length_front c.args.kept.now c.below.new.kept 3072 e.slots;
+      room = c.below.ensures.room;
+      slots = length_front c.args.kept.now c.below.new.kept 3072 c.below.ensures.slots;
       counts = refl;
       other = λ l a. refl;
       goes = λ h G st ke.
-          let r = e.goes h.layout h.tables h.rule G.planned st ke.whole in
-          (r.0.fulls, λ l a. absurd (true≢false (sym (rw c.if-at-eq0.true at a) ∙ has-zero l)), r.1, kept-front G ke Q.slots r.2 e.slots);
+          let r = c.below.ensures.goes h.layout h.tables h.rule G.planned st ke.whole in
+          (r.0.fulls, λ l a. absurd (true≢false (sym (rw c.if-at-eq0.true at a) ∙ has-zero l)), r.1, kept-front G ke c.requires.slots r.2 c.below.ensures.slots);
     }
 
 pub below-returns-then-at-eq0-2 : goal.below-returns-then-at-eq0-2
 below-returns-then-at-eq0-2 t c =
-    let Q = c.requires in
     let d : ℕ = depth_of c.args.plan.now c.args.at.left in
     record {
       room = refl;
@@ -76,7 +72,7 @@ below-returns-then-at-eq0-2 t c =
       other = λ l a. refl;
       goes = λ h G st ke.
           let end : length h.layout.order ≤ d = omega (arith, G.planned.turns.many, c.if-at-eq0-2.true) in
-          ((line-end G 0 d c.args.at.choice end 0 refl).fulls, λ l a. line-end G l d c.args.at.choice end _ (Q.none l a), st, ke);
+          ((line-end G 0 d c.args.at.choice end 0 refl).fulls, λ l a. line-end G l d c.args.at.choice end _ (c.requires.none l a), st, ke);
     }
 
 pub below-bounds-plan-850 : goal.below-bounds-plan-850
@@ -109,8 +105,7 @@ below-returns-then-d-eq0 t c =
 
 pub below-looked-missing-requires : goal.below-looked-missing-requires
 below-looked-missing-requires t c =
-    let Q = c.requires in
-    (Q.listed, Q.long, omega (arith, c.if-d-eq0.false), omega (arith, Q.grouped.planned.turns.many, Q.grouped.planned.turns.short, c.if-at-eq0-2.false), Q.counts)
+    (c.requires.listed, c.requires.long, omega (arith, c.if-d-eq0.false), omega (arith, c.requires.grouped.planned.turns.many, c.requires.grouped.planned.turns.short, c.if-at-eq0-2.false), c.requires.counts)
 
 pub below-lowest-requires : goal.below-lowest-requires
 below-lowest-requires t c =
@@ -118,14 +113,10 @@ below-lowest-requires t c =
 
 pub below-known-requires : goal.below-known-requires
 below-known-requires t c =
-    let Q = c.requires in
     let l : ℕ = c.lowest.result in
-    let here = lowest-item Q.listed.small c.if-at-eq0.false c.lowest.ensures in
+    let here = lowest-item c.requires.listed.small c.if-at-eq0.false c.lowest.ensures in
     let active = c.lowest.ensures.found here in
-    let hit = c.looked-missing.ensures.hits l active (rw c.if-missing-eq0.true (has-zero l)) in (
-      (Q.listed.few, Q.long, omega (arith, c.if-d-eq0.false), omega (arith, Q.grouped.planned.turns.many, Q.grouped.planned.turns.short, c.if-at-eq0-2.false), omega (arith, Q.listed.few, Q.listed.inside l active)),
-      record { fits = hit.fits; there = hit.there; key = hit.key; is = refl },
-    )
+    let hit = c.looked-missing.ensures.hits l active (rw c.if-missing-eq0.true (has-zero l)) in record { many_le_lines_limit = (c.requires.listed.few, c.requires.long, omega (arith, c.if-d-eq0.false), omega (arith, c.requires.grouped.planned.turns.many, c.requires.grouped.planned.turns.short, c.if-at-eq0-2.false), omega (arith, c.requires.listed.few, c.requires.listed.inside l active)); hit_for = record { fits = hit.fits; there = hit.there; key = hit.key; is = refl } }
 
 pub below-shape_of-kept-then-missing-eq0 : goal.below-shape_of-kept-then-missing-eq0
 below-shape_of-kept-then-missing-eq0 t c =
@@ -137,44 +128,41 @@ below-shape_of-breaking-then-missing-eq0 t c =
 
 pub below-returns-then-missing-eq0 : goal.below-returns-then-missing-eq0
 below-returns-then-missing-eq0 t c =
-    let Q = c.requires in
     let choice : ℕ = c.args.at.choice in
     let d : ℕ = depth_of c.args.plan.now c.args.at.left in
-    let H = c.looked-missing.ensures in
     let l : ℕ = c.lowest.result in
-    let here = lowest-item Q.listed.small c.if-at-eq0.false c.lowest.ensures in
+    let here = lowest-item c.requires.listed.small c.if-at-eq0.false c.lowest.ensures in
     let active = c.lowest.ensures.found here in
     let none : (k : ℕ) → has c.looked-missing.result k ≡ false = λ k. rw c.if-missing-eq0.true (has-zero k) in
     let deep : d - 1 + 1 ≡ d = omega (arith, c.if-d-eq0.false) in
     record {
       room = refl;
       slots = refl;
-      counts = H.long;
-      other = λ k a. H.outside k a;
+      counts = c.looked-missing.ensures.long;
+      other = λ k a. c.looked-missing.ensures.outside k a;
       goes = λ h G st ke.
-          let lo : d - 1 + 1 < length h.layout.order = omega (arith, G.planned.turns.many, Q.within, c.if-at-eq0-2.false, c.if-d-eq0.false) in
-          let full = c.known.ensures ∙ (hit-for G ke (d - 1) l choice _ lo (Q.listed.inside l active) (H.hits l active (none l))).fulls in
-          (rw deep at full, λ k a. rw deep at (found-for G ke (d - 1) choice Q.listed lo H _ full k a (none k) _ refl), st, ke);
+          let lo : d - 1 + 1 < length h.layout.order = omega (arith, G.planned.turns.many, c.requires.within, c.if-at-eq0-2.false, c.if-d-eq0.false) in
+          let full = c.known.ensures ∙ (hit-for G ke (d - 1) l choice _ lo (c.requires.listed.inside l active) (c.looked-missing.ensures.hits l active (none l))).fulls in
+          (rw deep at full, λ k a. rw deep at (found-for G ke (d - 1) choice c.requires.listed lo c.looked-missing.ensures _ full k a (none k) _ refl), st, ke);
     }
 
 pub below-items-full-requires : goal.below-items-full-requires
 below-items-full-requires t c =
-    let Q = c.requires in
-    let H = c.looked-missing.ensures in (
+    (
       omega (arith, c.decreases),
       (
         record {
-          held = Q.held;
-          grouped = Q.grouped;
-          long = Q.long;
-          listed = record { small = H.small; few = Q.listed.few; inside = λ l a. Q.listed.inside l (H.inside l a) };
-          within = Q.within;
-          room = Q.room;
-          slots = Q.slots;
-          counts = H.long ∙ Q.counts;
-          none = λ l a. H.other l a ∙ Q.none l (H.inside l a);
-          stored = Q.stored;
-          keeps = Q.keeps;
+          held = c.requires.held;
+          grouped = c.requires.grouped;
+          long = c.requires.long;
+          listed = record { small = c.looked-missing.ensures.small; few = c.requires.listed.few; inside = λ l a. c.requires.listed.inside l (c.looked-missing.ensures.inside l a) };
+          within = c.requires.within;
+          room = c.requires.room;
+          slots = c.requires.slots;
+          counts = c.looked-missing.ensures.long ∙ c.requires.counts;
+          none = λ l a. c.looked-missing.ensures.other l a ∙ c.requires.none l (c.looked-missing.ensures.inside l a);
+          stored = c.requires.stored;
+          keeps = c.requires.keeps;
         },
         omega (arith, c.if-at-eq0-2.false),
         omega (arith, c.if-missing-eq0.false),
@@ -183,16 +171,14 @@ below-items-full-requires t c =
 
 pub below-keep-requires : goal.below-keep-requires
 below-keep-requires t c =
-    let Q = c.requires in
-    let H = c.looked-missing.ensures in
-    let some = some_line c.looked-missing.result H.small c.if-missing-eq0.false in
-    let r = c.items-full.ensures.goes Q.held Q.grouped Q.stored Q.keeps in (
-      record { small = H.small; few = Q.listed.few; inside = λ l a. Q.listed.inside l (H.inside l a) },
-      Q.long,
+    let some = some_line c.looked-missing.result c.looked-missing.ensures.small c.if-missing-eq0.false in
+    let r = c.items-full.ensures.goes c.requires.held c.requires.grouped c.requires.stored c.requires.keeps in (
+      record { small = c.looked-missing.ensures.small; few = c.requires.listed.few; inside = λ l a. c.requires.listed.inside l (c.looked-missing.ensures.inside l a) },
+      c.requires.long,
       omega (arith, c.if-d-eq0.false),
-      omega (arith, Q.grouped.planned.turns.many, Q.grouped.planned.turns.short, c.if-at-eq0-2.false),
-      (line_small Q.grouped some.0 _ (r.1 some.0 some.1)).0,
-      c.items-full.ensures.counts ∙ H.long ∙ Q.counts,
+      omega (arith, c.requires.grouped.planned.turns.many, c.requires.grouped.planned.turns.short, c.if-at-eq0-2.false),
+      (line_small c.requires.grouped some.0 _ (r.1 some.0 some.1)).0,
+      c.items-full.ensures.counts ∙ c.looked-missing.ensures.long ∙ c.requires.counts,
     )
 
 pub below-shape_of-cache : goal.below-shape_of-cache
@@ -209,23 +195,20 @@ below-shape_of-breaking t c =
 
 pub below-returns : goal.below-returns
 below-returns t c =
-    let Q = c.requires in
     let choice : ℕ = c.args.at.choice in
     let d : ℕ = depth_of c.args.plan.now c.args.at.left in
-    let H = c.looked-missing.ensures in
-    let I = c.items-full.ensures in
     let deep : d - 1 + 1 ≡ d = omega (arith, c.if-d-eq0.false) in
     record {
-      room = I.room;
-      slots = c.keep.ensures.long ∙ I.slots;
-      counts = I.counts ∙ H.long;
-      other = λ l a. I.other l (outside-less H l a) ∙ H.outside l a;
+      room = c.items-full.ensures.room;
+      slots = c.keep.ensures.long ∙ c.items-full.ensures.slots;
+      counts = c.items-full.ensures.counts ∙ c.looked-missing.ensures.long;
+      other = λ l a. c.items-full.ensures.other l (outside-less c.looked-missing.ensures l a) ∙ c.looked-missing.ensures.outside l a;
       goes = λ h G st ke.
-          let lo : d - 1 + 1 < length h.layout.order = omega (arith, G.planned.turns.many, Q.within, c.if-at-eq0-2.false, c.if-d-eq0.false) in
-          let r = I.goes h G st ke in
+          let lo : d - 1 + 1 < length h.layout.order = omega (arith, G.planned.turns.many, c.requires.within, c.if-at-eq0-2.false, c.if-d-eq0.false) in
+          let r = c.items-full.ensures.goes h G st ke in
           let full = rw (← deep) at r.0 in (
             r.0,
-            λ l a. ⊎_elim (λ m. r.1 l m) (λ m. rw deep at (found-for G ke (d - 1) choice Q.listed lo H _ full l a m _ (I.other l m))) (true-or-false (has c.looked-missing.result l)),
+            λ l a. ⊎_elim (λ m. r.1 l m) (λ m. rw deep at (found-for G ke (d - 1) choice c.requires.listed lo c.looked-missing.ensures _ full l a m _ (c.items-full.ensures.other l m))) (true-or-false (has c.looked-missing.result l)),
             r.2,
             c.keep.ensures.goes c.args.t.now c.args.plan.now h G lo (λ l m. rw (← deep) at (r.1 l m)) r.3,
           );
@@ -281,21 +264,18 @@ items-bounds-plan-d-2 t c =
 
 pub items-offset_bounds-cache-plan : goal.items-offset_bounds-cache-plan
 items-offset_bounds-cache-plan t c =
-    let Q = c.requires.0 in
-    omega (arith, set-small Q.grouped.planned (depth_of c.args.plan.now c.args.at.left) (omega (arith, Q.grouped.planned.turns.many, Q.within, c.requires.1)))
+    omega (arith, set-small c.requires.0.grouped.planned (depth_of c.args.plan.now c.args.at.left) (omega (arith, c.requires.0.grouped.planned.turns.many, c.requires.0.within, c.requires.1)))
 
 pub items-bounds-cache-plan : goal.items-bounds-cache-plan
 items-bounds-cache-plan t c =
-    let Q = c.requires.0 in
-    omega (arith, set-small Q.grouped.planned (depth_of c.args.plan.now c.args.at.left) (omega (arith, Q.grouped.planned.turns.many, Q.within, c.requires.1)), Q.room)
+    omega (arith, set-small c.requires.0.grouped.planned (depth_of c.args.plan.now c.args.at.left) (omega (arith, c.requires.0.grouped.planned.turns.many, c.requires.0.within, c.requires.1)), c.requires.0.room)
 
 pub items-loop-rest-init : goal.items-loop-rest-init
 items-loop-rest-init t c =
-    let Q = c.requires.0 in
     let d : ℕ = depth_of c.args.plan.now c.args.at.left in
     let w : ℕ = get_or c.args.cache.now (get_or c.args.plan.now (sets_from + d) 0) 0 in
     let fit : w < 2 ^ 64 = omega (arith, c.slice_known-4-1.given (get_or c.args.plan.now (sets_from + d) 0)) in
-    (refl, refl, refl, fit, λ l a. refl, λ h G st ke. (λ l a. turn-start G l d c.args.at.choice w fit _ (Q.none l a), st, ke))
+    (refl, refl, refl, fit, λ l a. refl, λ h G st ke. (λ l a. turn-start G l d c.args.at.choice w fit _ (c.requires.0.none l a), st, ke))
 
 pub items-lowest-x-requires : goal.items-lowest-x-requires
 items-lowest-x-requires t c =
@@ -311,11 +291,10 @@ items-less-rest-requires t c =
 
 pub items-put-chosen-requires : goal.items-put-chosen-requires
 items-put-chosen-requires t c =
-    let Q = c.requires.0 in
     let l = lowest-item c.loop-rest.invariant.3 c.loop-rest-test.true c.lowest-x.ensures in
     let d : ℕ = depth_of c.args.plan.now c.args.at.left in
-    let lo : d < length Q.held.layout.order = omega (arith, Q.grouped.planned.turns.many, Q.within, c.requires.1) in
-    (omega (arith, Q.grouped.planned.turns.variables d lo, Q.grouped.planned.turns.known d lo, Q.grouped.planned.turns.few), omega arith)
+    let lo : d < length c.requires.0.held.layout.order = omega (arith, c.requires.0.grouped.planned.turns.many, c.requires.0.within, c.requires.1) in
+    (omega (arith, c.requires.0.grouped.planned.turns.variables d lo, c.requires.0.grouped.planned.turns.known d lo, c.requires.0.grouped.planned.turns.few), omega arith)
 
 pub items-overflow_add-d : goal.items-overflow_add-d
 items-overflow_add-d t c =
@@ -323,9 +302,7 @@ items-overflow_add-d t c =
 
 pub items-settle-requires : goal.items-settle-requires
 items-settle-requires t c =
-    let Q = c.requires.0 in
-    let P = Q.grouped.planned in
-    (P.whole, plan-runs P, c.loop-rest.invariant.0 ∙ Q.room, omega (arith, P.turns.many, P.turns.short, Q.within, c.requires.1))
+    (c.requires.0.grouped.planned.whole, plan-runs c.requires.0.grouped.planned, c.loop-rest.invariant.0 ∙ c.requires.0.room, omega (arith, c.requires.0.grouped.planned.turns.many, c.requires.0.grouped.planned.turns.short, c.requires.0.within, c.requires.1))
 
 pub items-overflow_add-d-in-loop-rest : goal.items-overflow_add-d-in-loop-rest
 items-overflow_add-d-in-loop-rest t c =
@@ -333,8 +310,7 @@ items-overflow_add-d-in-loop-rest t c =
 
 pub items-failed-closed-requires : goal.items-failed-closed-requires
 items-failed-closed-requires t c =
-    let Q = c.requires.0 in
-    (plan-runs Q.grouped.planned, c.settle.auto.1.1.1.0 ∙ c.loop-rest.invariant.0 ∙ Q.room, Q.listed, ranged Q.grouped Q.long)
+    (plan-runs c.requires.0.grouped.planned, c.settle.auto.cache ∙ c.loop-rest.invariant.0 ∙ c.requires.0.room, c.requires.0.listed, ranged c.requires.0.grouped c.requires.0.long)
 
 pub items-less-requires : goal.items-less-requires
 items-less-requires t c =
@@ -350,25 +326,23 @@ items-slice_bounds-below-end t c =
 
 pub items-below-sum-requires : goal.items-below-sum-requires
 items-below-sum-requires t c =
-    let Q = c.requires.0 in
-    let P = Q.grouped.planned in
     let choice : ℕ = c.args.at.choice in
     let d : ℕ = depth_of c.args.plan.now c.args.at.left in
-    let lo : d < length Q.held.layout.order = omega (arith, P.turns.many, Q.within, c.requires.1) in
-    let deep : depth_of c.args.plan.now (c.args.at.left - 1) ≡ d + 1 = omega (arith, Q.within, c.requires.1) in
-    let r = c.loop-rest.invariant.5 Q.held Q.grouped Q.stored Q.keeps in (
+    let lo : d < length c.requires.0.held.layout.order = omega (arith, c.requires.0.grouped.planned.turns.many, c.requires.0.within, c.requires.1) in
+    let deep : depth_of c.args.plan.now (c.args.at.left - 1) ≡ d + 1 = omega (arith, c.requires.0.within, c.requires.1) in
+    let r = c.loop-rest.invariant.5 c.requires.0.held c.requires.0.grouped c.requires.0.stored c.requires.0.keeps in (
       omega (arith, c.decreases, c.requires.1),
       record {
-        held = Q.held;
-        grouped = Q.grouped;
-        long = Q.long;
-        listed = lines_left Q.listed c.failed-closed.result _ c.less.ensures;
-        within = omega (arith, Q.within);
-        room = c.settle.auto.1.1.1.0 ∙ c.loop-rest.invariant.0 ∙ Q.room;
-        slots = omega (arith, c.loop-rest.invariant.1, Q.slots);
+        held = c.requires.0.held;
+        grouped = c.requires.0.grouped;
+        long = c.requires.0.long;
+        listed = lines_left c.requires.0.listed c.failed-closed.result _ c.less.ensures;
+        within = omega (arith, c.requires.0.within);
+        room = c.settle.auto.cache ∙ c.loop-rest.invariant.0 ∙ c.requires.0.room;
+        slots = omega (arith, c.loop-rest.invariant.1, c.requires.0.slots);
         counts = length-replicate {A = ℕ} 32 0;
         none = λ l a. zeros-none l;
-        stored = rw deep (entered-for Q.grouped choice c.lowest-x.result d c.put-chosen.result lo c.put-chosen.ensures c.settle.ensures r.1);
+        stored = rw deep (entered-for c.requires.0.grouped choice c.lowest-x.result d c.put-chosen.result lo c.put-chosen.ensures c.settle.ensures r.1);
         keeps = r.2;
       },
     )
@@ -379,30 +353,25 @@ items-slice_bounds-add-end t c =
 
 pub items-add-requires : goal.items-add-requires
 items-add-requires t c =
-    let Q = c.requires.0 in
     let choice : ℕ = c.args.at.choice in
     let d : ℕ = depth_of c.args.plan.now c.args.at.left in
-    let lo : d < length Q.held.layout.order = omega (arith, Q.grouped.planned.turns.many, Q.within, c.requires.1) in
-    let deep : depth_of c.args.plan.now (c.args.at.left - 1) ≡ d + 1 = omega (arith, Q.within, c.requires.1) in
+    let lo : d < length c.requires.0.held.layout.order = omega (arith, c.requires.0.grouped.planned.turns.many, c.requires.0.within, c.requires.1) in
+    let deep : depth_of c.args.plan.now (c.args.at.left - 1) ≡ d + 1 = omega (arith, c.requires.0.within, c.requires.1) in
     let x = lowest-item c.loop-rest.invariant.3 c.loop-rest-test.true c.lowest-x.ensures in
-    let r = c.loop-rest.invariant.5 Q.held Q.grouped Q.stored Q.keeps in
-    let u = turned-for Q.grouped choice c.lowest-x.result d (c.args.at.left - 1) Q.listed lo deep c.put-chosen.ensures c.settle.ensures c.failed-closed.ensures c.less.ensures c.below-sum.ensures zeros-none r.1 r.2 in (
-      (record { small = Q.listed.small; few = omega arith; inside = λ l a. omega (arith, Q.listed.inside l a, Q.listed.few) }, u.full, c.below-sum.ensures.counts ∙ length-replicate {A = ℕ} 32 0, c.loop-rest.invariant.2 ∙ Q.counts),
-      λ l a. (u.small l a, omega (arith, (turn-room Q.grouped (u.items l a) _ (r.0 l a) x (c.lowest-x.ensures.found x) lo (set-in Q.grouped.planned choice d lo Q.stored)).1)),
-    )
+    let r = c.loop-rest.invariant.5 c.requires.0.held c.requires.0.grouped c.requires.0.stored c.requires.0.keeps in
+    let u = turned-for c.requires.0.grouped choice c.lowest-x.result d (c.args.at.left - 1) c.requires.0.listed lo deep c.put-chosen.ensures c.settle.ensures c.failed-closed.ensures c.less.ensures c.below-sum.ensures zeros-none r.1 r.2 in record { lines = (record { small = c.requires.0.listed.small; few = omega arith; inside = λ l a. omega (arith, c.requires.0.listed.inside l a, c.requires.0.listed.few) }, u.full, c.below-sum.ensures.counts ∙ length-replicate {A = ℕ} 32 0, c.loop-rest.invariant.2 ∙ c.requires.0.counts); by_index = λ l a. (u.small l a, omega (arith, (turn-room c.requires.0.grouped (u.items l a) _ (r.0 l a) x (c.lowest-x.ensures.found x) lo (set-in c.requires.0.grouped.planned choice d lo c.requires.0.stored)).1)) }
 
 pub items-overflow_add-full : goal.items-overflow_add-full
 items-overflow_add-full t c =
-    let Q = c.requires.0 in
     let choice : ℕ = c.args.at.choice in
     let d : ℕ = depth_of c.args.plan.now c.args.at.left in
-    let lo : d < length Q.held.layout.order = omega (arith, Q.grouped.planned.turns.many, Q.within, c.requires.1) in
-    let deep : depth_of c.args.plan.now (c.args.at.left - 1) ≡ d + 1 = omega (arith, Q.within, c.requires.1) in
+    let lo : d < length c.requires.0.held.layout.order = omega (arith, c.requires.0.grouped.planned.turns.many, c.requires.0.within, c.requires.1) in
+    let deep : depth_of c.args.plan.now (c.args.at.left - 1) ≡ d + 1 = omega (arith, c.requires.0.within, c.requires.1) in
     let x = lowest-item c.loop-rest.invariant.3 c.loop-rest-test.true c.lowest-x.ensures in
-    let r = c.loop-rest.invariant.5 Q.held Q.grouped Q.stored Q.keeps in
-    let u = turned-for Q.grouped choice c.lowest-x.result d (c.args.at.left - 1) Q.listed lo deep c.put-chosen.ensures c.settle.ensures c.failed-closed.ensures c.less.ensures c.below-sum.ensures zeros-none r.1 r.2 in
-    let some = some_line c.args.at.active Q.listed.small (λ e. omega (arith, c.requires.2)) in
-    omega (arith, (turn-room Q.grouped (u.items some.0 some.1) _ (r.0 some.0 some.1) x (c.lowest-x.ensures.found x) lo (set-in Q.grouped.planned choice d lo Q.stored)).0)
+    let r = c.loop-rest.invariant.5 c.requires.0.held c.requires.0.grouped c.requires.0.stored c.requires.0.keeps in
+    let u = turned-for c.requires.0.grouped choice c.lowest-x.result d (c.args.at.left - 1) c.requires.0.listed lo deep c.put-chosen.ensures c.settle.ensures c.failed-closed.ensures c.less.ensures c.below-sum.ensures zeros-none r.1 r.2 in
+    let some = some_line c.args.at.active c.requires.0.listed.small (λ e. omega (arith, c.requires.2)) in
+    omega (arith, (turn-room c.requires.0.grouped (u.items some.0 some.1) _ (r.0 some.0 some.1) x (c.lowest-x.ensures.found x) lo (set-in c.requires.0.grouped.planned choice d lo c.requires.0.stored)).0)
 
 pub items-loop-rest-smaller : goal.items-loop-rest-smaller
 items-loop-rest-smaller t c =
@@ -411,21 +380,20 @@ items-loop-rest-smaller t c =
 
 pub items-loop-rest-preserved : goal.items-loop-rest-preserved
 items-loop-rest-preserved t c =
-    let Q = c.requires.0 in
     let choice : ℕ = c.args.at.choice in
     let d : ℕ = depth_of c.args.plan.now c.args.at.left in
-    let deep : depth_of c.args.plan.now (c.args.at.left - 1) ≡ d + 1 = omega (arith, Q.within, c.requires.1) in
+    let deep : depth_of c.args.plan.now (c.args.at.left - 1) ≡ d + 1 = omega (arith, c.requires.0.within, c.requires.1) in
     let x = lowest-item c.loop-rest.invariant.3 c.loop-rest-test.true c.lowest-x.ensures in
     let smaller : c.less-rest.result < c.loop-rest.rest = rw (c.less-rest.ensures, c.item.ensures) (less-smaller c.loop-rest.rest c.lowest-x.result c.loop-rest.invariant.3 x (c.lowest-x.ensures.found x)) in (
-      c.below-sum.ensures.room ∙ c.settle.auto.1.1.1.0 ∙ c.loop-rest.invariant.0,
+      c.below-sum.ensures.room ∙ c.settle.auto.cache ∙ c.loop-rest.invariant.0,
       c.below-sum.ensures.slots ∙ c.loop-rest.invariant.1,
       c.add.ensures.long ∙ c.loop-rest.invariant.2,
       omega (arith, c.loop-rest.invariant.3, smaller),
       λ l a. c.add.ensures.other l a ∙ c.loop-rest.invariant.4 l a,
       λ h G st ke.
-          let lo : d < length h.layout.order = omega (arith, G.planned.turns.many, Q.within, c.requires.1) in
+          let lo : d < length h.layout.order = omega (arith, G.planned.turns.many, c.requires.0.within, c.requires.1) in
           let r = c.loop-rest.invariant.5 h G st ke in
-          let u = turned-for G choice c.lowest-x.result d (c.args.at.left - 1) Q.listed lo deep c.put-chosen.ensures c.settle.ensures c.failed-closed.ensures c.less.ensures c.below-sum.ensures zeros-none r.1 r.2 in
+          let u = turned-for G choice c.lowest-x.result d (c.args.at.left - 1) c.requires.0.listed lo deep c.put-chosen.ensures c.settle.ensures c.failed-closed.ensures c.less.ensures c.below-sum.ensures zeros-none r.1 r.2 in
           (λ l a. rw (c.less-rest.ensures, c.item.ensures, c.add.ensures.each l a) (turn-next G (u.items l a) _ (r.0 l a) x (c.lowest-x.ensures.found x)), u.caches, u.keeps),
     )
 
@@ -443,10 +411,9 @@ items-shape_of-breaking t c =
 
 pub items-returns : goal.items-returns
 items-returns t c =
-    let Q = c.requires.0 in
     let choice : ℕ = c.args.at.choice in
     let d : ℕ = depth_of c.args.plan.now c.args.at.left in
-    let some = some_line c.args.at.active Q.listed.small (λ e. omega (arith, c.requires.2)) in
+    let some = some_line c.args.at.active c.requires.0.listed.small (λ e. omega (arith, c.requires.2)) in
     record {
       room = c.loop-rest.invariant.0;
       slots = c.loop-rest.invariant.1;
@@ -454,7 +421,7 @@ items-returns t c =
       other = c.loop-rest.invariant.4;
       goes = λ h G st ke.
           let r = c.loop-rest.invariant.5 h G st ke in
-          let lo : d < length h.layout.order = omega (arith, G.planned.turns.many, Q.within, c.requires.1) in
+          let lo : d < length h.layout.order = omega (arith, G.planned.turns.many, c.requires.0.within, c.requires.1) in
           let counts : (l : ℕ) → has c.args.at.active l ≡ true → CountedFor c.args.plan.now c.args.lines.now h l d (choice_of choice) c.loop-rest.full (get_or c.loop-rest.breaking l 0) = λ l a. turn_end G l d choice _ lo (set-in G.planned choice d lo st) (r.0 l a) c.loop-rest-test.false in
           ((counts some.0 some.1).fulls, counts, r.1, r.2);
     }

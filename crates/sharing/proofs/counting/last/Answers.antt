@@ -34,8 +34,7 @@ offset_bounds-plan-d c =
 
 pub bounds-plan-d : goal.bounds-plan-d
 bounds-plan-d c =
-    let P = c.requires.0.is.grouped.planned in
-    omega (arith, P.turns.many, P.turns.short, P.long)
+    omega (arith, c.requires.0.is.grouped.planned.turns.many, c.requires.0.is.grouped.planned.turns.short, c.requires.0.is.grouped.planned.long)
 
 pub overflow_add-rest : goal.overflow_add-rest
 overflow_add-rest c =
@@ -47,26 +46,22 @@ offset_bounds-plan-d-2 c =
 
 pub bounds-plan-d-2 : goal.bounds-plan-d-2
 bounds-plan-d-2 c =
-    let P = c.requires.0.is.grouped.planned in
-    omega (arith, P.turns.many, P.turns.short, P.long)
+    omega (arith, c.requires.0.is.grouped.planned.turns.many, c.requires.0.is.grouped.planned.turns.short, c.requires.0.is.grouped.planned.long)
 
 pub offset_bounds-cache-plan : goal.offset_bounds-cache-plan
 offset_bounds-cache-plan c =
-    let Q = c.requires.0.is in
-    omega (arith, set-small Q.grouped.planned (depth_of c.args.plan.now c.args.at.left) (omega (arith, Q.grouped.planned.turns.many, Q.within, c.requires.1)))
+    omega (arith, set-small c.requires.0.is.grouped.planned (depth_of c.args.plan.now c.args.at.left) (omega (arith, c.requires.0.is.grouped.planned.turns.many, c.requires.0.is.within, c.requires.1)))
 
 pub bounds-cache-plan : goal.bounds-cache-plan
 bounds-cache-plan c =
-    let Q = c.requires.0.is in
-    omega (arith, set-small Q.grouped.planned (depth_of c.args.plan.now c.args.at.left) (omega (arith, Q.grouped.planned.turns.many, Q.within, c.requires.1)), Q.room)
+    omega (arith, set-small c.requires.0.is.grouped.planned (depth_of c.args.plan.now c.args.at.left) (omega (arith, c.requires.0.is.grouped.planned.turns.many, c.requires.0.is.within, c.requires.1)), c.requires.0.is.room)
 
 pub loop-rest-init : goal.loop-rest-init
 loop-rest-init c =
-    let Q = c.requires.0.is in
     let d : ℕ = depth_of c.args.plan.now c.args.at.left in
     let w : ℕ = get_or c.args.cache.now (get_or c.args.plan.now (sets_from + d) 0) 0 in
     let fit : w < 2 ^ 64 = omega (arith, c.slice_known-3-1.given (get_or c.args.plan.now (sets_from + d) 0)) in
-    (refl, refl, fit, λ l a. refl, λ h G st. (λ l a. turn-start G l d c.args.at.choice w fit _ (Q.none l a), st))
+    (refl, refl, fit, λ l a. refl, λ h G st. (λ l a. turn-start G l d c.args.at.choice w fit _ (c.requires.0.is.none l a), st))
 
 pub lowest-x-requires : goal.lowest-x-requires
 lowest-x-requires c = search rules
@@ -79,11 +74,10 @@ less-rest-requires c = search rules
 
 pub put-chosen-requires : goal.put-chosen-requires
 put-chosen-requires c =
-    let Q = c.requires.0.is in
     let l = lowest-item c.loop-rest.invariant.2 c.loop-rest-test.true c.lowest-x.ensures in
     let d : ℕ = depth_of c.args.plan.now c.args.at.left in
-    let lo : d < length Q.held.layout.order = omega (arith, Q.grouped.planned.turns.many, Q.within, c.requires.1) in
-    (omega (arith, Q.grouped.planned.turns.variables d lo, Q.grouped.planned.turns.known d lo, Q.grouped.planned.turns.few), omega arith)
+    let lo : d < length c.requires.0.is.held.layout.order = omega (arith, c.requires.0.is.grouped.planned.turns.many, c.requires.0.is.within, c.requires.1) in
+    (omega (arith, c.requires.0.is.grouped.planned.turns.variables d lo, c.requires.0.is.grouped.planned.turns.known d lo, c.requires.0.is.grouped.planned.turns.few), omega arith)
 
 pub overflow_add-d : goal.overflow_add-d
 overflow_add-d c =
@@ -91,9 +85,7 @@ overflow_add-d c =
 
 pub settle-requires : goal.settle-requires
 settle-requires c =
-    let Q = c.requires.0.is in
-    let P = Q.grouped.planned in
-    (P.whole, plan-runs P, c.loop-rest.invariant.0 ∙ Q.room, omega (arith, P.turns.many, P.turns.short, Q.within, c.requires.1))
+    (c.requires.0.is.grouped.planned.whole, plan-runs c.requires.0.is.grouped.planned, c.loop-rest.invariant.0 ∙ c.requires.0.is.room, omega (arith, c.requires.0.is.grouped.planned.turns.many, c.requires.0.is.grouped.planned.turns.short, c.requires.0.is.within, c.requires.1))
 
 pub overflow_add-d-in-loop-rest : goal.overflow_add-d-in-loop-rest
 overflow_add-d-in-loop-rest c =
@@ -101,41 +93,32 @@ overflow_add-d-in-loop-rest c =
 
 pub failed-closed-requires : goal.failed-closed-requires
 failed-closed-requires c =
-    let Q = c.requires.0.is in
-    (plan-runs Q.grouped.planned, c.settle.auto.1.1.1.0 ∙ c.loop-rest.invariant.0 ∙ Q.room, Q.listed, ranged Q.grouped Q.long)
+    (plan-runs c.requires.0.is.grouped.planned, c.settle.auto.cache ∙ c.loop-rest.invariant.0 ∙ c.requires.0.is.room, c.requires.0.is.listed, ranged c.requires.0.is.grouped c.requires.0.is.long)
 
 pub slice_bounds-add-end : goal.slice_bounds-add-end
 slice_bounds-add-end c = refl
 
 pub add-requires : goal.add-requires
 add-requires c =
-    let Q = c.requires.0.is in
     let choice : ℕ = c.args.at.choice in
     let d : ℕ = depth_of c.args.plan.now c.args.at.left in
-    let P = Q.grouped.planned in
-    let lo : d < length Q.held.layout.order = omega (arith, P.turns.many, Q.within, c.requires.1) in
-    let end : length Q.held.layout.order ≤ d + 1 = omega (arith, P.turns.many, c.requires.1) in
+    let lo : d < length c.requires.0.is.held.layout.order = omega (arith, c.requires.0.is.grouped.planned.turns.many, c.requires.0.is.within, c.requires.1) in
+    let end : length c.requires.0.is.held.layout.order ≤ d + 1 = omega (arith, c.requires.0.is.grouped.planned.turns.many, c.requires.1) in
     let x = lowest-item c.loop-rest.invariant.2 c.loop-rest-test.true c.lowest-x.ensures in
-    let r = c.loop-rest.invariant.4 Q.held Q.grouped Q.stored in
-    let F = c.failed-closed.ensures in
-    let u = last-for Q.grouped choice c.lowest-x.result d Q.listed lo end c.put-chosen.ensures c.settle.ensures F r.1 in (
-      (record { small = F.small; few = omega arith; inside = λ l a. omega (arith, Q.listed.inside l (F.inside l a), Q.listed.few) }, omega arith, length-replicate {A = ℕ} 32 0, c.loop-rest.invariant.1 ∙ Q.counts),
-      λ l a. (omega (arith, zeros-none l), omega (arith, (turn-room Q.grouped (u.0 l (F.inside l a)) _ (r.0 l (F.inside l a)) x (c.lowest-x.ensures.found x) lo (set-in P choice d lo Q.stored)).1)),
-    )
+    let r = c.loop-rest.invariant.4 c.requires.0.is.held c.requires.0.is.grouped c.requires.0.is.stored in
+    let u = last-for c.requires.0.is.grouped choice c.lowest-x.result d c.requires.0.is.listed lo end c.put-chosen.ensures c.settle.ensures c.failed-closed.ensures r.1 in record { lines = (record { small = c.failed-closed.ensures.small; few = omega arith; inside = λ l a. omega (arith, c.requires.0.is.listed.inside l (c.failed-closed.ensures.inside l a), c.requires.0.is.listed.few) }, omega arith, length-replicate {A = ℕ} 32 0, c.loop-rest.invariant.1 ∙ c.requires.0.is.counts); by_index = λ l a. (omega (arith, zeros-none l), omega (arith, (turn-room c.requires.0.is.grouped (u.0 l (c.failed-closed.ensures.inside l a)) _ (r.0 l (c.failed-closed.ensures.inside l a)) x (c.lowest-x.ensures.found x) lo (set-in c.requires.0.is.grouped.planned choice d lo c.requires.0.is.stored)).1)) }
 
 pub overflow_add-full : goal.overflow_add-full
 overflow_add-full c =
-    let Q = c.requires.0.is in
     let choice : ℕ = c.args.at.choice in
     let d : ℕ = depth_of c.args.plan.now c.args.at.left in
-    let P = Q.grouped.planned in
-    let lo : d < length Q.held.layout.order = omega (arith, P.turns.many, Q.within, c.requires.1) in
-    let end : length Q.held.layout.order ≤ d + 1 = omega (arith, P.turns.many, c.requires.1) in
+    let lo : d < length c.requires.0.is.held.layout.order = omega (arith, c.requires.0.is.grouped.planned.turns.many, c.requires.0.is.within, c.requires.1) in
+    let end : length c.requires.0.is.held.layout.order ≤ d + 1 = omega (arith, c.requires.0.is.grouped.planned.turns.many, c.requires.1) in
     let x = lowest-item c.loop-rest.invariant.2 c.loop-rest-test.true c.lowest-x.ensures in
-    let r = c.loop-rest.invariant.4 Q.held Q.grouped Q.stored in
-    let u = last-for Q.grouped choice c.lowest-x.result d Q.listed lo end c.put-chosen.ensures c.settle.ensures c.failed-closed.ensures r.1 in
-    let some = some_line c.args.at.active Q.listed.small (λ e. omega (arith, c.requires.2)) in
-    omega (arith, (turn-room Q.grouped (u.0 some.0 some.1) _ (r.0 some.0 some.1) x (c.lowest-x.ensures.found x) lo (set-in P choice d lo Q.stored)).0)
+    let r = c.loop-rest.invariant.4 c.requires.0.is.held c.requires.0.is.grouped c.requires.0.is.stored in
+    let u = last-for c.requires.0.is.grouped choice c.lowest-x.result d c.requires.0.is.listed lo end c.put-chosen.ensures c.settle.ensures c.failed-closed.ensures r.1 in
+    let some = some_line c.args.at.active c.requires.0.is.listed.small (λ e. omega (arith, c.requires.2)) in
+    omega (arith, (turn-room c.requires.0.is.grouped (u.0 some.0 some.1) _ (r.0 some.0 some.1) x (c.lowest-x.ensures.found x) lo (set-in c.requires.0.is.grouped.planned choice d lo c.requires.0.is.stored)).0)
 
 pub loop-rest-smaller : goal.loop-rest-smaller
 loop-rest-smaller c =
@@ -144,22 +127,20 @@ loop-rest-smaller c =
 
 pub loop-rest-preserved : goal.loop-rest-preserved
 loop-rest-preserved c =
-    let Q = c.requires.0.is in
     let choice : ℕ = c.args.at.choice in
     let d : ℕ = depth_of c.args.plan.now c.args.at.left in
     let x = lowest-item c.loop-rest.invariant.2 c.loop-rest-test.true c.lowest-x.ensures in
-    let F = c.failed-closed.ensures in
     let smaller : c.less-rest.result < c.loop-rest.rest = rw (c.less-rest.ensures, c.item.ensures) (less-smaller c.loop-rest.rest c.lowest-x.result c.loop-rest.invariant.2 x (c.lowest-x.ensures.found x)) in (
-      c.settle.auto.1.1.1.0 ∙ c.loop-rest.invariant.0,
+      c.settle.auto.cache ∙ c.loop-rest.invariant.0,
       c.add.ensures.long ∙ c.loop-rest.invariant.1,
       omega (arith, c.loop-rest.invariant.2, smaller),
-      λ l a. c.add.ensures.other l (outside-closed F l a) ∙ c.loop-rest.invariant.3 l a,
+      λ l a. c.add.ensures.other l (outside-closed c.failed-closed.ensures l a) ∙ c.loop-rest.invariant.3 l a,
       λ h G st.
           let P = G.planned in
-          let lo : d < length h.layout.order = omega (arith, P.turns.many, Q.within, c.requires.1) in
+          let lo : d < length h.layout.order = omega (arith, P.turns.many, c.requires.0.is.within, c.requires.1) in
           let end : length h.layout.order ≤ d + 1 = omega (arith, P.turns.many, c.requires.1) in
           let r = c.loop-rest.invariant.4 h G st in
-          let u = last-for G choice c.lowest-x.result d Q.listed lo end c.put-chosen.ensures c.settle.ensures F r.1 in
+          let u = last-for G choice c.lowest-x.result d c.requires.0.is.listed lo end c.put-chosen.ensures c.settle.ensures c.failed-closed.ensures r.1 in
           (λ l a. rw (c.less-rest.ensures, c.item.ensures, adds-last c.add.ensures l) (turn-next G (u.0 l a) _ (r.0 l a) x (c.lowest-x.ensures.found x)), u.1),
     )
 
@@ -173,10 +154,9 @@ shape_of-breaking c =
 
 pub returns : goal.returns
 returns c =
-    let Q = c.requires.0.is in
     let choice : ℕ = c.args.at.choice in
     let d : ℕ = depth_of c.args.plan.now c.args.at.left in
-    let some = some_line c.args.at.active Q.listed.small (λ e. omega (arith, c.requires.2)) in
+    let some = some_line c.args.at.active c.requires.0.is.listed.small (λ e. omega (arith, c.requires.2)) in
     λ kept. record {
       room = c.loop-rest.invariant.0;
       slots = refl;
@@ -184,7 +164,7 @@ returns c =
       other = c.loop-rest.invariant.3;
       goes = λ h G st ke.
           let r = c.loop-rest.invariant.4 h G st in
-          let lo : d < length h.layout.order = omega (arith, G.planned.turns.many, Q.within, c.requires.1) in
+          let lo : d < length h.layout.order = omega (arith, G.planned.turns.many, c.requires.0.is.within, c.requires.1) in
           let counts : (l : ℕ) → has c.args.at.active l ≡ true → CountedFor c.args.plan.now c.args.lines.now h l d (choice_of choice) c.loop-rest.full (get_or c.loop-rest.breaking l 0) = λ l a. turn_end G l d choice _ lo (set-in G.planned choice d lo st) (r.0 l a) c.loop-rest-test.false in
           ((counts some.0 some.1).fulls, counts, r.1, ke);
     }

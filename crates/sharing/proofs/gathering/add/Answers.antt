@@ -4,7 +4,6 @@ use mathlib.Core.Path.{◌≡◌, ◌∙◌}
 use Prim.Native.Nat.{ℕ}
 use native.Mathlib.Omega.{arith}
 use borrow.Author.Rules.{rules}
-use borrow.Author.Tests.{not-false}
 use Rattle.syntax.proofs.ClauseLaws.{as-listed, as-unlisted}
 use Rattle.rules.proofs.AcceptLaws.{accepted-gives}
 use Rattle.sharing.specs.Code.Gathering.{Room}
@@ -46,7 +45,7 @@ variables-count-requires c =
     let R : Room _ _ _ _ _ _ = c.requires.room in
     let x = as-listed c.clauses-listed.ensures c.in-Clauses.is in
     let y = line_read R c.list-1.given.1 x in
-    (x.tidy, (part-below R y (omega (arith, c.if-n-c-gt-RULE_LIMIT.false)), search rules))
+    record { tidy = x.tidy; by_index = part-below R y (omega (arith, c.if-n-c-gt-RULE_LIMIT.false)); vars_len = search rules }
 
 pub returns-then-not-shared : goal.returns-then-not-shared
 returns-then-not-shared c =
@@ -67,4 +66,4 @@ returns c =
     let R : Room _ _ _ _ _ _ = c.requires.room in
     let x = as-listed c.clauses-listed.ensures c.in-Clauses.is in
     let y = line_read R c.list-1.given.1 x in
-    line_taken R y (omega (arith, c.if-n-c-gt-RULE_LIMIT.false)) c.requires.line_value c.variables-count.ensures (omega (arith, c.if-n-c-gt-RULE_LIMIT.false)) c.shared.ensures (not-false _ c.if-not-shared.false) (c.vars-1.given ∙ R.vars) c.copy.ensures
+    line_taken R y (omega (arith, c.if-n-c-gt-RULE_LIMIT.false)) c.requires.line_value c.variables-count.ensures (omega (arith, c.if-n-c-gt-RULE_LIMIT.false)) c.shared.ensures c.if-not-shared.false (c.vars-1.given ∙ R.vars) c.copy.ensures

@@ -5,7 +5,6 @@ use Prim.Native.Nat.{ℕ}
 use native.Mathlib.Omega.{arith}
 use lib.ListN.{length}
 use borrow.Author.Rules.{rules}
-use borrow.Author.Tests.{not-false}
 use Rattle.rules.specs.Accept.{rule_limit, choices_limit}
 use Rattle.syntax.proofs.ClauseLaws.{as-together, together-some}
 use Rattle.sharing.specs.Code.Gathering.{Room}
@@ -13,7 +12,7 @@ use Rattle.sharing.proofs.GatheringLaws.{close-joinable, sheaf-bound}
 use Rattle.sharing.proofs.gathering.close.Goals as goal
 
 pub returns-then-size-eq0 : goal.returns-then-size-eq0
-returns-then-size-eq0 c = λ κs S e. let r = c.rejected.ensures.outcome_value in let z : ◌≡◌ {A = ℕ} 0 1 = cc in absurd (omega arith)
+returns-then-size-eq0 c = λ κs S e. let z : ◌≡◌ {A = ℕ} 0 1 = cc in absurd (omega arith)
 
 pub copy-requires : goal.copy-requires
 copy-requires c =
@@ -32,10 +31,10 @@ pub check_tree-found-requires : goal.check_tree-found-requires
 check_tree-found-requires c =
     let R : Room _ _ _ _ _ _ = c.requires in
     let j = as-together c.join-whole.ensures c.in-Root.is in
-    (j.tidy, (j.within, (omega (arith, j.few, R.few), search rules)))
+    record { tidy = j.tidy; root_lt_n = j.within; n_in_bounds = omega (arith, j.few, R.few); vars_len = search rules }
 
 pub returns-in_default-found : goal.returns-in_default-found
-returns-in_default-found c = λ κs S e. let r = c.rejected-in_default-found.ensures.outcome_value in let z : ◌≡◌ {A = ℕ} 0 1 = cc in absurd (omega arith)
+returns-in_default-found c = λ κs S e. let z : ◌≡◌ {A = ℕ} 0 1 = cc in absurd (omega arith)
 
 pub shared-requires : goal.shared-requires
 shared-requires c =
@@ -44,9 +43,9 @@ shared-requires c =
     (omega (arith, R.vars, R.known), omega (arith, l, R.known))
 
 pub returns-then-not-shared : goal.returns-then-not-shared
-returns-then-not-shared c = λ κs S e. let r = c.rejected-then-not-shared.ensures.outcome_value in let z : ◌≡◌ {A = ℕ} 0 1 = cc in absurd (omega arith)
+returns-then-not-shared c = λ κs S e. let z : ◌≡◌ {A = ℕ} 0 1 = cc in absurd (omega arith)
 
 pub returns : goal.returns
 returns c =
     let l : length c.copy.new.to ≡ rule_limit = search rules in
-    λ κs S e. sheaf-bound c.requires l c.copy.ensures S (omega (arith, c.if-size-eq0.false)) (as-together c.join-whole.ensures c.in-Root.is) c.check_tree-found.ensures c.in-Rule.is c.shared.ensures (not-false _ c.if-not-shared.false)
+    λ κs S e. sheaf-bound c.requires l c.copy.ensures S (omega (arith, c.if-size-eq0.false)) (as-together c.join-whole.ensures c.in-Root.is) c.check_tree-found.ensures c.in-Rule.is c.shared.ensures c.if-not-shared.false

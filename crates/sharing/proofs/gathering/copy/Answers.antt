@@ -20,6 +20,5 @@ shape_of-to c = c.loop-i.invariant.1.size
 
 pub returns : goal.returns
 returns c =
-    let k = c.args.k in
-    let e : c.loop-i.i ≡ k = omega (arith, c.loop-i.invariant.0, c.loop-i-test) in
+    let e : c.loop-i.i ≡ c.args.k = omega (arith, c.loop-i.invariant.0, c.loop-i-test) in
     rw e at c.loop-i.invariant.1.copied

@@ -15,7 +15,7 @@ overflow_cast-list c = omega (arith, c.shared_slice_known-in-loop-i-1.given c.lo
 
 pub walk-count-requires : goal.walk-count-requires
 walk-count-requires c =
-    (c.requires.tidy, (c.requires.by_index c.loop-i.i c.loop-i-test.true, c.loop-i.invariant.1.size))
+    record { tidy = c.requires.tidy; k_lt_n = c.requires.by_index c.loop-i.i c.loop-i-test.true; vars_len = c.loop-i.invariant.1.size }
 
 pub loop-i-preserved : goal.loop-i-preserved
 loop-i-preserved c = (omega (arith, c.loop-i-test), varied-next c.loop-i.invariant.1 c.walk-count.ensures)

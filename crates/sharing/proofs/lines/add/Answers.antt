@@ -42,20 +42,19 @@ cond-le : (b : Bool) (x y n : ℕ) → x ≤ n → y ≤ n → cond b x y ≤ n
 cond-le true x y n p q = p
 cond-le false x y n p q = q
 
-here : (c : tie.After-lowest invariant-loop decreases-loop) → Turn c.args.active lines_limit c.loop-rest.rest c.lowest-l.result
+here : (c : goal.After-lowest-l → Turn c.args.active lines_limit c.loop-rest.rest c.lowest-l.result
 here c = turn c.requires.lines.0 c.loop-rest.invariant.1 c.loop-rest-test.true c.lowest-l.ensures
 
 -- What is added to the line's count.
-more : (c : tie.Joined1 invariant-loop decreases-loop)
+more : (c : goal.Joined-contains
     → c.if-contains.more ≡ cond (has c.args.closed c.lowest-l.result)
     c.args.full
     (get_or c.args.under.now c.lowest-l.result 0)
 more c =
-    let args = c.args in
     let l : ℕ = c.lowest-l.result in
     ⊎_elim
-    (λ w. w.1 ∙ more-is (has args.closed l) args.full (get_or args.under.now l 0) (sym c.contains.ensures ∙ w.0.taken))
-    (λ w. w.2 ∙ more-not (has args.closed l) args.full (get_or args.under.now l 0) (sym c.contains.ensures ∙ w.0.left))
+    (λ w. w.1 ∙ more-is (has c.args.closed l) c.args.full (get_or c.args.under.now l 0) (sym c.contains.ensures ∙ w.0.taken))
+    (λ w. w.2 ∙ more-not (has c.args.closed l) c.args.full (get_or c.args.under.now l 0) (sym c.contains.ensures ∙ w.0.left))
     c.if-contains.branch-raw
 
 pub loop-rest-init : goal.loop-rest-init
@@ -63,62 +62,62 @@ loop-rest-init c =
     (refl, going_start (Added c.args.closed c.args.full c.args.under.now c.args.breaking.now c.args.breaking.now) (Same c.args.breaking.now c.args.breaking.now) c.requires.lines.0 (λ l. refl))
 
 pub lowest-l-requires : goal.lowest-l-requires
-lowest-l-requires c = tt
+lowest-l-requires c κs = tt
 
 pub item-requires : goal.item-requires
-item-requires c = tt
+item-requires c κs = tt
 
 pub less-rest-requires : goal.less-rest-requires
-less-rest-requires c = tt
+less-rest-requires c κs = tt
 
 pub contains-requires : goal.contains-requires
 contains-requires c =
-    omega (arith, (here c).few)
+    omega (arith, (here c.before.before).few)
 
 pub offset_bounds-under-l : goal.offset_bounds-under-l
 offset_bounds-under-l c =
-    omega (arith, (here c).few)
+    omega (arith, (here c.before.before.before.before).few)
 
 pub bounds-under-l : goal.bounds-under-l
 bounds-under-l c =
-    omega (arith, (here c).few, c.requires.lines.2)
+    omega (arith, (here c.before.before.before.before.before).few, c.requires.lines.2)
 
 pub offset_bounds-breaking-l : goal.offset_bounds-breaking-l
 offset_bounds-breaking-l c =
-    omega (arith, (here c).few)
+    omega (arith, (here c.before.before.before.before).few)
 
 pub bounds-breaking-l : goal.bounds-breaking-l
 bounds-breaking-l c =
-    omega (arith, (here c).few, c.requires.lines.3, c.loop-rest.invariant.0)
+    omega (arith, (here c.before.before.before.before.before).few, c.requires.lines.3, c.loop-rest.invariant.0)
 
 pub overflow_add-breaking : goal.overflow_add-breaking
 overflow_add-breaking c =
     let l : ℕ = c.lowest-l.result in
-    let small = c.requires.by_index l (here c).counted in
+    let small = c.requires.by_index l (here c.before.before.before.before.before.before).counted in
     omega (
       arith,
-      c.loop-rest.invariant.1.ahead l (here c).coming,
+      c.loop-rest.invariant.1.ahead l (here c.before.before.before.before.before.before).coming,
       small.0,
       small.1,
-      more c,
+      more c.before.before,
       cond-le (has c.args.closed l) c.args.full (get_or c.args.under.now l 0) (64 ^ 8) c.requires.lines.1 small.0,
     )
 
 pub bounds-breaking-l-in-loop-rest : goal.bounds-breaking-l-in-loop-rest
 bounds-breaking-l-in-loop-rest c =
-    omega (arith, (here c).few, c.requires.lines.3, c.loop-rest.invariant.0)
+    omega (arith, (here c.before.before.before.before.before.before).few, c.requires.lines.3, c.loop-rest.invariant.0)
 
 pub loop-rest-smaller : goal.loop-rest-smaller
 loop-rest-smaller c =
-    rw (c.less-rest.ensures, c.item.ensures) (here c).less
+    rw (c.less-rest.ensures, c.item.ensures) (here c.before.before.before.before.before.before).less
 
 pub loop-rest-preserved : goal.loop-rest-preserved
 loop-rest-preserved c =
     let now : List ℕ = c.loop-rest.breaking in
     let l : ℕ = c.lowest-l.result in
-    let fits : l < length now = omega (arith, (here c).few, c.requires.lines.3, c.loop-rest.invariant.0) in (
+    let fits : l < length now = omega (arith, (here c.before.before.before.before.before.before).few, c.requires.lines.3, c.loop-rest.invariant.0) in (
       length-set now l (get_or now l 0 + c.if-contains.more) ∙ c.loop-rest.invariant.0,
-      rw (c.less-rest.ensures, c.item.ensures) (added c.args.closed c.args.full c.args.under.now c.args.breaking.now now (here c) fits c.if-contains.more (more c) c.loop-rest.invariant.1),
+      rw (c.less-rest.ensures, c.item.ensures) (added c.args.closed c.args.full c.args.under.now c.args.breaking.now now (here c.before.before.before.before.before.before) fits c.if-contains.more (more c.before.before) c.loop-rest.invariant.1),
     )
 
 pub shape_of-breaking : goal.shape_of-breaking
@@ -127,5 +126,4 @@ shape_of-breaking c =
 
 pub returns : goal.returns
 returns c =
-    let g = c.loop-rest.invariant.1 in
-    record { long = c.loop-rest.invariant.0; each = λ l h. going_end g c.loop-rest-test.false l h; other = λ l z. g.outside l z }
+    record { long = c.loop-rest.invariant.0; each = λ l h. going_end c.loop-rest.invariant.1 c.loop-rest-test.false l h; other = λ l z. c.loop-rest.invariant.1.outside l z }

@@ -6,7 +6,6 @@ use mathlib.Core.Logic.{⊎_elim}
 use mathlib.Core.List.{List}
 use Prim.Native.Nat.{ℕ, ◌<◌}
 use native.Mathlib.Omega.{arith}
-use borrow.Author.Tests.{not-true, not-false}
 use lib.Dec.{lit<}
 use Rattle.words.specs.Words.{has}
 use Rattle.words.proofs.WordsLaws.{has-zero, join-lt}
@@ -22,92 +21,89 @@ Told plan lines cache level found l = HoldsAmong plan cache level (from_of lines
 abbrev Untold : ℕ → ℕ → Type 0
 Untold found l = has found l ≡ false
 
-here : (c : tie.After-lowest invariant-loop decreases-loop)
+here : (c : goal.After-lowest-l
     → Turn c.args.at.active c.args.at.many c.loop-rest.rest c.lowest-l.result
 here c = turn c.requires.2 c.loop-rest.invariant.1 c.loop-rest-test.true c.lowest-l.ensures
 
 pub loop-rest-init : goal.loop-rest-init
 loop-rest-init c =
-    let args = c.args in
-    (lit< tt, going_start (Told args.plan.now args.lines.now args.cache.now args.level 0) (Untold 0) c.requires.2 (λ l. has-zero l))
+    (lit< tt, going_start (Told c.args.plan.now c.args.lines.now c.args.cache.now c.args.level 0) (Untold 0) c.requires.2 (λ l. has-zero l))
 
 pub lowest-l-requires : goal.lowest-l-requires
-lowest-l-requires c = tt
+lowest-l-requires c κs = tt
 
 pub item-requires : goal.item-requires
-item-requires c = tt
+item-requires c κs = tt
 
 pub less-rest-requires : goal.less-rest-requires
-less-rest-requires c = tt
+less-rest-requires c κs = tt
 
 pub overflow_mul-from : goal.overflow_mul-from
 overflow_mul-from c =
-    omega (arith, (here c).few)
+    omega (arith, (here c.before.before).few)
 
 pub overflow_add-from : goal.overflow_add-from
 overflow_add-from c =
-    omega (arith, (here c).few)
+    omega (arith, (here c.before.before).few)
 
 pub offset_bounds-lines-l : goal.offset_bounds-lines-l
 offset_bounds-lines-l c =
-    omega (arith, (here c).few)
+    omega (arith, (here c.before.before).few)
 
 pub bounds-lines-l : goal.bounds-lines-l
 bounds-lines-l c =
-    omega (arith, (here c).few, c.requires.3.long)
+    omega (arith, (here c.before.before.before).few, c.requires.3.long)
 
 pub overflow_mul-to : goal.overflow_mul-to
 overflow_mul-to c =
-    omega (arith, (here c).few)
+    omega (arith, (here c.before.before.before).few)
 
 pub overflow_add-to : goal.overflow_add-to
 overflow_add-to c =
-    omega (arith, (here c).few)
+    omega (arith, (here c.before.before.before).few)
 
 pub offset_bounds-lines-l-in-loop-rest : goal.offset_bounds-lines-l-in-loop-rest
 offset_bounds-lines-l-in-loop-rest c =
-    omega (arith, (here c).few)
+    omega (arith, (here c.before.before.before).few)
 
 pub bounds-lines-l-in-loop-rest : goal.bounds-lines-l-in-loop-rest
 bounds-lines-l-in-loop-rest c =
-    omega (arith, (here c).few, c.requires.3.long)
+    omega (arith, (here c.before.before.before.before).few, c.requires.3.long)
 
 pub holds_among-requires : goal.holds_among-requires
 holds_among-requires c =
     let l : ℕ = c.lowest-l.result in
-    (c.requires.0, c.requires.1, c.requires.3.begins l (here c).within, c.requires.3.ends l (here c).within)
+    (c.requires.0, c.requires.1, c.requires.3.begins l (here c.before.before.before.before).within, c.requires.3.ends l (here c.before.before.before.before).within)
 
 pub item-requires-then-not-holds_among : goal.item-requires-then-not-holds_among
-item-requires-then-not-holds_among c = tt
+item-requires-then-not-holds_among c κs = tt
 
 pub join-found-requires : goal.join-found-requires
-join-found-requires c = tt
+join-found-requires c κs = tt
 
 pub loop-rest-smaller-then-not-holds_among : goal.loop-rest-smaller-then-not-holds_among
 loop-rest-smaller-then-not-holds_among c =
-    rw (c.less-rest.ensures, c.item.ensures) (here c).less
+    rw (c.less-rest.ensures, c.item.ensures) (here c.before.before.before.before.before.before.before.before).less
 
 pub loop-rest-preserved-then-not-holds_among : goal.loop-rest-preserved-then-not-holds_among
 loop-rest-preserved-then-not-holds_among c =
-    let args = c.args in
     let found : ℕ = c.loop-rest.found in
     rw (c.join-found.ensures, c.item-then-not-holds_among.ensures, c.less-rest.ensures, c.item.ensures) (
       join-lt found _,
-      false-on args.plan.now args.lines.now args.cache.now args.level found c.loop-rest.invariant.0 (here c)
-          c.holds_among.result (not-true _ c.if-not-holds_among.true) c.holds_among.ensures c.loop-rest.invariant.1,
+      false-on c.args.plan.now c.args.lines.now c.args.cache.now c.args.level found c.loop-rest.invariant.0 (here c.before.before.before.before.before.before.before.before)
+          c.holds_among.result c.if-not-holds_among.true c.holds_among.ensures c.loop-rest.invariant.1,
     )
 
 pub loop-rest-smaller : goal.loop-rest-smaller
 loop-rest-smaller c =
-    rw (c.less-rest.ensures, c.item.ensures) (here c).less
+    rw (c.less-rest.ensures, c.item.ensures) (here c.before.before.before.before.before.before).less
 
 pub loop-rest-preserved : goal.loop-rest-preserved
 loop-rest-preserved c =
-    let args = c.args in
     rw (c.less-rest.ensures, c.item.ensures) (
       c.loop-rest.invariant.0,
-      true-on args.plan.now args.lines.now args.cache.now args.level c.loop-rest.found (here c)
-          c.holds_among.result (not-false _ c.if-not-holds_among.false) c.holds_among.ensures c.loop-rest.invariant.1,
+      true-on c.args.plan.now c.args.lines.now c.args.cache.now c.args.level c.loop-rest.found (here c.before.before.before.before.before.before)
+          c.holds_among.result c.if-not-holds_among.false c.holds_among.ensures c.loop-rest.invariant.1,
     )
 
 pub returns : goal.returns

@@ -3,7 +3,6 @@
 use mathlib.Core.Path.{◌≡◌, refl, sym, ◌∙◌}
 use native.Mathlib.Omega.{arith}
 use Prim.Native.Nat.{◌*◌, ◌≤◌}
-use borrow.Author.Tests.{not-false}
 use lib.ListN.{length}
 use lib.Seq.{length-take-le}
 use Rattle.sharing.specs.Code.Together.{no, yes}
@@ -14,7 +13,7 @@ use borrow.Author.Rules.{rules}
 use Rattle.sharing.proofs.together.counts.Goals as goal
 
 -- The variables have room by their type.
-vars-room : (c : tie.Start) → length c.args.t2.vars ≡ 8
+vars-room : (c : goal.Start) → length c.args.t2.vars ≡ 8
 vars-room c = search rules
 
 pub slice_bounds-order-end : goal.slice_bounds-order-end
@@ -23,18 +22,18 @@ slice_bounds-order-end c =
 
 pub slice_bounds-vars-end : goal.slice_bounds-vars-end
 slice_bounds-vars-end c =
-    omega (arith, c.requires.lent_by.0.few, vars-room c)
+    omega (arith, c.requires.lent_by.0.few, vars-room c.before.before.before.before.before.before.before.before)
 
 pub slice_bounds-names-end-2 : goal.slice_bounds-names-end-2
 slice_bounds-names-end-2 c =
-    sym (vars-long c.requires.lent_by.0 (vars-room c))
+    sym (vars-long c.requires.lent_by.0 (vars-room c.before.before.before.before.before.before.before.before.before))
 
 pub returns-then-not-ordered : goal.returns-then-not-ordered
 returns-then-not-ordered c = no
 
 pub lay_first-many_choices-requires : goal.lay_first-many_choices-requires
 lay_first-many_choices-requires c =
-    (c.requires.lent_by.0, tested c.requires.lent_by.0 c.names-names.result _ c.names-names.ensures (rw (vars-long c.requires.lent_by.0 (vars-room c)) (sym c.ordered.ensures ∙ not-false _ c.if-not-ordered.false)), refl)
+    (c.requires.lent_by.0, tested c.requires.lent_by.0 c.names-names.result _ c.names-names.ensures (rw (vars-long c.requires.lent_by.0 (vars-room c.before.before.before.before.before.before.before.before.before.before.before.before.before.before)) (sym c.ordered.ensures ∙ c.if-not-ordered.false)), refl)
 
 pub returns-then-many_choices-eq0 : goal.returns-then-many_choices-eq0
 returns-then-many_choices-eq0 c = no
@@ -44,7 +43,7 @@ returns-then-many_choices-gt-MOST_CHOICES c = no
 
 pub lay-requires : goal.lay-requires
 lay-requires c =
-    (plotted c.requires.lent_by.0 c.lay_first-many_choices.ensures.lays (vars-long c.requires.lent_by.0 (vars-room c)), c.requires.lent_by.3, c.requires.lent_by.1, refl)
+    (plotted c.requires.lent_by.0 c.lay_first-many_choices.ensures.lays (vars-long c.requires.lent_by.0 (vars-room c.before.before.before.before.before.before.before.before.before.before.before.before.before.before.before.before.before.before.before.before)), c.requires.lent_by.3, c.requires.lent_by.1, refl)
 
 pub overflow_mul-many : goal.overflow_mul-many
 overflow_mul-many c =

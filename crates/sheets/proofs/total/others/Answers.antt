@@ -9,8 +9,7 @@ use Rattle.sheets.proofs.total.others.Goals as goal
 
 pub labelled-m-requires : goal.labelled-m-requires
 labelled-m-requires c =
-    let t = c.args.t in
-    rest-room {w = middle_text t} 29 c.two-n.ensures (omega (arith, c.requires, two-short (ascii " idle ") t.idle (ascii " broken ") t.broken))
+    rest-room {w = middle_text c.args.t} 29 c.two-n.ensures (omega (arith, c.requires, two-short (ascii " idle ") c.args.t.idle (ascii " broken ") c.args.t.broken))
 
 pub returns : goal.returns
 returns c =

@@ -10,10 +10,8 @@ use Rattle.sheets.proofs.total.write.Goals as goal
 
 pub others-m-requires : goal.others-m-requires
 others-m-requires c =
-    let t = c.args.t in
-    rest-room {w = front_text t} 100 c.two-n.ensures (omega (arith, c.requires, two-short (ascii "total ") t.lines (ascii " held ") t.held))
+    rest-room {w = front_text c.args.t} 100 c.two-n.ensures (omega (arith, c.requires, two-short (ascii "total ") c.args.t.lines (ascii " held ") c.args.t.held))
 
 pub returns : goal.returns
 returns c =
-    let t = c.args.t in
-    rw (total-pieces t) (written-rest {w = front_text t} c.two-n.ensures c.others-m.ensures)
+    rw (total-pieces c.args.t) (written-rest {w = front_text c.args.t} c.two-n.ensures c.others-m.ensures)

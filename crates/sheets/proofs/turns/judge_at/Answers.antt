@@ -5,5 +5,4 @@ use Rattle.sheets.proofs.turns.judge_at.Goals as goal
 
 pub returns : goal.returns
 returns c =
-    let pre = c.requires.1 in
-    (λ T H. judged-next pre.0 c.line_end-to.ensures pre.1 T H (c.in_turn-verdict.ensures T H), judged-onward pre.0 c.line_end-to.ensures pre.1 c.in_turn-verdict.ensures c.count-total.ensures)
+    record { judges_next = λ T H. judged-next c.requires.sofar_on c.line_end-to.ensures c.requires.at_in_bounds T H (c.in_turn-verdict.ensures T H); onward = judged-onward c.requires.sofar_on c.line_end-to.ensures c.requires.at_in_bounds c.in_turn-verdict.ensures c.count-total.ensures }

@@ -6,10 +6,8 @@ use Rattle.sheets.proofs.turns.next_line.Goals as goal
 
 pub returns-then-rules-at : goal.returns-then-rules-at
 returns-then-rules-at c =
-    let pre = c.requires.1 in
-    (total-next pre.0 c.if-rules-at.true c.write-n.ensures, total-last pre.0 c.if-rules-at.true _ refl)
+    record { writes_next = total-next c.requires.sofar_on c.if-rules-at.true c.write-n.ensures; turns = total-last c.requires.sofar_on c.if-rules-at.true _ refl }
 
 pub returns : goal.returns
 returns c =
-    let judged = c.judge_at-judged.ensures in
-    (λ T H. rw (judged.0 T H) at c.Line-of.ensures, not_last _ refl judged.1)
+    record { writes_next = λ T H. rw (c.judge_at-judged.ensures.judges_next T H) at c.Line-of.ensures; turns = not_last _ refl c.judge_at-judged.ensures.onward }

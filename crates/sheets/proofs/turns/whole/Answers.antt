@@ -9,7 +9,7 @@ pub loop-at-init : goal.loop-at-init
 loop-at-init c = rw c.no_lines-total.ensures (none-sofar _ _ c.requires.rules_len_bound)
 
 pub judge_at-judged-requires : goal.judge_at-judged-requires
-judge_at-judged-requires c = (c.requires.loaded, (c.loop-at.invariant, c.loop-at-test.true))
+judge_at-judged-requires c = record { loaded = c.requires.loaded; sofar_on = c.loop-at.invariant; at_in_bounds = c.loop-at-test.true }
 
 pub loop-at-smaller : goal.loop-at-smaller
 loop-at-smaller c = omega (arith, c.judge_at-judged.ensures.onward.further, c.loop-at-test.true)

@@ -33,30 +33,23 @@ overflow_sub-n c =
 
 pub returns-then-k-n : goal.returns-then-k-n
 returns-then-k-n c =
-    let ns = c.args.nodes.now in
-    let from = c.lowest-from.result in
-    put {k = from + c.seek.result} {n = c.args.n}
+    put {k = c.lowest-from.result + c.seek.result} {n = c.args.n}
     (record {
       within = search rules;
       few = search rules;
-      at = sought-found ns from (length ns - from) c.args.n (omega arith) c.seek.ensures c.if-k-n.true ∙ c.pack-node.ensures;
+      at = sought-found c.args.nodes.now c.lowest-from.result (length c.args.nodes.now - c.lowest-from.result) c.args.n (omega arith) c.seek.ensures c.if-k-n.true ∙ c.pack-node.ensures;
       stays = stays-refl _;
       tidy = c.requires.tidy;
     })
 
 pub returns : goal.returns
 returns c =
-    let ns = c.args.nodes.now in
-    let n = c.args.n in
-    let v = c.pack-node.result in
-    let from = c.lowest-from.result in
-    let e = c.pack-node.ensures in
-    let h : n < length ns = c.requires.room in
-    put {k = n} {n = n + 1}
+    let h : c.args.n < length c.args.nodes.now = c.requires.room in
+    put {k = c.args.n} {n = c.args.n + 1}
     (record {
       within = search rules;
       few = search rules;
-      at = get_or-set_same ns n v 0 h ∙ e;
-      stays = record { more = search rules; size = length-set ns n v; same = λ i l. get_or-set_other ns n i v 0 (omega arith) };
-      tidy = tidy-more ns n v h c.requires.tidy (rw e c.requires.low) (sought-none ns from (length ns - from) n (omega arith) c.seek.ensures c.requires.tidy.down (λ k l. c.lowest-from.ensures k (rw e at l)) c.if-k-n.false);
+      at = get_or-set_same c.args.nodes.now c.args.n c.pack-node.result 0 h ∙ c.pack-node.ensures;
+      stays = record { more = search rules; size = length-set c.args.nodes.now c.args.n c.pack-node.result; same = λ i l. get_or-set_other c.args.nodes.now c.args.n i c.pack-node.result 0 (omega arith) };
+      tidy = tidy-more c.args.nodes.now c.args.n c.pack-node.result h c.requires.tidy (rw c.pack-node.ensures c.requires.low) (sought-none c.args.nodes.now c.lowest-from.result (length c.args.nodes.now - c.lowest-from.result) c.args.n (omega arith) c.seek.ensures c.requires.tidy.down (λ k l. c.lowest-from.ensures k (rw c.pack-node.ensures at l)) c.if-k-n.false);
     })

@@ -8,12 +8,10 @@ use Rattle.syntax.proofs.arena.lowest.Goals as goal
 
 pub returns-then-has_two : goal.returns-then-has_two
 returns-then-has_two c k low =
-    let a = c.args in
-    let p = parts (node_of a.op a.i a.j) a.op a.i a.j refl (omega arith) (omega arith) in
+    let p = parts (node_of c.args.op c.args.i c.args.j) c.args.op c.args.i c.args.j refl (omega arith) (omega arith) in
     omega (arith, p.right, low.right (rw p.op (sym c.has_two.ensures ∙ c.if-has_two.true)))
 
 pub returns-else-has_two : goal.returns-else-has_two
 returns-else-has_two c k low =
-    let a = c.args in
-    let p = parts (node_of a.op a.i a.j) a.op a.i a.j refl (omega arith) (omega arith) in
+    let p = parts (node_of c.args.op c.args.i c.args.j) c.args.op c.args.i c.args.j refl (omega arith) (omega arith) in
     omega (arith, p.left, low.left (omega (arith, p.op, c.if-op-lt-FIRST_CALL.false)))

@@ -3,7 +3,6 @@
 use mathlib.Core.Path.{◌∙◌, sym}
 use mathlib.Core.List.{[], ◌∷◌, ◌++◌}
 use native.Mathlib.Omega.{arith}
-use borrow.Author.Tests.{not-true, not-false}
 use lib.ListN.{length, length-take, length-set}
 use lib.Seq.{length-take-le}
 use Rattle.syntax.specs.Code.Reading.{no_thing}
@@ -24,7 +23,7 @@ stands-requires-then-not-stands t c =
 pub returns-then-not-stands-2 : goal.returns-then-not-stands-2
 returns-then-not-stands-2 t c =
     λ σ w.
-    no_thing (formula-open c.args.k c.requires.vars_len.1 σ c.args.s.now c.args.at (miss c.stands.ensures (not-true _ c.if-not-stands.true)) (miss c.stands-then-not-stands.ensures (not-true _ c.if-not-stands-2.true)))
+    no_thing (formula-open c.args.k c.requires.vars_len.1 σ c.args.s.now c.args.at (miss c.stands.ensures c.if-not-stands.true) (miss c.stands-then-not-stands.ensures c.if-not-stands-2.true))
 
 pub overflow_add-at : goal.overflow_add-at
 overflow_add-at t c =
@@ -36,20 +35,20 @@ slice_bounds-read_body-end-then-not-stands t c =
 
 pub read_body-requires : goal.read_body-requires
 read_body-requires t c =
-    let h = hit c.stands-then-not-stands.ensures (not-false _ c.if-not-stands-2.false) c.requires.readable.within in
+    let h = hit c.stands-then-not-stands.ensures c.if-not-stands-2.false c.requires.readable.within in
     ready_at c.requires.readable (omega arith) h.fits
 
 pub returns-then-not-stands : goal.returns-then-not-stands
 returns-then-not-stands t c =
     λ σ w.
-    let h = hit c.stands-then-not-stands.ensures (not-false _ c.if-not-stands-2.false) c.requires.readable.within in
-    rw (formula-rule c.args.k c.requires.vars_len.1 σ c.args.s.now c.args.at (miss c.stands.ensures (not-true _ c.if-not-stands.true)) h)
+    let h = hit c.stands-then-not-stands.ensures c.if-not-stands-2.false c.requires.readable.within in
+    rw (formula-rule c.args.k c.requires.vars_len.1 σ c.args.s.now c.args.at (miss c.stands.ensures c.if-not-stands.true) h)
     (agree-from (stays-refl _) (omega arith) (c.read_body.ensures σ w))
 
 pub returns-then-k-eq8 : goal.returns-then-k-eq8
 returns-then-k-eq8 t c =
     λ σ w.
-    let h = hit c.stands.ensures (not-false _ c.if-not-stands.false) c.requires.readable.within in
+    let h = hit c.stands.ensures c.if-not-stands.false c.requires.readable.within in
     no_thing (formula-full c.args.k c.requires.vars_len.1 σ c.args.s.now c.args.at h c.if-k-eq8.true)
 
 pub overflow_add-at-2 : goal.overflow_add-at-2
@@ -62,13 +61,13 @@ slice_bounds-read_set-end-2 t c =
 
 pub read_set-p-requires : goal.read_set-p-requires
 read_set-p-requires t c =
-    let h = hit c.stands.ensures (not-false _ c.if-not-stands.false) c.requires.readable.within in
-    (ready_at c.requires.readable (omega arith) h.fits, simp length-take (omega (arith, c.requires.vars_len)))
+    let h = hit c.stands.ensures c.if-not-stands.false c.requires.readable.within in
+    record { readable = ready_at c.requires.readable (omega arith) h.fits; vars_len_bound = simp length-take (omega (arith, c.requires.vars_len)) }
 
 pub returns-in_default : goal.returns-in_default
 returns-in_default t c =
     λ σ w.
-    let h = hit c.stands.ensures (not-false _ c.if-not-stands.false) c.requires.readable.within in
+    let h = hit c.stands.ensures c.if-not-stands.false c.requires.readable.within in
     no_thing (formula-lost c.args.k c.requires.vars_len.1 σ c.args.s.now c.args.at h (as_none (c.read_set-p.ensures σ w) c.in_default.is))
 
 pub overflow_cast-vars : goal.overflow_cast-vars
@@ -103,13 +102,13 @@ read_formula-requires t c =
     )
 
 pub shape_of-vars : goal.shape_of-vars
-shape_of-vars t c = c.read_formula.auto.1.1.0 ∙ simp length-set
+shape_of-vars t c = c.read_formula.auto.vars ∙ simp length-set
 
 pub returns : goal.returns
 returns t c =
     λ σ w.
     let f = as_some (c.read_set-p.ensures σ w) c.in-Got.is in
-    let h = hit c.stands.ensures (not-false _ c.if-not-stands.false) c.requires.readable.within in
+    let h = hit c.stands.ensures c.if-not-stands.false c.requires.readable.within in
     let l : c.args.k < length c.args.vars.now = omega (arith, c.requires.vars_len, c.if-k-eq8.false) in
     rw (formula-more c.args.k c.requires.vars_len.1 σ c.args.s.now c.args.at h f)
     (agree-from f.stays (omega (arith, f.count)) (c.read_formula.ensures (σ ++ (f.thing ∷ [])) (knows_more c.args.vars.now c.args.k σ l w f)))

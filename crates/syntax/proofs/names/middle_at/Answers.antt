@@ -17,11 +17,9 @@ use Rattle.syntax.proofs.names.middle_at.Goals as goal
 pub returns-then-stands : goal.returns-then-stands
 unfolding spell_joint parting
 returns-then-stands c =
-    let s = c.args.s.now in
-    let op = c.args.op in
-    subst (λ (o : ℕ). Named joint_op s c.args.at (Name o (c.args.at + 1)) (scan spell_joint (joints op) (drop c.args.at s)))
-    (fn2-number op c.requires.first_pair_le_op c.if-op-lt-FIRST_JOIN.true)
-    (here (pair (calls (fn2_at op))) [] (from-these (joints-comma op c.if-op-lt-FIRST_JOIN.true) c.requires.at_in_bounds) c.stands.ensures c.if-stands.true (omega arith))
+    subst (λ (o : ℕ). Named joint_op c.args.s.now c.args.at (Name o (c.args.at + 1)) (scan spell_joint (joints c.args.op) (drop c.args.at c.args.s.now)))
+    (fn2-number c.args.op c.requires.first_pair_le_op c.if-op-lt-FIRST_JOIN.true)
+    (here (pair (calls (fn2_at c.args.op))) [] (from-these (joints-comma c.args.op c.if-op-lt-FIRST_JOIN.true) c.requires.at_in_bounds) c.stands.ensures c.if-stands.true (omega arith))
 
 pub returns-then-op-lt-FIRST_JOIN : goal.returns-then-op-lt-FIRST_JOIN
 unfolding spell_joint parting

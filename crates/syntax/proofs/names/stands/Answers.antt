@@ -13,8 +13,7 @@ loop-i-init c = (omega arith, omega arith, rw (add-zero c.args.at))
 
 pub returns-then-s-at : goal.returns-then-s-at
 returns-then-s-at c =
-    let a = c.args in
-    record { is = sym (compared-short a.s.now a.at a.p.now c.loop-i.i c.loop-i.invariant (omega arith) (omega arith)) }
+    record { is = sym (compared-short c.args.s.now c.args.at c.args.p.now c.loop-i.i c.loop-i.invariant (omega arith) (omega arith)) }
 
 pub overflow_add-at : goal.overflow_add-at
 overflow_add-at c = omega arith
@@ -27,9 +26,7 @@ bounds-p-i c = omega arith
 
 pub returns-then-s-at-2 : goal.returns-then-s-at-2
 returns-then-s-at-2 c =
-    let a = c.args in
-    let l = c.loop-i in
-    record { is = sym (compared-apart a.s.now a.at a.p.now l.i l.invariant (omega arith) (omega arith) (search rules)) }
+    record { is = sym (compared-apart c.args.s.now c.args.at c.args.p.now c.loop-i.i c.loop-i.invariant (omega arith) (omega arith) (search rules)) }
 
 pub overflow_add-i : goal.overflow_add-i
 overflow_add-i c = omega arith
@@ -39,11 +36,8 @@ loop-i-smaller c = omega arith
 
 pub loop-i-preserved : goal.loop-i-preserved
 loop-i-preserved c =
-    let a = c.args in
-    let l = c.loop-i in
-    compared-next a.s.now a.at a.p.now l.i l.invariant (omega arith) (omega arith) (search rules)
+    compared-next c.args.s.now c.args.at c.args.p.now c.loop-i.i c.loop-i.invariant (omega arith) (omega arith) (search rules)
 
 pub returns : goal.returns
 returns c =
-    let a = c.args in
-    record { is = sym (compared-all a.s.now a.at a.p.now c.loop-i.i c.loop-i.invariant (omega arith)) }
+    record { is = sym (compared-all c.args.s.now c.args.at c.args.p.now c.loop-i.i c.loop-i.invariant (omega arith)) }

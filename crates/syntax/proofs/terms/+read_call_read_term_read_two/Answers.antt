@@ -1,6 +1,5 @@
 -- The reader of terms meets its contract: each way out is one law of ReadingLaws. The measure is twice the number of bytes left, and one more in brackets.
 -- Assumes nothing.
-use borrow.Author.Tests.{not-true, not-false}
 use native.Mathlib.Omega.{arith}
 use Rattle.syntax.specs.Term.{read_term}
 use Rattle.syntax.specs.Code.Reading.{no_thing}
@@ -26,24 +25,24 @@ pub read_call-returns-then-not-stands : goal.read_call-returns-then-not-stands
 read_call-returns-then-not-stands t c =
     λ σ make w k.
     let f = as_some (c.read_term-p.ensures σ w) c.in-Got.is in
-    no_thing (closed-lost _ make _ f.reads (miss c.stands.ensures (not-true _ c.if-not-stands.true)))
+    no_thing (closed-lost _ make _ f.reads (miss c.stands.ensures c.if-not-stands.true))
 
 pub read_call-overflow_add-e : goal.read_call-overflow_add-e
 read_call-overflow_add-e t c =
     let f = as_some (c.read_term-p.ensures c.requires.readable.choices c.requires.readable.knows) c.in-Got.is in
-    omega (arith, (hit c.stands.ensures (not-false _ c.if-not-stands.false) f.end).fits)
+    omega (arith, (hit c.stands.ensures c.if-not-stands.false f.end).fits)
 
 pub read_call-intern-requires : goal.read_call-intern-requires
 read_call-intern-requires t c =
     let f = as_some (c.read_term-p.ensures c.requires.readable.choices c.requires.readable.knows) c.in-Got.is in
-    let h = hit c.stands.ensures (not-false _ c.if-not-stands.false) f.end in
+    let h = hit c.stands.ensures c.if-not-stands.false f.end in
     fresh_on c.requires.readable f h.fits (omega (arith, c.requires.first_call_le_op.1)) (omega (arith, f.within))
 
 pub read_call-returns : goal.read_call-returns
 read_call-returns t c =
     λ σ make w k.
     let f = as_some (c.read_term-p.ensures σ w) c.in-Got.is in
-    let h = hit c.stands.ensures (not-false _ c.if-not-stands.false) f.end in
+    let h = hit c.stands.ensures c.if-not-stands.false f.end in
     call-found (read_term σ) make k c.requires.first_call_le_op.0 (omega (arith, c.requires.first_call_le_op.1)) f h c.intern.ensures
 
 pub read_term-head_at-h-requires : goal.read_term-head_at-h-requires
@@ -104,7 +103,7 @@ read_two-returns-in_default t c = λ σ w. no_thing (paired_none _ σ _ _ (as_no
 
 pub read_two-middle_at-h-requires : goal.read_two-middle_at-h-requires
 read_two-middle_at-h-requires t c =
-    ((as_some (c.read_term-p.ensures c.requires.readable.choices c.requires.readable.knows) c.in-Got.is).end, c.requires.first_pair_le_op)
+    record { at_in_bounds = (as_some (c.read_term-p.ensures c.requires.readable.choices c.requires.readable.knows) c.in-Got.is).end; first_pair_le_op = c.requires.first_pair_le_op }
 
 pub read_two-returns-in_default-h : goal.read_two-returns-in_default-h
 read_two-returns-in_default-h t c =
@@ -116,7 +115,7 @@ pub read_two-read_less-requires : goal.read_two-read_less-requires
 read_two-read_less-requires t c =
     let f = as_some (c.read_term-p.ensures c.requires.readable.choices c.requires.readable.knows) c.in-Got.is in
     let x = as-name c.middle_at-h.ensures c.in-Name.is in
-    (ready_on c.requires.readable f (omega (arith, x.more)) x.fits, f.within)
+    record { readable = ready_on c.requires.readable f (omega (arith, x.more)) x.fits; i_lt_n = f.within }
 
 pub read_two-returns-then-o-eq-AO : goal.read_two-returns-then-o-eq-AO
 read_two-returns-then-o-eq-AO t c =
@@ -149,13 +148,13 @@ read_two-returns-then-not-stands t c =
     let f = as_some (c.read_term-p.ensures σ w) c.in-Got.is in
     let x = as-name c.middle_at-h.ensures c.in-Name.is in
     let f' = as_some (c.read_term-q.ensures σ (knows-later f.stays w)) c.in-Got-q.is in
-    no_thing (two-open (read_term σ) σ c.args.op f x c.if-o-eq-AO.false f' (miss c.stands.ensures (not-true _ c.if-not-stands.true)))
+    no_thing (two-open (read_term σ) σ c.args.op f x c.if-o-eq-AO.false f' (miss c.stands.ensures c.if-not-stands.true))
 
 pub read_two-overflow_add-g : goal.read_two-overflow_add-g
 read_two-overflow_add-g t c =
     let f = as_some (c.read_term-p.ensures c.requires.readable.choices c.requires.readable.knows) c.in-Got.is in
     let f' = as_some (c.read_term-q.ensures c.requires.readable.choices (knows-later f.stays c.requires.readable.knows)) c.in-Got-q.is in
-    omega (arith, c.requires.readable.room, c.requires.readable.tidy.size, (hit c.stands.ensures (not-false _ c.if-not-stands.false) f'.end).fits)
+    omega (arith, c.requires.readable.room, c.requires.readable.tidy.size, (hit c.stands.ensures c.if-not-stands.false f'.end).fits)
 
 pub read_two-intern-requires : goal.read_two-intern-requires
 read_two-intern-requires t c =
@@ -170,5 +169,5 @@ read_two-returns t c =
     let f = as_some (c.read_term-p.ensures σ w) c.in-Got.is in
     let x = as-name c.middle_at-h.ensures c.in-Name.is in
     let f' = as_some (c.read_term-q.ensures σ (knows-later f.stays w)) c.in-Got-q.is in
-    let h = hit c.stands.ensures (not-false _ c.if-not-stands.false) f'.end in
+    let h = hit c.stands.ensures c.if-not-stands.false f'.end in
     two-found (read_term σ) σ c.args.op f x c.if-o-eq-AO.false f' h c.intern.ensures

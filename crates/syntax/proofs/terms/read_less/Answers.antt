@@ -1,7 +1,6 @@
 -- `read_less` reads the rest of a term without a choice, which is AO of the term.
 -- Assumes nothing.
 use native.Mathlib.Omega.{arith}
-use borrow.Author.Tests.{not-true, not-false}
 use Rattle.syntax.specs.Code.Reading.{no_thing}
 use Rattle.syntax.proofs.NameLaws.{hit, miss, as-no-choice, as-choice, knows-length}
 use Rattle.syntax.proofs.ReadingLaws.{fresh-two, less_none, less-lost, less-found}
@@ -15,11 +14,11 @@ stands-requires c = let x = as-choice c.choice_at-c.ensures c.in-Name.is in omeg
 
 pub returns-then-not-stands : goal.returns-then-not-stands
 returns-then-not-stands c =
-    λ σ a w y. no_thing (less-lost c.requires.readable (as-choice c.choice_at-c.ensures c.in-Name.is) σ a w (miss c.stands.ensures (not-true _ c.if-not-stands.true)))
+    λ σ a w y. no_thing (less-lost c.requires.readable (as-choice c.choice_at-c.ensures c.in-Name.is) σ a w (miss c.stands.ensures c.if-not-stands.true))
 
 pub overflow_add-e : goal.overflow_add-e
 overflow_add-e c =
-    let x = as-choice c.choice_at-c.ensures c.in-Name.is in omega (arith, x.behind, x.fits, (hit c.stands.ensures (not-false _ c.if-not-stands.false) (omega (arith, x.behind, x.fits))).fits)
+    let x = as-choice c.choice_at-c.ensures c.in-Name.is in omega (arith, x.behind, x.fits, (hit c.stands.ensures c.if-not-stands.false (omega (arith, x.behind, x.fits))).fits)
 
 pub intern-requires : goal.intern-requires
 intern-requires c =
@@ -30,4 +29,4 @@ pub returns : goal.returns
 returns c =
     λ σ a w y.
     let x = as-choice c.choice_at-c.ensures c.in-Name.is in
-    less-found c.requires.readable x σ a w c.requires.i_lt_n y (hit c.stands.ensures (not-false _ c.if-not-stands.false) (omega (arith, x.behind, x.fits))) c.intern.ensures
+    less-found c.requires.readable x σ a w c.requires.i_lt_n y (hit c.stands.ensures c.if-not-stands.false (omega (arith, x.behind, x.fits))) c.intern.ensures

@@ -4,7 +4,6 @@ use mathlib.Core.Path.{◌∙◌}
 use Prim.Native.Nat.{◌-◌, ◌<◌}
 use native.Mathlib.Omega.{arith}
 use lib.ListN.{length, length-set}
-use borrow.Author.Tests.{not-true, not-false}
 use Rattle.syntax.specs.Code.Reading.{no_clause, some_clauses}
 use Rattle.syntax.proofs.ArenaLaws.{knows-later}
 use Rattle.syntax.proofs.NameLaws.{hit, miss}
@@ -21,7 +20,7 @@ read_clause-p-requires c =
 
 pub shape_of-nodes-in_default : goal.shape_of-nodes-in_default
 shape_of-nodes-in_default c =
-    c.read_clause-p.auto.1.1.1.0 ∙ c.loop-c.invariant.stays.size
+    c.read_clause-p.auto.nodes ∙ c.loop-c.invariant.stays.size
 
 pub shape_of-list-in_default : goal.shape_of-list-in_default
 shape_of-list-in_default c =
@@ -50,7 +49,7 @@ caret_at-requires c =
 
 pub shape_of-nodes-then-not-caret_at : goal.shape_of-nodes-then-not-caret_at
 shape_of-nodes-then-not-caret_at c =
-    c.read_clause-p.auto.1.1.1.0 ∙ c.loop-c.invariant.stays.size
+    c.read_clause-p.auto.nodes ∙ c.loop-c.invariant.stays.size
 
 pub shape_of-list-then-not-caret_at : goal.shape_of-list-then-not-caret_at
 shape_of-list-then-not-caret_at c =
@@ -61,7 +60,7 @@ returns-then-not-caret_at c =
     λ σ w.
     let l : c.loop-c.c < length c.args.list.now = omega (arith, c.loop-c.invariant.size) in
     let f = as_some (c.read_clause-p.ensures σ (knows-later c.loop-c.invariant.stays w)) c.in-Got.is in
-    some_clauses (pass-last c.loop-c.invariant σ w l f (miss c.caret_at.ensures (not-true _ c.if-not-caret_at.true)))
+    some_clauses (pass-last c.loop-c.invariant σ w l f (miss c.caret_at.ensures c.if-not-caret_at.true))
 
 pub overflow_add-at : goal.overflow_add-at
 overflow_add-at c =
@@ -76,7 +75,7 @@ pub loop-c-preserved : goal.loop-c-preserved
 loop-c-preserved c =
     let l : c.loop-c.c < length c.args.list.now = omega (arith, c.loop-c.invariant.size) in
     let f = as_some (c.read_clause-p.ensures c.requires.choices (knows-later c.loop-c.invariant.stays c.requires.knows)) c.in-Got.is in
-    let h = hit c.caret_at.ensures (not-false _ c.if-not-caret_at.false) f.end in
+    let h = hit c.caret_at.ensures c.if-not-caret_at.false f.end in
     pass-more c.loop-c.invariant c.requires.choices l f c.requires.knows h (λ σ w. as_some (c.read_clause-p.ensures σ (knows-later c.loop-c.invariant.stays w)) c.in-Got.is)
 
 pub shape_of-nodes : goal.shape_of-nodes

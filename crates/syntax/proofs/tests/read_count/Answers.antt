@@ -1,7 +1,6 @@
 -- `read_count` reads a number or a count behind a comparison.
 -- Assumes nothing.
 use native.Mathlib.Omega.{arith}
-use borrow.Author.Tests.{not-true, not-false}
 use Rattle.syntax.specs.Code.Reading.{no_thing}
 use Rattle.syntax.proofs.NameLaws.{hit, miss, as-unknown, as-name}
 use Rattle.syntax.proofs.ReadingLaws.{as_none, as_some, ready_at, fresh-two}
@@ -9,7 +8,7 @@ use Rattle.syntax.proofs.TestLaws.{count-lost, number-fresh, number-found, count
 use Rattle.syntax.proofs.tests.read_count.Goals as goal
 
 pub returns-in_default : goal.returns-in_default
-returns-in_default c = λ σ o a w q y. no_thing (count-lost σ o a _ (miss c.stands.ensures (not-true _ c.if-not-stands.true)) (as-unknown c.number_at-h.ensures c.in_default.is))
+returns-in_default c = λ σ o a w q y. no_thing (count-lost σ o a _ (miss c.stands.ensures c.if-not-stands.true) (as-unknown c.number_at-h.ensures c.in_default.is))
 
 pub intern-requires : goal.intern-requires
 intern-requires c =
@@ -18,17 +17,17 @@ intern-requires c =
 pub returns-then-not-stands : goal.returns-then-not-stands
 returns-then-not-stands c =
     λ σ o a w q y.
-    number-found σ o a c.requires.readable c.requires.c_bound.1 c.requires.c_bound.0 q y (miss c.stands.ensures (not-true _ c.if-not-stands.true)) (as-name c.number_at-h.ensures c.in-Name.is) c.intern.ensures
+    number-found σ o a c.requires.readable c.requires.c_bound.1 c.requires.c_bound.0 q y (miss c.stands.ensures c.if-not-stands.true) (as-name c.number_at-h.ensures c.in-Name.is) c.intern.ensures
 
 pub read_term-p-requires : goal.read_term-p-requires
 read_term-p-requires c =
-    let h = hit c.stands.ensures (not-false _ c.if-not-stands.false) c.requires.readable.within in
+    let h = hit c.stands.ensures c.if-not-stands.false c.requires.readable.within in
     ready_at c.requires.readable (omega arith) h.fits
 
 pub returns-in_default-p : goal.returns-in_default-p
 returns-in_default-p c =
     λ σ o a w q y.
-    let h = hit c.stands.ensures (not-false _ c.if-not-stands.false) c.requires.readable.within in
+    let h = hit c.stands.ensures c.if-not-stands.false c.requires.readable.within in
     no_thing (count_none σ o a h (as_none (c.read_term-p.ensures σ w) c.in_default-p.is))
 
 pub stands-requires-2 : goal.stands-requires-2
@@ -38,9 +37,9 @@ stands-requires-2 c =
 pub returns-then-not-stands-2 : goal.returns-then-not-stands-2
 returns-then-not-stands-2 c =
     λ σ o a w q y.
-    let h = hit c.stands.ensures (not-false _ c.if-not-stands.false) c.requires.readable.within in
+    let h = hit c.stands.ensures c.if-not-stands.false c.requires.readable.within in
     let f = as_some (c.read_term-p.ensures σ w) c.in-Got.is in
-    no_thing (count-open σ o a h f (miss c.stands-2.ensures (not-true _ c.if-not-stands-2.true)))
+    no_thing (count-open σ o a h f (miss c.stands-2.ensures c.if-not-stands-2.true))
 
 pub overflow_add-e : goal.overflow_add-e
 overflow_add-e c =
@@ -50,13 +49,13 @@ overflow_add-e c =
 pub intern-requires-2 : goal.intern-requires-2
 intern-requires-2 c =
     let f = as_some (c.read_term-p.ensures c.requires.readable.choices c.requires.readable.knows) c.in-Got.is in
-    let h = hit c.stands.ensures (not-false _ c.if-not-stands.false) c.requires.readable.within in
+    let h = hit c.stands.ensures c.if-not-stands.false c.requires.readable.within in
     fresh-two (omega (arith, c.requires.readable.room, c.requires.readable.count, f.count, f.end, f.stays.size)) f.tidy (omega (arith, c.requires.c_bound.0)) (omega (arith, c.requires.c_bound.1, f.stays.more)) f.within
 
 pub returns : goal.returns
 returns c =
     λ σ o a w q y.
-    let h = hit c.stands.ensures (not-false _ c.if-not-stands.false) c.requires.readable.within in
+    let h = hit c.stands.ensures c.if-not-stands.false c.requires.readable.within in
     let f = as_some (c.read_term-p.ensures σ w) c.in-Got.is in
-    let h' = hit c.stands-2.ensures (not-false _ c.if-not-stands-2.false) f.end in
+    let h' = hit c.stands-2.ensures c.if-not-stands-2.false f.end in
     count-found σ o a h f c.requires.readable c.requires.c_bound.1 c.requires.c_bound.0 q y h' c.intern-2.ensures

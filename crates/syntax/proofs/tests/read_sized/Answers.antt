@@ -1,7 +1,6 @@
 -- `read_sized` reads a test of a count.
 -- Assumes nothing.
 use native.Mathlib.Omega.{arith}
-use borrow.Author.Tests.{not-true, not-false}
 use Rattle.syntax.specs.Code.Reading.{no_thing}
 use Rattle.syntax.proofs.ArenaLaws.{knows-later}
 use Rattle.syntax.proofs.NameLaws.{hit, miss, as-unknown, as-name}
@@ -20,7 +19,7 @@ pub returns-then-not-stands : goal.returns-then-not-stands
 returns-then-not-stands c =
     λ σ w.
     let f = as_some (c.read_term-p.ensures σ w) c.in-Got.is in
-    no_thing (sized-open σ f (miss c.stands.ensures (not-true _ c.if-not-stands.true)))
+    no_thing (sized-open σ f (miss c.stands.ensures c.if-not-stands.true))
 
 pub overflow_add-e : goal.overflow_add-e
 overflow_add-e c =
@@ -30,25 +29,25 @@ overflow_add-e c =
 pub cmp_at-h-requires : goal.cmp_at-h-requires
 cmp_at-h-requires c =
     let f = as_some (c.read_term-p.ensures c.requires.choices c.requires.knows) c.in-Got.is in
-    (hit c.stands.ensures (not-false _ c.if-not-stands.false) f.end).fits
+    (hit c.stands.ensures c.if-not-stands.false f.end).fits
 
 pub returns-in_default-h : goal.returns-in_default-h
 returns-in_default-h c =
     λ σ w.
     let f = as_some (c.read_term-p.ensures σ w) c.in-Got.is in
-    let h = hit c.stands.ensures (not-false _ c.if-not-stands.false) f.end in
+    let h = hit c.stands.ensures c.if-not-stands.false f.end in
     no_thing (sized-lost σ f h (as-unknown c.cmp_at-h.ensures c.in_default-h.is))
 
 pub read_count-requires : goal.read_count-requires
 read_count-requires c =
     let f = as_some (c.read_term-p.ensures c.requires.choices c.requires.knows) c.in-Got.is in
     let x = as-name c.cmp_at-h.ensures c.in-Name.is in
-    (ready_on c.requires f (omega (arith, x.more)) x.fits, (omega (arith, x.number_is, cmp-small x.thing), f.within))
+    record { readable = ready_on c.requires f (omega (arith, x.more)) x.fits; c_bound = (omega (arith, x.number_is, cmp-small x.thing), f.within) }
 
 pub returns : goal.returns
 returns c =
     λ σ w.
     let f = as_some (c.read_term-p.ensures σ w) c.in-Got.is in
-    let h = hit c.stands.ensures (not-false _ c.if-not-stands.false) f.end in
+    let h = hit c.stands.ensures c.if-not-stands.false f.end in
     let x = as-name c.cmp_at-h.ensures c.in-Name.is in
     sized-found σ f h x (c.read_count.ensures σ x.thing f.thing (knows-later f.stays w) x.number_is f.holds)

@@ -14,34 +14,25 @@ loop-rest-init c = (c.ranges.own.fits, c.ranges.over.fits, refl)
 
 pub returns-then-left-eq0 : goal.returns-then-left-eq0
 returns-then-left-eq0 c =
-    let args = c.args in
-    let L = c.loop-rest in
-    cover-none args.rows.now args.own args.over L.left L.rest L.invariant.2 c.if-left-eq0.true L.invariant.1 c.loop-rest-test.true
+    cover-none c.args.rows.now c.args.own c.args.over c.loop-rest.left c.loop-rest.rest c.loop-rest.invariant.2 c.if-left-eq0.true c.loop-rest.invariant.1 c.loop-rest-test.true
 
 pub loop-rest-smaller : goal.loop-rest-smaller
 loop-rest-smaller c =
-    let L = c.loop-rest in
-    let low = c.lowest-r.ensures in
-    let l = lowest-item L.invariant.0 c.if-left-eq0.false low in
-    rw (c.less-left.ensures, c.item.ensures) (less-smaller L.left c.lowest-r.result L.invariant.0 l (low.found l))
+    let l = lowest-item c.loop-rest.invariant.0 c.if-left-eq0.false c.lowest-r.ensures in
+    rw (c.less-left.ensures, c.item.ensures) (less-smaller c.loop-rest.left c.lowest-r.result c.loop-rest.invariant.0 l (c.lowest-r.ensures.found l))
 
 pub loop-rest-preserved : goal.loop-rest-preserved
 loop-rest-preserved c =
-    let args = c.args in
-    let L = c.loop-rest in
     let r : ℕ = c.lowest-r.result in
-    let low = c.lowest-r.ensures in
-    let l = lowest-item L.invariant.0 c.if-left-eq0.false low in
-    let left : c.less-left.result ≡ less_of L.left (item_of r) = c.less-left.ensures ∙ ap (less_of L.left) c.item.ensures in
-    let rest : c.less-rest.result ≡ less_of L.rest (get_or args.rows.now r 0) =
-    c.less-rest.ensures ∙ ap (less_of L.rest) c.row.ensures in (
-      rw left (less-lt L.left (item_of r)),
-      rw rest (less-lt L.rest (get_or args.rows.now r 0)),
-      rw (left, rest) (cover-turn args.rows.now L.rest L.left r l (low.found l) ∙ L.invariant.2),
+    let l = lowest-item c.loop-rest.invariant.0 c.if-left-eq0.false c.lowest-r.ensures in
+    let left : c.less-left.result ≡ less_of c.loop-rest.left (item_of r) = c.less-left.ensures ∙ ap (less_of c.loop-rest.left) c.item.ensures in
+    let rest : c.less-rest.result ≡ less_of c.loop-rest.rest (get_or c.args.rows.now r 0) =
+    c.less-rest.ensures ∙ ap (less_of c.loop-rest.rest) c.row.ensures in (
+      rw left (less-lt c.loop-rest.left (item_of r)),
+      rw rest (less-lt c.loop-rest.rest (get_or c.args.rows.now r 0)),
+      rw (left, rest) (cover-turn c.args.rows.now c.loop-rest.rest c.loop-rest.left r l (c.lowest-r.ensures.found l) ∙ c.loop-rest.invariant.2),
     )
 
 pub returns : goal.returns
 returns c =
-    let args = c.args in
-    let L = c.loop-rest in
-    cover-end args.rows.now args.own args.over L.left L.rest L.invariant.2 c.loop-rest-test.false
+    cover-end c.args.rows.now c.args.own c.args.over c.loop-rest.left c.loop-rest.rest c.loop-rest.invariant.2 c.loop-rest-test.false

@@ -7,8 +7,7 @@ use Rattle.tables.proofs.checks.failing_step.Goals as goal
 
 pub first_failing-requires : goal.first_failing-requires
 first_failing-requires c =
-    let pre = c.requires in
-    omega (arith, part_length c.args.words.now role_rows_at _ pre.whole (omega arith) pre.roles c.part.ensures, pre.roles)
+    omega (arith, part_length c.args.words.now role_rows_at _ c.requires.whole (omega arith) c.requires.roles c.part.ensures, c.requires.roles)
 
 pub returns : goal.returns
 returns c = λ T f b e. rank-part T f e b c.part.ensures c.first_failing.ensures

@@ -1,6 +1,5 @@
 -- `tables::checks::in_reach`: the active roles of each session passed are its user's own or their juniors.
 -- Assumes nothing.
-use borrow.Author.Tests.{not-true, not-false}
 use Prim.Native.Nat.{◌-◌}
 use lib.ListN.{length}
 use Rattle.tables.specs.Code.Reads.{reach_at, reaching}
@@ -10,25 +9,22 @@ use Rattle.tables.proofs.checks.in_reach.Goals as goal
 
 pub loop-s-init : goal.loop-s-init
 loop-s-init c =
-    let args = c.args in
-    passed_none (length args.active.now) (reach_at args.rows.now args.assigned.now args.users.now args.active.now)
+    passed_none (length c.args.active.now) (reach_at c.args.rows.now c.args.assigned.now c.args.users.now c.args.active.now)
 
 pub returns-then-not-covered : goal.returns-then-not-covered
 unfolding reaching
 returns-then-not-covered c =
-    let args = c.args in
     let found =
-    reach-found args.rows.now args.assigned.now args.users.now args.active.now c.loop-s.s c.image-own.ensures c.less.ensures
+    reach-found c.args.rows.now c.args.assigned.now c.args.users.now c.args.active.now c.loop-s.s c.image-own.ensures c.less.ensures
     c.covered.ensures in
-    passed-not c.loop-s.invariant c.loop-s-test.true found (not-true _ c.if-not-covered.true)
+    passed-not c.loop-s.invariant c.loop-s-test.true found c.if-not-covered.true
 
 pub loop-s-preserved : goal.loop-s-preserved
 loop-s-preserved c =
-    let args = c.args in
     let found =
-    reach-found args.rows.now args.assigned.now args.users.now args.active.now c.loop-s.s c.image-own.ensures c.less.ensures
+    reach-found c.args.rows.now c.args.assigned.now c.args.users.now c.args.active.now c.loop-s.s c.image-own.ensures c.less.ensures
     c.covered.ensures in
-    passed-more c.loop-s.invariant c.loop-s-test.true found (not-false _ c.if-not-covered.false)
+    passed-more c.loop-s.invariant c.loop-s-test.true found c.if-not-covered.false
 
 pub returns : goal.returns
 unfolding reaching

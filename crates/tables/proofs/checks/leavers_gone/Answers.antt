@@ -7,14 +7,8 @@ use Rattle.tables.proofs.checks.leavers_gone.Goals as goal
 
 pub returns-then-present-all : goal.returns-then-present-all
 returns-then-present-all c =
-    let at_all = c.all in
-    λ T f b e. sym (present-part T f e (c.if-present-all.true ∙ at_all.ensures))
+    λ T f b e. sym (present-part T f e (c.if-present-all.true ∙ c.all.ensures))
 
 pub returns : goal.returns
 returns c =
-    let at_less = c.less in
-    let at_part = c.part-rows in
-    let at-part2 = c.part-theirs in
-    let at-part3 = c.part-cu in
-    let at-users-met = c.users_met in
-    λ T f b e. ap (λ w. eqb w 0) at_less.ensures ∙ leavers-part T f e b at_part.ensures at-part2.ensures at-part3.ensures at-users-met.ensures
+    λ T f b e. ap (λ w. eqb w 0) c.less.ensures ∙ leavers-part T f e b c.part-rows.ensures c.part-theirs.ensures c.part-cu.ensures c.users_met.ensures

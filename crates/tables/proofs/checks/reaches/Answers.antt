@@ -8,14 +8,9 @@ use Rattle.tables.proofs.checks.reaches.Goals as goal
 
 pub in_reach-requires : goal.in_reach-requires
 in_reach-requires c =
-    let words = c.args.words.now in
-    let pre = c.requires in
-    part_length words session_users_at _ pre.whole (omega arith) pre.sessions c.part-theirs.ensures
-    ∙ sym (part_length words session_roles_at _ pre.whole (omega arith) pre.sessions c.part-active.ensures)
+    part_length c.args.words.now session_users_at _ c.requires.whole (omega arith) c.requires.sessions c.part-theirs.ensures
+    ∙ sym (part_length c.args.words.now session_roles_at _ c.requires.whole (omega arith) c.requires.sessions c.part-active.ensures)
 
 pub returns : goal.returns
 returns c =
-    let part = c.part-rows in
-    let part2 = c.part-assigned in
-    let part3 = c.part-theirs in
-    λ T f b ok e. c.in_reach.ensures ∙ reach-part T f e b ok part.ensures part2.ensures part3.ensures c.part-active.ensures
+    λ T f b ok e. c.in_reach.ensures ∙ reach-part T f e b ok c.part-rows.ensures c.part-assigned.ensures c.part-theirs.ensures c.part-active.ensures

@@ -3,7 +3,6 @@
 use Prim.Native.Nat.{◌-◌}
 use native.Mathlib.Omega.{arith}
 use lib.ListN.{length}
-use borrow.Author.Tests.{not-true, not-false}
 use Rattle.tables.specs.Checks.{reflexive}
 use Rattle.tables.proofs.AllLaws.{passed_none, passed-more, passed-not, passed-all}
 use Rattle.tables.proofs.hierarchy.reflexive.Goals as goal
@@ -16,10 +15,10 @@ contains-requires c = omega (arith, c.loop-r-test.true, c.requires)
 
 pub returns-then-not-contains : goal.returns-then-not-contains
 unfolding reflexive
-returns-then-not-contains c = passed-not c.loop-r.invariant c.loop-r-test.true c.contains.ensures (not-true _ c.if-not-contains.true)
+returns-then-not-contains c = passed-not c.loop-r.invariant c.loop-r-test.true c.contains.ensures c.if-not-contains.true
 
 pub loop-r-preserved : goal.loop-r-preserved
-loop-r-preserved c = passed-more c.loop-r.invariant c.loop-r-test.true c.contains.ensures (not-false _ c.if-not-contains.false)
+loop-r-preserved c = passed-more c.loop-r.invariant c.loop-r-test.true c.contains.ensures c.if-not-contains.false
 
 pub returns : goal.returns
 unfolding reflexive

@@ -3,7 +3,6 @@
 use Prim.Native.Nat.{◌-◌}
 use mathlib.Core.Path.{◌∙◌}
 use lib.ListN.{length}
-use borrow.Author.Tests.{not-true, not-false}
 use Rattle.tables.specs.Code.Reads.{closed_at}
 use Rattle.tables.proofs.RankLaws.{transitive-rows}
 use Rattle.tables.proofs.AllLaws.{passed_none, passed-more, passed-not, passed-all}
@@ -16,10 +15,10 @@ pub closed-requires : goal.closed-requires
 closed-requires c = c.loop-r-test.true
 
 pub returns-then-not-closed : goal.returns-then-not-closed
-returns-then-not-closed c = λ below. passed-not c.loop-r.invariant c.loop-r-test.true c.closed.ensures (not-true _ c.if-not-closed.true) ∙ transitive-rows c.args.rows.now c.requires below
+returns-then-not-closed c = λ below. passed-not c.loop-r.invariant c.loop-r-test.true c.closed.ensures c.if-not-closed.true ∙ transitive-rows c.args.rows.now c.requires below
 
 pub loop-r-preserved : goal.loop-r-preserved
-loop-r-preserved c = passed-more c.loop-r.invariant c.loop-r-test.true c.closed.ensures (not-false _ c.if-not-closed.false)
+loop-r-preserved c = passed-more c.loop-r.invariant c.loop-r-test.true c.closed.ensures c.if-not-closed.false
 
 pub returns : goal.returns
 returns c = λ below. passed-all c.loop-r.invariant c.loop-r-test.false ∙ transitive-rows c.args.rows.now c.requires below

@@ -7,5 +7,4 @@ use Rattle.tables.proofs.layout.part.Goals as goal
 
 pub returns : goal.returns
 returns c =
-    let args = c.args in
-    let q : args.from + args.n - args.from ≡ args.n = omega arith in rw q
+    let q : c.args.from + c.args.n - c.args.from ≡ c.args.n = omega arith in rw q

@@ -9,11 +9,8 @@ use Rattle.tables.proofs.rows.byte.Goals as goal
 
 pub returns-then-at-bytes : goal.returns-then-at-bytes
 returns-then-at-bytes c =
-    let args = c.args in
-    let if1 = c.if-at-bytes in
-    takes {n = args.at + 1} (byte-took args.bytes.now args.at if1.true) (omega arith) (sym c.wide.ensures)
+    takes {n = c.args.at + 1} (byte-took c.args.bytes.now c.args.at c.if-at-bytes.true) (omega arith) (sym c.wide.ensures)
 
 pub returns : goal.returns
 returns c =
-    let args = c.args in
-    stops (byte_cut args.bytes.now args.at c.if-at-bytes.false)
+    stops (byte_cut c.args.bytes.now c.args.at c.if-at-bytes.false)

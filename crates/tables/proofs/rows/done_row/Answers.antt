@@ -7,32 +7,23 @@ use Rattle.tables.proofs.rows.done_row.Goals as goal
 
 pub returns-then-bytes-at-lt3 : goal.returns-then-bytes-at-lt3
 returns-then-bytes-at-lt3 c =
-    let args = c.args in
-    stops (done-cut args.bytes.now args.at args.users args.operations args.objects c.if-bytes-at-lt3.true)
+    stops (done-cut c.args.bytes.now c.args.at c.args.users c.args.operations c.args.objects c.if-bytes-at-lt3.true)
 
 pub returns-then-users-user : goal.returns-then-users-user
 returns-then-users-user c =
-    let args = c.args in
-    let pre = c.requires in
-    stops (done-no-user args.bytes.now args.at args.users args.operations args.objects (omega (arith, pre)) (omega (arith, c.wide-user.ensures)))
+    stops (done-no-user c.args.bytes.now c.args.at c.args.users c.args.operations c.args.objects (omega (arith, c.requires)) (omega (arith, c.wide-user.ensures)))
 
 pub returns-then-operations-wide : goal.returns-then-operations-wide
 returns-then-operations-wide c =
-    let args = c.args in
-    let pre = c.requires in
-    stops (done-no-operation args.bytes.now args.at args.users args.operations args.objects (omega (arith, pre))
+    stops (done-no-operation c.args.bytes.now c.args.at c.args.users c.args.operations c.args.objects (omega (arith, c.requires))
     (omega (arith, c.wide-user.ensures)) (omega (arith, c.wide.ensures)))
 
 pub returns-then-objects-wide : goal.returns-then-objects-wide
 returns-then-objects-wide c =
-    let args = c.args in
-    let pre = c.requires in
-    stops (done-no-object args.bytes.now args.at args.users args.operations args.objects (omega (arith, pre))
+    stops (done-no-object c.args.bytes.now c.args.at c.args.users c.args.operations c.args.objects (omega (arith, c.requires))
     (omega (arith, c.wide-user.ensures)) (omega (arith, c.wide.ensures)) (omega (arith, c.wide-2.ensures)))
 
 pub returns : goal.returns
 returns c =
-    let args = c.args in
-    let pre = c.requires in
-    done-row args.bytes.now args.at args.users args.operations args.objects (omega (arith, pre))
+    done-row c.args.bytes.now c.args.at c.args.users c.args.operations c.args.objects (omega (arith, c.requires))
     (omega (arith, c.wide-user.ensures)) (omega (arith, c.wide.ensures)) (omega (arith, c.wide-2.ensures))

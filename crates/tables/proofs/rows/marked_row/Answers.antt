@@ -7,24 +7,16 @@ use Rattle.tables.proofs.rows.marked_row.Goals as goal
 
 pub returns-then-bytes-at-lt9 : goal.returns-then-bytes-at-lt9
 returns-then-bytes-at-lt9 c =
-    let args = c.args in
-    stops (marked-cut args.bytes.now args.at args.highest args.n c.if-bytes-at-lt9.true)
+    stops (marked-cut c.args.bytes.now c.args.at c.args.highest c.args.n c.if-bytes-at-lt9.true)
 
 pub returns-then-mark-eq0 : goal.returns-then-mark-eq0
 returns-then-mark-eq0 c =
-    let args = c.args in
-    let pre = c.requires in
-    stops (marked-none args.bytes.now args.at args.highest args.n (omega (arith, pre)) c.if-mark-eq0.true)
+    stops (marked-none c.args.bytes.now c.args.at c.args.highest c.args.n (omega (arith, c.requires)) c.if-mark-eq0.true)
 
 pub returns-then-highest-mark : goal.returns-then-highest-mark
 returns-then-highest-mark c =
-    let args = c.args in
-    let pre = c.requires in
-    stops (marked-bad args.bytes.now args.at args.highest args.n (omega (arith, pre)) c.if-highest-mark.true)
+    stops (marked-bad c.args.bytes.now c.args.at c.args.highest c.args.n (omega (arith, c.requires)) c.if-highest-mark.true)
 
 pub returns : goal.returns
 returns c =
-    let args = c.args in
-    let pre = c.requires in
-    let if2 = c.if-mark-eq0 in
-    marked_row_lem args.bytes.now args.at args.highest args.n (omega (arith, pre)) if2.false c.if-highest-mark.false c.word_within.ensures
+    marked_row_lem c.args.bytes.now c.args.at c.args.highest c.args.n (omega (arith, c.requires)) c.if-mark-eq0.false c.if-highest-mark.false c.word_within.ensures

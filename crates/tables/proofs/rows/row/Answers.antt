@@ -6,13 +6,11 @@ use Rattle.tables.proofs.rows.row.Goals as goal
 
 pub word_row-requires : goal.word_row-requires
 word_row-requires c =
-    let pre = c.requires in
-    (pre.0, rw c.in-Plain.is at pre.1)
+    record { at_in_bounds = c.requires.at_in_bounds; n_bound = rw c.in-Plain.is at c.requires.row_fits }
 
 pub marked_row-requires : goal.marked_row-requires
 marked_row-requires c =
-    let pre = c.requires in
-    (pre.0, rw c.in-Marked.is at pre.1)
+    record { at_in_bounds = c.requires.at_in_bounds; n_bound = rw c.in-Marked.is at c.requires.row_fits }
 
 pub returns-in-Plain : goal.returns-in-Plain
 returns-in-Plain c = rw c.in-Plain.is c.word_row.ensures

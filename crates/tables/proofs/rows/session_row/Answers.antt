@@ -7,19 +7,13 @@ use Rattle.tables.proofs.rows.session_row.Goals as goal
 
 pub returns-then-bytes-at-lt9 : goal.returns-then-bytes-at-lt9
 returns-then-bytes-at-lt9 c =
-    let args = c.args in
-    stops (session-cut args.bytes.now args.at args.users args.n c.if-bytes-at-lt9.true)
+    stops (session-cut c.args.bytes.now c.args.at c.args.users c.args.n c.if-bytes-at-lt9.true)
 
 pub returns-then-users-user : goal.returns-then-users-user
 returns-then-users-user c =
-    let args = c.args in
-    let pre = c.requires in
-    stops (session-none args.bytes.now args.at args.users args.n (omega (arith, pre)) (omega (arith, c.wide-user.ensures)))
+    stops (session-none c.args.bytes.now c.args.at c.args.users c.args.n (omega (arith, c.requires)) (omega (arith, c.wide-user.ensures)))
 
 pub returns : goal.returns
 returns c =
-    let args = c.args in
-    let pre = c.requires in
-    let wide = c.wide-user in
-    session-row args.bytes.now args.at args.users args.n (omega (arith, pre)) (omega (arith, wide.ensures))
+    session-row c.args.bytes.now c.args.at c.args.users c.args.n (omega (arith, c.requires)) (omega (arith, c.wide-user.ensures))
     c.word_within.ensures

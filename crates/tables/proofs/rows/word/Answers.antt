@@ -10,28 +10,18 @@ loop-i-init c = word_none _ _ c.requires
 
 pub overflow_mul-w : goal.overflow_mul-w
 overflow_mul-w c =
-    let pre = c.requires in
-    record { fits = word-shift _ _ pre c.loop-i-test.true c.loop-i.invariant }
+    record { fits = word-shift _ _ c.requires c.loop-i-test.true c.loop-i.invariant }
 
 pub overflow_add-w : goal.overflow_add-w
 overflow_add-w c =
-    let args = c.args in
-    let pre = c.requires in
-    let loop = c.loop-i in
-    let loop-test = c.loop-i-test in
-    let b = c.shared_slice_known-in-loop-i-1.given (args.at + (loop.i - 1)) in
-    record { fits = word_fits _ _ pre (word_more _ _ pre loop-test.true c.wide.ensures (omega (arith, c.wide.ensures)) loop.invariant) }
+    let b = c.shared_slice_known-in-loop-i-1.given (c.args.at + (c.loop-i.i - 1)) in
+    record { fits = word_fits _ _ c.requires (word_more _ _ c.requires c.loop-i-test.true c.wide.ensures (omega (arith, c.wide.ensures)) c.loop-i.invariant) }
 
 pub loop-i-preserved : goal.loop-i-preserved
 loop-i-preserved c =
-    let args = c.args in
-    let pre = c.requires in
-    let loop = c.loop-i in
-    let loop-test = c.loop-i-test in
-    let b = c.shared_slice_known-in-loop-i-1.given (args.at + (loop.i - 1)) in
-    word_more _ _ pre loop-test.true c.wide.ensures (omega (arith, c.wide.ensures)) loop.invariant
+    let b = c.shared_slice_known-in-loop-i-1.given (c.args.at + (c.loop-i.i - 1)) in
+    word_more _ _ c.requires c.loop-i-test.true c.wide.ensures (omega (arith, c.wide.ensures)) c.loop-i.invariant
 
 pub returns : goal.returns
 returns c =
-    let pre = c.requires in
-    word-all _ _ pre c.loop-i-test.false c.loop-i.invariant
+    word-all _ _ c.requires c.loop-i-test.false c.loop-i.invariant

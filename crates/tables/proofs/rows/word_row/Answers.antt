@@ -7,11 +7,8 @@ use Rattle.tables.proofs.rows.word_row.Goals as goal
 
 pub returns-then-bytes-at-lt8 : goal.returns-then-bytes-at-lt8
 returns-then-bytes-at-lt8 c =
-    let args = c.args in
-    stops (word-row-cut args.bytes.now args.at args.n c.if-bytes-at-lt8.true)
+    stops (word-row-cut c.args.bytes.now c.args.at c.args.n c.if-bytes-at-lt8.true)
 
 pub returns : goal.returns
 returns c =
-    let args = c.args in
-    let pre = c.requires in
-    rw (word_row_lem args.bytes.now args.at args.n (omega (arith, pre))) c.word_within.ensures
+    rw (word_row_lem c.args.bytes.now c.args.at c.args.n (omega (arith, c.requires))) c.word_within.ensures

@@ -9,17 +9,8 @@ use Rattle.tables.proofs.rows.word_within.Goals as goal
 
 pub returns-then-outside : goal.returns-then-outside
 returns-then-outside c =
-    let args = c.args in
-    let word = c.word-w in
-    let s = args.bytes.now in
-    let at = args.at in
-    stops (within-over args.n (take 8 (drop at s)) (drop (at + 8) s) word.ensures c.outside.ensures c.if-outside.true)
+    stops (within-over c.args.n (take 8 (drop c.args.at c.args.bytes.now)) (drop (c.args.at + 8) c.args.bytes.now) c.word-w.ensures c.outside.ensures c.if-outside.true)
 
 pub returns : goal.returns
 returns c =
-    let args = c.args in
-    let pre = c.requires in
-    let word = c.word-w in
-    let s = args.bytes.now in
-    let at = args.at in
-    takes {n = at + 8} (within-took args.n (take 8 (drop at s)) (drop (at + 8) s) word.ensures c.outside.ensures c.if-outside.false) pre.0 refl
+    takes {n = c.args.at + 8} (within-took c.args.n (take 8 (drop c.args.at c.args.bytes.now)) (drop (c.args.at + 8) c.args.bytes.now) c.word-w.ensures c.outside.ensures c.if-outside.false) c.requires.at_in_bounds refl

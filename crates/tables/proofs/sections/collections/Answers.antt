@@ -8,44 +8,25 @@ use Rattle.tables.proofs.sections.collections.Goals as goal
 
 pub returns-in_default : goal.returns-in_default
 returns-in_default c =
-    let args = c.args in
-    let section = c.section-first in
-    stops_as c.in_default.is (collections-stop args.bytes.now args.at args.roles args.users args.permissions (as-stop section.ensures c.in_default.is))
+    stops_as c.in_default.is (collections-stop c.args.bytes.now c.args.at c.args.roles c.args.users c.args.permissions (as-stop c.section-first.ensures c.in_default.is))
 
 pub section-second-requires : goal.section-second-requires
 section-second-requires c =
-    let pre = c.requires in
-    let section = c.section-first in
-    let first = c.first-1 in
-    let f = as-took section.ensures first.given.1 in
-    (f.within, ((pre.1.0.1, section.auto.1.1.1.0 ∙ pre.1.1), (omega arith, omega arith)))
+    let f = as-took c.section-first.ensures c.in-Took.is in
+    record { at_in_bounds = f.within; row_fits = (c.requires.roles_bound.1, c.section-first.auto.words ∙ c.requires.whole); place_lt_room = (omega arith, omega arith) }
 
 pub returns-in_default-second : goal.returns-in_default-second
 returns-in_default-second c =
-    let args = c.args in
-    let section = c.section-first in
-    let first = c.first-1 in
-    let section2 = c.section-second in
-    let f = as-took section.ensures first.given.1 in
-    stops_as c.in_default-second.is (collections-stop-2 args.bytes.now args.at args.roles args.users args.permissions f (as-stop section2.ensures c.in_default-second.is))
+    let f = as-took c.section-first.ensures c.in-Took.is in
+    stops_as c.in_default-second.is (collections-stop-2 c.args.bytes.now c.args.at c.args.roles c.args.users c.args.permissions f (as-stop c.section-second.ensures c.in_default-second.is))
 
 pub section-requires : goal.section-requires
 section-requires c =
-    let pre = c.requires in
-    let section = c.section-first in
-    let section2 = c.section-second in
-    let second = c.second-1 in
-    let g = as-took section2.ensures second.given.1 in
-    (g.within, ((omega (arith, pre), section2.auto.1.1.1.0 ∙ section.auto.1.1.1.0 ∙ pre.1.1), (omega arith, omega arith)))
+    let g = as-took c.section-second.ensures c.in-Took-second.is in
+    record { at_in_bounds = g.within; row_fits = (omega (arith, c.requires), c.section-second.auto.words ∙ c.section-first.auto.words ∙ c.requires.whole); place_lt_room = (omega arith, omega arith) }
 
 pub returns : goal.returns
 returns c =
-    let args = c.args in
-    let section = c.section-first in
-    let first = c.first-1 in
-    let section2 = c.section-second in
-    let second = c.second-1 in
-    let section3 = c.section in
-    let f = as-took section.ensures first.given.1 in
-    let g = as-took section2.ensures second.given.1 in
-    collections-all args.bytes.now args.at args.roles args.users args.permissions f g section3.ensures
+    let f = as-took c.section-first.ensures c.in-Took.is in
+    let g = as-took c.section-second.ensures c.in-Took-second.is in
+    collections-all c.args.bytes.now c.args.at c.args.roles c.args.users c.args.permissions f g c.section.ensures

@@ -12,10 +12,8 @@ use Rattle.tables.proofs.sections.done.Goals as goal
 
 pub returns-in_default : goal.returns-in_default
 returns-in_default c =
-    let args = c.args in
-    let words = args.words.now in
     stops_as c.in_default.is
-    (section-stop args.bytes.now args.at (λ n. done_row args.users (get_or words operation_count_at 0) (get_or words object_count_at 0))
+    (section-stop c.args.bytes.now c.args.at (λ n. done_row c.args.users (get_or c.args.words.now operation_count_at 0) (get_or c.args.words.now object_count_at 0))
     (as-stop c.count-read.ensures c.in_default.is))
 
 pub bounds-words-4 : goal.bounds-words-4
@@ -26,17 +24,14 @@ bounds-words-5 c = omega (arith, c.requires)
 
 pub done_rows-requires : goal.done_rows-requires
 done_rows-requires c =
-    let pre = c.requires in
     let g = as-took c.count-read.ensures c.in-Took.is in
-    (g.within, (g.holds.few, simp length-set pre.1))
+    record { at_in_bounds = g.within; n_le_room = g.holds.few; whole = simp length-set c.requires.whole }
 
 pub shape_of-words : goal.shape_of-words
-shape_of-words c = c.done_rows.auto.1.1.1.1.1.1.0 ∙ simp length-set
+shape_of-words c = c.done_rows.auto.words ∙ simp length-set
 
 pub returns : goal.returns
 returns c =
-    let args = c.args in
-    let words = args.words.now in
     let g = as-took c.count-read.ensures c.in-Took.is in
-    section-on args.bytes.now args.at (λ n. done_row args.users (get_or words operation_count_at 0) (get_or words object_count_at 0)) g
-    (reads_as c.done_rows.ensures (λ ds v x. counted put_deeds words done_count_at _ g.holds.few x))
+    section-on c.args.bytes.now c.args.at (λ n. done_row c.args.users (get_or c.args.words.now operation_count_at 0) (get_or c.args.words.now object_count_at 0)) g
+    (reads_as c.done_rows.ensures (λ ds v x. counted put_deeds c.args.words.now done_count_at _ g.holds.few x))

@@ -10,8 +10,7 @@ use Rattle.tables.proofs.sections.done_rows.Goals as goal
 
 pub loop-i-init : goal.loop-i-init
 loop-i-init c =
-    let args = c.args in
-    deeds-none (done_row args.users args.operations args.objects) args.n args.bytes.now args.at args.words.now c.requires.at_in_bounds
+    deeds-none (done_row c.args.users c.args.operations c.args.objects) c.args.n c.args.bytes.now c.args.at c.args.words.now c.requires.at_in_bounds
 
 pub done_row-row-requires : goal.done_row-row-requires
 done_row-row-requires c = c.loop-i.invariant.along.within
@@ -21,29 +20,24 @@ shape_of-words-in_default c = c.loop-i.invariant.long
 
 pub returns-in_default : goal.returns-in_default
 returns-in_default c =
-    let args = c.args in
     stops_as c.in_default.is
-    (along-stop (done_row args.users args.operations args.objects) args.n c.loop-i.invariant.along c.loop-i-test.true
+    (along-stop (done_row c.args.users c.args.operations c.args.objects) c.args.n c.loop-i.invariant.along c.loop-i-test.true
     (as-stop c.done_row-row.ensures c.in_default.is))
 
 pub store_deed-requires : goal.store_deed-requires
 store_deed-requires c =
-    let pre = c.requires in
     let got = as-took c.done_row-row.ensures c.in-Took.is in
-    (got.holds.complete, (omega (arith, c.loop-i-test.true, pre.1.0), c.loop-i.invariant.long ∙ pre.1.1))
+    record { from_in_bounds = got.holds.complete; i_lt_room = (omega (arith, c.loop-i-test.true, c.requires.n_le_room), c.loop-i.invariant.long ∙ c.requires.whole) }
 
 pub loop-i-preserved : goal.loop-i-preserved
 loop-i-preserved c =
-    let args = c.args in
-    let pre = c.requires in
     let got = as-took c.done_row-row.ensures c.in-Took.is in
     rw c.store_deed.ensures
-    (deeds-more (done_row args.users args.operations args.objects) args.n c.loop-i.invariant c.loop-i-test.true pre.1.0 got)
+    (deeds-more (done_row c.args.users c.args.operations c.args.objects) c.args.n c.loop-i.invariant c.loop-i-test.true c.requires.n_le_room got)
 
 pub shape_of-words : goal.shape_of-words
 shape_of-words c = c.loop-i.invariant.long
 
 pub returns : goal.returns
 returns c =
-    let args = c.args in
-    storing-all (done_row args.users args.operations args.objects) args.n c.loop-i.invariant c.loop-i-test.false
+    storing-all (done_row c.args.users c.args.operations c.args.objects) c.args.n c.loop-i.invariant c.loop-i-test.false

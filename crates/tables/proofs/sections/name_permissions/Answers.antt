@@ -12,35 +12,25 @@ loop-p-init c = (omega arith, names-none c.args.words.now c.args.objects, c.requ
 
 pub nonzero_rem-p : goal.nonzero_rem-p
 nonzero_rem-p c =
-    let pre = c.requires in
-    omega (arith, pre)
+    omega (arith, c.requires)
 
 pub nonzero_div-p : goal.nonzero_div-p
 nonzero_div-p c =
-    let pre = c.requires in
-    omega (arith, pre)
+    omega (arith, c.requires)
 
 pub bounds-words-p-in-loop-p : goal.bounds-words-p-in-loop-p
 bounds-words-p-in-loop-p c =
-    let pre = c.requires in
-    let loop = c.loop-p in
-    simp length-set (omega (arith, pre, loop.invariant))
+    simp length-set (omega (arith, c.requires, c.loop-p.invariant))
 
 pub loop-p-preserved : goal.loop-p-preserved
 loop-p-preserved c =
-    let args = c.args in
-    let pre = c.requires in
-    let loop = c.loop-p in
-    let e = names_more args.words.now loop.p args.objects (omega (arith, pre)) c.item.ensures c.item-in-loop-p.ensures loop.invariant.1 in
-    (omega arith, e, names-long args.words.now (loop.p + 1) args.objects e ∙ pre.1)
+    let e = names_more c.args.words.now c.loop-p.p c.args.objects (omega (arith, c.requires)) c.item.ensures c.item-in-loop-p.ensures c.loop-p.invariant.1 in
+    (omega arith, e, names-long c.args.words.now (c.loop-p.p + 1) c.args.objects e ∙ c.requires.whole)
 
 pub shape_of-words : goal.shape_of-words
 shape_of-words c =
-    let pre = c.requires in
-    c.loop-p.invariant.2 ∙ sym pre.1
+    c.loop-p.invariant.2 ∙ sym c.requires.whole
 
 pub returns : goal.returns
 returns c =
-    let args = c.args in
-    let loop = c.loop-p in
-    let q : loop.p ≡ args.n = omega (arith, c.loop-p-test.false, loop.invariant.0) in rw q at loop.invariant.1
+    let q : c.loop-p.p ≡ c.args.n = omega (arith, c.loop-p-test.false, c.loop-p.invariant.0) in rw q at c.loop-p.invariant.1

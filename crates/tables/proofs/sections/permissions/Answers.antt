@@ -11,39 +11,24 @@ use Rattle.tables.proofs.sections.permissions.Goals as goal
 
 pub returns-in_default : goal.returns-in_default
 returns-in_default c =
-    let args = c.args in
-    let byte = c.byte-read in
     stops_as c.in_default.is
-    (permissions-stop args.bytes.now args.at args.product args.roles (as-stop byte.ensures c.in_default.is))
+    (permissions-stop c.args.bytes.now c.args.at c.args.product c.args.roles (as-stop c.byte-read.ensures c.in_default.is))
 
 pub returns-then-value-product : goal.returns-then-value-product
 returns-then-value-product c =
-    let args = c.args in
-    let byte = c.byte-read in
-    let read = c.read-1 in
-    stops (permissions-wrong args.bytes.now args.at args.product args.roles (as-took byte.ensures read.given.1) c.if-value-product.true)
+    stops (permissions-wrong c.args.bytes.now c.args.at c.args.product c.args.roles (as-took c.byte-read.ensures c.in-Took.is) c.if-value-product.true)
 
 pub rows-requires : goal.rows-requires
 rows-requires c =
-    let pre = c.requires in
-    let byte = c.byte-read in
-    let read = c.read-1 in
-    let g = as-took byte.ensures read.given.1 in
-    (g.within, ((omega (arith, c.if-value-product.false, pre), pre.1.1), (omega arith, simp length-set pre.1.2)))
+    let g = as-took c.byte-read.ensures c.in-Took.is in
+    record { at_in_bounds = g.within; n_le_room = (omega (arith, c.if-value-product.false, c.requires), c.requires.product_bound.1); room_bound = (omega arith, simp length-set c.requires.product_bound.2) }
 
 pub shape_of-words : goal.shape_of-words
 shape_of-words c =
-    let rows = c.rows in
-    rows.auto.1.1.1.1.0 ∙ simp length-set
+    c.rows.auto.words ∙ simp length-set
 
 pub returns : goal.returns
 returns c =
-    let args = c.args in
-    let pre = c.requires in
-    let byte = c.byte-read in
-    let read = c.read-1 in
-    let if1 = c.if-value-product in
-    let rows = c.rows in
-    let g = as-took byte.ensures read.given.1 in
-    permissions-on args.bytes.now args.at args.product args.roles g if1.false
-    (reads_as rows.ensures (λ xs v x. record { section = counted (rows_from permission_rows_at) args.words.now permission_count_at _ (omega (arith, if1.false, pre)) x; all = x.all ∙ if1.false }))
+    let g = as-took c.byte-read.ensures c.in-Took.is in
+    permissions-on c.args.bytes.now c.args.at c.args.product c.args.roles g c.if-value-product.false
+    (reads_as c.rows.ensures (λ xs v x. record { section = counted (rows_from permission_rows_at) c.args.words.now permission_count_at _ (omega (arith, c.if-value-product.false, c.requires)) x; all = x.all ∙ c.if-value-product.false }))

@@ -12,28 +12,18 @@ use Rattle.tables.proofs.sections.roles.Goals as goal
 
 pub returns-in_default : goal.returns-in_default
 returns-in_default c =
-    let args = c.args in
-    let count = c.count-read in
-    stops_as c.in_default.is (section-stop args.bytes.now 0 (λ n. word_row n) (as-stop count.ensures c.in_default.is))
+    stops_as c.in_default.is (section-stop c.args.bytes.now 0 (λ n. word_row n) (as-stop c.count-read.ensures c.in_default.is))
 
 pub rows-requires : goal.rows-requires
 rows-requires c =
-    let pre = c.requires in
-    let count = c.count-read in
-    let read = c.read-1 in
-    let g = as-took count.ensures read.given.1 in
-    (g.within, ((g.holds.few, g.holds.few), (omega arith, simp length-set pre)))
+    let g = as-took c.count-read.ensures c.in-Took.is in
+    record { at_in_bounds = g.within; n_le_room = (g.holds.few, g.holds.few); room_bound = (omega arith, simp length-set c.requires) }
 
 pub shape_of-words : goal.shape_of-words
 shape_of-words c =
-    let rows = c.rows in
-    rows.auto.1.1.1.1.0 ∙ simp length-set
+    c.rows.auto.words ∙ simp length-set
 
 pub returns : goal.returns
 returns c =
-    let args = c.args in
-    let count = c.count-read in
-    let read = c.read-1 in
-    let rows = c.rows in
-    let g = as-took count.ensures read.given.1 in
-    section-on args.bytes.now 0 (λ n. word_row n) g (reads_as rows.ensures (λ xs v x. counted (rows_from role_rows_at) args.words.now role_count_at _ g.holds.few x))
+    let g = as-took c.count-read.ensures c.in-Took.is in
+    section-on c.args.bytes.now 0 (λ n. word_row n) g (reads_as c.rows.ensures (λ xs v x. counted (rows_from role_rows_at) c.args.words.now role_count_at _ g.holds.few x))

@@ -9,28 +9,18 @@ use Rattle.tables.proofs.sections.section.Goals as goal
 
 pub returns-in_default : goal.returns-in_default
 returns-in_default c =
-    let args = c.args in
-    let count = c.count-read in
-    stops_as c.in_default.is (section-stop args.bytes.now args.at (λ n. row_of args.kind) (as-stop count.ensures c.in_default.is))
+    stops_as c.in_default.is (section-stop c.args.bytes.now c.args.at (λ n. row_of c.args.kind) (as-stop c.count-read.ensures c.in_default.is))
 
 pub rows-requires : goal.rows-requires
 rows-requires c =
-    let pre = c.requires in
-    let count = c.count-read in
-    let read = c.read-1 in
-    let g = as-took count.ensures read.given.1 in
-    (g.within, ((g.holds.few, pre.1.0.0), (pre.1.1.1, simp length-set pre.1.0.1)))
+    let g = as-took c.count-read.ensures c.in-Took.is in
+    record { at_in_bounds = g.within; n_le_room = (g.holds.few, c.requires.row_fits.0); room_bound = (c.requires.place_lt_room.1, simp length-set c.requires.row_fits.1) }
 
 pub shape_of-words : goal.shape_of-words
 shape_of-words c =
-    let rows = c.rows in
-    rows.auto.1.1.1.1.0 ∙ simp length-set
+    c.rows.auto.words ∙ simp length-set
 
 pub returns : goal.returns
 returns c =
-    let args = c.args in
-    let count = c.count-read in
-    let read = c.read-1 in
-    let rows = c.rows in
-    let g = as-took count.ensures read.given.1 in
-    section-on args.bytes.now args.at (λ n. row_of args.kind) g (reads_as rows.ensures (λ xs v x. counted (rows_from args.to) args.words.now args.place _ g.holds.few x))
+    let g = as-took c.count-read.ensures c.in-Took.is in
+    section-on c.args.bytes.now c.args.at (λ n. row_of c.args.kind) g (reads_as c.rows.ensures (λ xs v x. counted (rows_from c.args.to) c.args.words.now c.args.place _ g.holds.few x))

@@ -11,30 +11,20 @@ use Rattle.tables.proofs.sections.users.Goals as goal
 
 pub returns-in_default : goal.returns-in_default
 returns-in_default c =
-    let args = c.args in
-    let count = c.count-read in
     stops_as c.in_default.is
-    (section-stop args.bytes.now args.at (λ n. user_row args.roles) (as-stop count.ensures c.in_default.is))
+    (section-stop c.args.bytes.now c.args.at (λ n. user_row c.args.roles) (as-stop c.count-read.ensures c.in_default.is))
 
 pub user_rows-requires : goal.user_rows-requires
 user_rows-requires c =
-    let pre = c.requires in
-    let count = c.count-read in
-    let read = c.read-1 in
-    let g = as-took count.ensures read.given.1 in
-    (g.within, ((g.holds.few, pre.1.0), simp length-set pre.1.1))
+    let g = as-took c.count-read.ensures c.in-Took.is in
+    record { at_in_bounds = g.within; n_le_room = (g.holds.few, c.requires.roles_bound.0); whole = simp length-set c.requires.roles_bound.1 }
 
 pub shape_of-words : goal.shape_of-words
 shape_of-words c =
-    let user-rows = c.user_rows in
-    user-rows.auto.1.1.1.1.0 ∙ simp length-set
+    c.user_rows.auto.words ∙ simp length-set
 
 pub returns : goal.returns
 returns c =
-    let args = c.args in
-    let count = c.count-read in
-    let read = c.read-1 in
-    let user-rows = c.user_rows in
-    let g = as-took count.ensures read.given.1 in
-    section-on args.bytes.now args.at (λ n. user_row args.roles) g
-    (reads_as user-rows.ensures (λ us v x. counted put_users args.words.now user_count_at _ g.holds.few x))
+    let g = as-took c.count-read.ensures c.in-Took.is in
+    section-on c.args.bytes.now c.args.at (λ n. user_row c.args.roles) g
+    (reads_as c.user_rows.ensures (λ us v x. counted put_users c.args.words.now user_count_at _ g.holds.few x))

@@ -2,7 +2,6 @@
 -- Assumes nothing.
 use Prim.Native.Nat.{◌-◌}
 use lib.ListN.{length}
-use borrow.Author.Tests.{not-true, not-false}
 use Rattle.tables.specs.Checks.{apart}
 use Rattle.tables.specs.Code.Reads.{new_at}
 use Rattle.tables.proofs.AllLaws.{passed_none, passed-more, passed-not, passed-all}
@@ -17,14 +16,14 @@ free-requires c = (c.loop-i-test.true, c.loop-i.invariant.1)
 
 pub returns-then-not-free : goal.returns-then-not-free
 unfolding apart new_at
-returns-then-not-free c = passed-not c.loop-i.invariant.0 c.loop-i-test.true c.free.ensures (not-true _ c.if-not-free.true)
+returns-then-not-free c = passed-not c.loop-i.invariant.0 c.loop-i-test.true c.free.ensures c.if-not-free.true
 
 pub bounds-taken-s : goal.bounds-taken-s
 bounds-taken-s c = slot-within _ c.slot-s.ensures
 
 pub loop-i-preserved : goal.loop-i-preserved
 loop-i-preserved c = (
-  passed-more c.loop-i.invariant.0 c.loop-i-test.true c.free.ensures (not-false _ c.if-not-free.false),
+  passed-more c.loop-i.invariant.0 c.loop-i-test.true c.free.ensures c.if-not-free.false,
   slots-more c.loop-i.invariant.1 c.slot-s.ensures,
 )
 

@@ -9,18 +9,12 @@ use Rattle.values.proofs.ceiling.count.Goals as goal
 
 pub returns-then-kind-lt-FIRST_COLLECTION : goal.returns-then-kind-lt-FIRST_COLLECTION
 returns-then-kind-lt-FIRST_COLLECTION c =
-    (
-      λ T f e l. c.size.ensures ∙ ap size_of (c.base.ensures T e) ∙ count-sort T f c.args.kind c.if-kind-lt-FIRST_COLLECTION.true,
-      omega (arith, c.size.ensures, size-le c.base.result),
-    )
+    record { value = λ T f e l. c.size.ensures ∙ ap size_of (c.base.ensures T e) ∙ count-sort T f c.args.kind c.if-kind-lt-FIRST_COLLECTION.true; upper_bound = omega (arith, c.size.ensures, size-le c.base.result) }
 
 pub returns-then-kind-lt-NO_KIND : goal.returns-then-kind-lt-NO_KIND
 returns-then-kind-lt-NO_KIND c =
-    (
-      λ T f e l. c.size-then-kind-lt-NO_KIND.ensures ∙ ap size_of (c.base-then-kind-lt-NO_KIND.ensures T e) ∙ count-collection T f c.args.kind c.if-kind-lt-FIRST_COLLECTION.false c.if-kind-lt-NO_KIND.true,
-      omega (arith, c.size-then-kind-lt-NO_KIND.ensures, size-le c.base-then-kind-lt-NO_KIND.result),
-    )
+    record { value = λ T f e l. c.size-then-kind-lt-NO_KIND.ensures ∙ ap size_of (c.base-then-kind-lt-NO_KIND.ensures T e) ∙ count-collection T f c.args.kind c.if-kind-lt-FIRST_COLLECTION.false c.if-kind-lt-NO_KIND.true; upper_bound = omega (arith, c.size-then-kind-lt-NO_KIND.ensures, size-le c.base-then-kind-lt-NO_KIND.result) }
 
 pub returns : goal.returns
 returns c =
-    (λ T f e l. count_none T c.args.kind (omega (arith, c.if-kind-lt-FIRST_COLLECTION.false, c.if-kind-lt-NO_KIND.false)), omega arith)
+    record { value = λ T f e l. count_none T c.args.kind (omega (arith, c.if-kind-lt-FIRST_COLLECTION.false, c.if-kind-lt-NO_KIND.false)); upper_bound = omega arith }

@@ -6,7 +6,7 @@ use mathlib.Core.List.{List, []}
 use mathlib.Core.Logic.{⊎_elim}
 use Prim.Native.Nat.{ℕ, ◌+◌, ◌-◌, ◌<◌}
 use native.Mathlib.Omega.{arith}
-use borrow.Author.Tests.{not-true, not-false}
+use borrow.Author.Tests.{not-false}
 use lib.ListN.{get_or, drop}
 use lib.Seq.{get_or-drop}
 use Rattle.syntax.specs.Rule.{rule_vars}
@@ -53,8 +53,7 @@ overflow_cast-second c =
 
 pub clause-requires : goal.clause-requires
 clause-requires c =
-    let h = c.loop-i-test.true in
-    (low-more (c.requires.0.firsts c.loop-i.i (omega (arith, h, c.requires.3))) (omega (arith, c.requires.1)), low-more (c.requires.0.seconds c.loop-i.i (omega (arith, h, c.requires.3))) (omega (arith, c.requires.1)))
+    (low-more (c.requires.0.firsts c.loop-i.i (omega (arith, c.loop-i-test.true, c.requires.3))) (omega (arith, c.requires.1)), low-more (c.requires.0.seconds c.loop-i.i (omega (arith, c.loop-i-test.true, c.requires.3))) (omega (arith, c.requires.1)))
 
 pub returns-then-not-clause : goal.returns-then-not-clause
 returns-then-not-clause c =
@@ -64,7 +63,7 @@ returns-then-not-clause c =
     let P : List ℕ = c.args.plan.now in
     let at : get_or (drop levels_from P) i 0 ≡ get_or P (levels_from + i) 0 = get_or-drop levels_from P i 0 in
     holds-false T ρ (drop levels_from P) c.args.level c.args.from d c.args.to i c.loop-i-test.true c.clause.result c.loop-i.invariant.0 (at ∙ c.if-plan-i.true)
-    (c.clause.ensures ns n (clause_at ρ i) (C.each i h) T (rule_vars [] ρ) d (K i h (at ∙ c.if-plan-i.true))) (not-true _ c.if-not-clause.true)
+    (c.clause.ensures ns n (clause_at ρ i) (C.each i h) T (rule_vars [] ρ) d (K i h (at ∙ c.if-plan-i.true))) c.if-not-clause.true
 
 pub overflow_add-i-in-loop-i : goal.overflow_add-i-in-loop-i
 overflow_add-i-in-loop-i c =

@@ -52,9 +52,6 @@ loop-k-preserved c = (
   length-set c.loop-k.cache c.loop-k.k c.step-value.result ∙ c.loop-k.invariant.0,
   λ ns m ks vs order levels N M S.
       let h : c.loop-k.k < m = omega (arith, N.many, c.loop-k-test.true) in
-      let few = c.requires.1.few_nodes in
-      let long = c.requires.2 in
-      let same = c.loop-k.invariant.0 in
       rw (N.each c.loop-k.k h).goes
       (partly-next N.tidy M N.linked c.loop-k.k c.step-value.result h (omega (arith, N.many))
       (c.step-value.ensures ns m ks vs N.next c.loop-k.k N.tidy N.kinded h (N.each c.loop-k.k h)) (c.loop-k.invariant.1 ns m ks vs order levels N M S)),

@@ -13,16 +13,16 @@ use Rattle.judging.proofs.WalkingLaws.{vars-long, tested}
 use Rattle.verdicts.proofs.ruling.along.Goals as goal
 
 -- The variables have room by their type.
-vars-room : (c : tie.Start) → length c.args.parsed.vars ≡ 8
+vars-room : (c : goal.Start) → length c.args.parsed.vars ≡ 8
 vars-room c = search rules
 
 -- The list that is tried is that of the variables of the order.
-same-list : (c : tie.After-variables) → take c.args.parsed.count c.variables-all.result ≡ variables_of c.args.order.now
+same-list : (c : goal.After-variables-all) → take c.args.parsed.count c.variables-all.result ≡ variables_of c.args.order.now
 same-list c = rw c.if-order-count.false at c.variables-all.ensures
 
 pub returns-then-order-count : goal.returns-then-order-count
 returns-then-order-count c =
-    λ T ρ C. c.refused.ensures ∙ other_length C c.requires.lent.few c.args.order.now (λ e. c.if-order-count.true (e ∙ vars-long c.requires (vars-room c)))
+    λ T ρ C. c.refused.ensures ∙ other_length C c.requires.lent.few c.args.order.now (λ e. c.if-order-count.true (e ∙ vars-long c.requires (vars-room c.before.before.before.before)))
 
 pub variables-all-requires : goal.variables-all-requires
 variables-all-requires c =
@@ -30,15 +30,15 @@ variables-all-requires c =
 
 pub slice_bounds-listed-end : goal.slice_bounds-listed-end
 slice_bounds-listed-end c =
-    sym (ap length (same-list c) ∙ length-variables-of c.args.order.now ∙ c.if-order-count.false)
+    sym (ap length (same-list c.before) ∙ length-variables-of c.args.order.now ∙ c.if-order-count.false)
 
 pub slice_bounds-vars-end : goal.slice_bounds-vars-end
 slice_bounds-vars-end c =
-    omega (arith, c.requires.few, vars-room c)
+    omega (arith, c.requires.few, vars-room c.before.before.before.before.before.before.before.before)
 
 pub slice_bounds-names-end-2 : goal.slice_bounds-names-end-2
 slice_bounds-names-end-2 c =
-    sym (vars-long c.requires (vars-room c))
+    sym (vars-long c.requires (vars-room c.before.before.before.before.before.before.before.before.before))
 
 pub ordered-requires : goal.ordered-requires
 ordered-requires c =
@@ -46,17 +46,16 @@ ordered-requires c =
 
 pub whole-requires : goal.whole-requires
 whole-requires c =
-    (c.requires, tested c.requires c.names-names.result (take c.args.parsed.count c.variables-all.result) c.names-names.ensures (rw (vars-long c.requires (vars-room c)) (sym c.ordered.ensures ∙ c.if-ordered.true)))
+    (c.requires, tested c.requires c.names-names.result (take c.args.parsed.count c.variables-all.result) c.names-names.ensures (rw (vars-long c.requires (vars-room c.before.before.before.before.before.before.before.before.before.before.before.before.before)) (sym c.ordered.ensures ∙ c.if-ordered.true)))
 
 pub ruled-requires : goal.ruled-requires
 ruled-requires c =
-    let L = c.requires.lent in
-    counts-fit L.is_case L.few c.names-names.result c.args.order.now _ c.ordered.result (c.names-names.ensures (rule_vars [] L.rule) L.is_case.world.variables) (same-list c) (rw (vars-long c.requires (vars-room c)) c.ordered.ensures) c.if-ordered.true c.whole.result (c.whole.ensures L.tables L.rule L.is_case)
+    counts-fit c.requires.lent.is_case c.requires.lent.few c.names-names.result c.args.order.now _ c.ordered.result (c.names-names.ensures (rule_vars [] c.requires.lent.rule) c.requires.lent.is_case.world.variables) (same-list c.before.before.before.before.before.before.before.before.before.before) (rw (vars-long c.requires (vars-room c.before.before.before.before.before.before.before.before.before.before.before.before.before.before)) c.ordered.ensures) c.if-ordered.true c.whole.result (c.whole.ensures c.requires.lent.tables c.requires.lent.rule c.requires.lent.is_case)
 
 pub returns-then-ordered : goal.returns-then-ordered
 returns-then-ordered c =
-    λ T ρ C. c.ruled.ensures ∙ order-ruled C c.requires.lent.few c.names-names.result c.args.order.now _ c.ordered.result (c.names-names.ensures (rule_vars [] ρ) C.world.variables) (same-list c) (rw (vars-long c.requires (vars-room c)) c.ordered.ensures) c.if-ordered.true c.whole.result (c.whole.ensures T ρ C)
+    λ T ρ C. c.ruled.ensures ∙ order-ruled C c.requires.lent.few c.names-names.result c.args.order.now _ c.ordered.result (c.names-names.ensures (rule_vars [] ρ) C.world.variables) (same-list c.before.before.before.before.before.before.before.before.before.before.before) (rw (vars-long c.requires (vars-room c.before.before.before.before.before.before.before.before.before.before.before.before.before.before.before)) c.ordered.ensures) c.if-ordered.true c.whole.result (c.whole.ensures T ρ C)
 
 pub returns : goal.returns
 returns c =
-    λ T ρ C. c.refused-2.ensures ∙ no-order C c.requires.lent.few c.names-names.result c.args.order.now _ c.ordered.result (c.names-names.ensures (rule_vars [] ρ) C.world.variables) (same-list c) (rw (vars-long c.requires (vars-room c)) c.ordered.ensures) c.if-ordered.false
+    λ T ρ C. c.refused-2.ensures ∙ no-order C c.requires.lent.few c.names-names.result c.args.order.now _ c.ordered.result (c.names-names.ensures (rule_vars [] ρ) C.world.variables) (same-list c.before.before.before.before.before.before.before.before.before.before) (rw (vars-long c.requires (vars-room c.before.before.before.before.before.before.before.before.before.before.before.before.before.before)) c.ordered.ensures) c.if-ordered.false
