@@ -12,36 +12,42 @@ use Rattle.changes.proofs.MadeLaws.{closed-made}
 use borrow.Author.Rules.{rules}
 use Rattle.changes.proofs.closed.Goals as goal
 
--- The session is open.
-is_open : (c : goal.Start) → (c.args.number < room) × (length c.args.t.now ≡ whole_length)
-is_open c =
-    let k = counts_of c.requires.holds in
-    (omega (arith, k.few_sessions, closing-closes c.requires.tables _ c.requires.free), k.long)
-
--- After both the words are as many, and the count is as it was.
-both-kept : (c : goal.After-slice_known-4-1) → (length c.close_up-2.new.t ≡ whole_length) × (0 < get_or c.close_up-2.new.t session_count_at 0)
-both-kept c =
-    let k = counts_of c.requires.holds in
-    let n = closing-closes c.requires.tables _ c.requires.free in
-    let kept = c.close_up-2.ensures session_count_at (omega arith) ∙ c.close_up.ensures session_count_at (omega arith) ∙ k.sessions in
-    (c.close_up-2.ensures.same ∙ c.close_up.ensures.same ∙ k.long, omega (arith, kept, n))
-
 pub close_up-requires : goal.close_up-requires
-close_up-requires c = let k = is_open c.before.before in (omega (arith, k.0), omega (arith, k.1))
+close_up-requires c =
+    let is_open : (c.args.number < room) × (length c.args.t.now ≡ whole_length) = let k = counts_of c.requires.holds in
+    (omega (arith, k.few_sessions, closing-closes c.requires.tables _ c.requires.free), k.long) in
+    let k = is_open in (omega (arith, k.0), omega (arith, k.1))
 
 pub close_up-requires-2 : goal.close_up-requires-2
 close_up-requires-2 c =
-    let k = is_open c.before.before.before.before.before.before in
+    let is_open : (c.args.number < room) × (length c.args.t.now ≡ whole_length) = let k = counts_of c.requires.holds in
+    (omega (arith, k.few_sessions, closing-closes c.requires.tables _ c.requires.free), k.long) in
+    let k = is_open in
     (omega (arith, k.0), omega (arith, k.1, c.close_up.ensures.same))
 
 pub bounds-t-3 : goal.bounds-t-3
-bounds-t-3 c = let k = both-kept c in omega (arith, k.0)
+bounds-t-3 c =
+    let both-kept : (length c.close_up-2.new.t ≡ whole_length) × (0 < get_or c.close_up-2.new.t session_count_at 0) = let k = counts_of c.requires.holds in
+    let n = closing-closes c.requires.tables _ c.requires.free in
+    let kept = c.close_up-2.ensures.before session_count_at (omega arith) ∙ c.close_up.ensures.before session_count_at (omega arith) ∙ k.sessions in
+    (c.close_up-2.ensures.same ∙ c.close_up.ensures.same ∙ k.long, omega (arith, kept, n)) in
+    let k = both-kept in omega (arith, k.0)
 
 pub overflow_sub-t : goal.overflow_sub-t
-overflow_sub-t c = (both-kept c).1
+overflow_sub-t c =
+    let both-kept : (length c.close_up-2.new.t ≡ whole_length) × (0 < get_or c.close_up-2.new.t session_count_at 0) = let k = counts_of c.requires.holds in
+    let n = closing-closes c.requires.tables _ c.requires.free in
+    let kept = c.close_up-2.ensures.before session_count_at (omega arith) ∙ c.close_up.ensures.before session_count_at (omega arith) ∙ k.sessions in
+    (c.close_up-2.ensures.same ∙ c.close_up.ensures.same ∙ k.long, omega (arith, kept, n)) in
+    both-kept.1
 
 pub bounds-t-3-2 : goal.bounds-t-3-2
-bounds-t-3-2 c = let k = both-kept c in omega (arith, k.0)
+bounds-t-3-2 c =
+    let both-kept : (length c.close_up-2.new.t ≡ whole_length) × (0 < get_or c.close_up-2.new.t session_count_at 0) = let k = counts_of c.requires.holds in
+    let n = closing-closes c.requires.tables _ c.requires.free in
+    let kept = c.close_up-2.ensures.before session_count_at (omega arith) ∙ c.close_up.ensures.before session_count_at (omega arith) ∙ k.sessions in
+    (c.close_up-2.ensures.same ∙ c.close_up.ensures.same ∙ k.long, omega (arith, kept, n)) in
+    let k = both-kept in omega (arith, k.0)
 
 pub shape_of-t : goal.shape_of-t
 shape_of-t c =

@@ -12,38 +12,59 @@ use Rattle.changes.proofs.MadeLaws.{opened-made}
 use borrow.Author.Rules.{rules}
 use Rattle.changes.proofs.opened.Goals as goal
 
--- There is room for one session more.
-vacant : (c : goal.Start) → (get_or c.args.t.now session_count_at 0 < room) × (length c.args.t.now ≡ whole_length)
-vacant c =
-    let k = counts_of c.requires.holds in
-    (omega (arith, k.sessions, (opening-opens c.requires.tables _ _ c.requires.free).room), k.long)
-
 pub bounds-t-3 : goal.bounds-t-3
-bounds-t-3 c = omega (arith, (vacant c.before.before).1)
+bounds-t-3 c =
+    let vacant : (get_or c.args.t.now session_count_at 0 < room) × (length c.args.t.now ≡ whole_length) = let k = counts_of c.requires.holds in
+    (omega (arith, k.sessions, (opening-opens c.requires.tables _ _ c.requires.free).room), k.long) in
+    omega (arith, vacant.1)
 
 pub overflow_add-t : goal.overflow_add-t
-overflow_add-t c = let v = vacant c.before.before.before in search rules
+overflow_add-t c =
+    let vacant : (get_or c.args.t.now session_count_at 0 < room) × (length c.args.t.now ≡ whole_length) = let k = counts_of c.requires.holds in
+    (omega (arith, k.sessions, (opening-opens c.requires.tables _ _ c.requires.free).room), k.long) in
+    let v = vacant in search rules
 
 pub offset_bounds-t-n : goal.offset_bounds-t-n
-offset_bounds-t-n c = let v = vacant c.before.before.before in search rules
+offset_bounds-t-n c =
+    let vacant : (get_or c.args.t.now session_count_at 0 < room) × (length c.args.t.now ≡ whole_length) = let k = counts_of c.requires.holds in
+    (omega (arith, k.sessions, (opening-opens c.requires.tables _ _ c.requires.free).room), k.long) in
+    let v = vacant in search rules
 
 pub bounds-t-n : goal.bounds-t-n
-bounds-t-n c = let v = vacant c.before.before.before in omega (arith, v.0, v.1)
+bounds-t-n c =
+    let vacant : (get_or c.args.t.now session_count_at 0 < room) × (length c.args.t.now ≡ whole_length) = let k = counts_of c.requires.holds in
+    (omega (arith, k.sessions, (opening-opens c.requires.tables _ _ c.requires.free).room), k.long) in
+    let v = vacant in omega (arith, v.0, v.1)
 
 pub overflow_add-t-2 : goal.overflow_add-t-2
-overflow_add-t-2 c = let v = vacant c.before.before.before in search rules
+overflow_add-t-2 c =
+    let vacant : (get_or c.args.t.now session_count_at 0 < room) × (length c.args.t.now ≡ whole_length) = let k = counts_of c.requires.holds in
+    (omega (arith, k.sessions, (opening-opens c.requires.tables _ _ c.requires.free).room), k.long) in
+    let v = vacant in search rules
 
 pub offset_bounds-t-n-2 : goal.offset_bounds-t-n-2
-offset_bounds-t-n-2 c = let v = vacant c.before.before.before in search rules
+offset_bounds-t-n-2 c =
+    let vacant : (get_or c.args.t.now session_count_at 0 < room) × (length c.args.t.now ≡ whole_length) = let k = counts_of c.requires.holds in
+    (omega (arith, k.sessions, (opening-opens c.requires.tables _ _ c.requires.free).room), k.long) in
+    let v = vacant in search rules
 
 pub bounds-t-n-2 : goal.bounds-t-n-2
-bounds-t-n-2 c = let v = vacant c.before.before.before in rw length-set (omega (arith, v.0, v.1))
+bounds-t-n-2 c =
+    let vacant : (get_or c.args.t.now session_count_at 0 < room) × (length c.args.t.now ≡ whole_length) = let k = counts_of c.requires.holds in
+    (omega (arith, k.sessions, (opening-opens c.requires.tables _ _ c.requires.free).room), k.long) in
+    let v = vacant in rw length-set (omega (arith, v.0, v.1))
 
 pub overflow_add-t-3 : goal.overflow_add-t-3
-overflow_add-t-3 c = let v = vacant c.before.before.before in search rules
+overflow_add-t-3 c =
+    let vacant : (get_or c.args.t.now session_count_at 0 < room) × (length c.args.t.now ≡ whole_length) = let k = counts_of c.requires.holds in
+    (omega (arith, k.sessions, (opening-opens c.requires.tables _ _ c.requires.free).room), k.long) in
+    let v = vacant in search rules
 
 pub bounds-t-3-2 : goal.bounds-t-3-2
-bounds-t-3-2 c = let v = vacant c.before.before.before in rw (length-set, length-set) (omega (arith, v.1))
+bounds-t-3-2 c =
+    let vacant : (get_or c.args.t.now session_count_at 0 < room) × (length c.args.t.now ≡ whole_length) = let k = counts_of c.requires.holds in
+    (omega (arith, k.sessions, (opening-opens c.requires.tables _ _ c.requires.free).room), k.long) in
+    let v = vacant in rw (length-set, length-set) (omega (arith, v.1))
 
 pub returns : goal.returns
 returns c = λ T a free. opened-made a _ _ free c.item.ensures refl

@@ -2,11 +2,11 @@
 -- Assumes nothing.
 use Prim.Native.Nat.{ℕ, ◌-◌}
 use mathlib.Core.Path.{sym, ap, ◌∙◌}
-use mathlib.Core.Logic.{⊎_elim}
 use native.Mathlib.Omega.{arith}
 use lib.ListN.{length, length-replicate}
 use Rattle.cuts.proofs.KeepLaws.{keeping_none, keeping-in, keeping-out, keeping_all, keeping-long, kept-none, kept_in, kept_out}
 use Rattle.cuts.proofs.keep.Goals as goal
+use Rattle.cuts.proofs.keep.Goals.{then-meet-ne0, else-meet-ne0}
 
 pub loop-i-init : goal.loop-i-init
 loop-i-init c = keeping_none (kept-none _ _ _) c.requires.kept_value
@@ -29,10 +29,10 @@ overflow_add-n c =
 
 pub loop-i-preserved : goal.loop-i-preserved
 loop-i-preserved c =
-    ⊎_elim
-    (λ w. keeping-in c.loop-i.invariant _ c.requires.users_len_bound.0 c.loop-i-test.true (kept_in _ _ c.args.column.now _ c.meet.ensures w.0.taken) w.2 w.3)
-    (λ w. keeping-out c.loop-i.invariant c.loop-i-test.true (kept_out _ _ c.args.column.now _ c.meet.ensures w.0.left) w.1 w.2)
-    c.if-meet-ne0.branch-raw
+    elim c.if-meet-ne0.branch [
+      then-meet-ne0 w ↦ keeping-in c.loop-i.invariant _ c.requires.users_len_bound.0 c.loop-i-test.true (kept_in _ _ c.args.column.now _ c.meet.ensures w.if-meet-ne0.true) w.kept-is w.n-is
+      | else-meet-ne0 w ↦ keeping-out c.loop-i.invariant c.loop-i-test.true (kept_out _ _ c.args.column.now _ c.meet.ensures w.if-meet-ne0.false) w.kept-is w.n-is
+    ]
 
 pub shape_of-kept : goal.shape_of-kept
 shape_of-kept c = keeping-long c.loop-i.invariant ∙ sym (ap length c.requires.kept_value ∙ length-replicate {A = ℕ} 64 0)

@@ -2,11 +2,11 @@
 -- Assumes nothing.
 use Prim.Native.Nat.{ℕ, ◌-◌}
 use mathlib.Core.Path.{sym, ap, ◌∙◌}
-use mathlib.Core.Logic.{⊎_elim}
 use native.Mathlib.Omega.{arith}
 use lib.ListN.{length, length-replicate}
 use Rattle.cuts.proofs.KeepLaws.{rows_none, rows_in, rows_out, rows_all, rows_long}
 use Rattle.cuts.proofs.keep_rows.Goals as goal
+use Rattle.cuts.proofs.keep_rows.Goals.{then-contains, else-contains}
 
 pub loop-i-init : goal.loop-i-init
 loop-i-init c = rows_none _ _ c.requires.kept_value
@@ -24,10 +24,10 @@ bounds-kept-i c =
 
 pub loop-i-preserved : goal.loop-i-preserved
 loop-i-preserved c =
-    ⊎_elim
-    (λ w. rows_in c.requires.rows_len_bound c.loop-i.invariant c.loop-i-test.true c.contains.ensures w.0.taken w.2)
-    (λ w. rows_out c.requires.rows_len_bound c.loop-i.invariant c.loop-i-test.true c.contains.ensures w.0.left w.1)
-    c.if-contains.branch-raw
+    elim c.if-contains.branch [
+      then-contains w ↦ rows_in c.requires.rows_len_bound c.loop-i.invariant c.loop-i-test.true c.contains.ensures w.if-contains.true w.kept-is
+      | else-contains w ↦ rows_out c.requires.rows_len_bound c.loop-i.invariant c.loop-i-test.true c.contains.ensures w.if-contains.false w.kept-is
+    ]
 
 pub shape_of-kept : goal.shape_of-kept
 shape_of-kept c = rows_long c.loop-i.invariant ∙ sym (ap length c.requires.kept_value ∙ length-replicate {A = ℕ} 64 0)

@@ -1,10 +1,10 @@
 -- `walks::times` meets its contract. The loop's invariant: what is found and what stands from i on add up.
 -- Assumes nothing.
-use mathlib.Core.Logic.{⊎_elim}
 use Prim.Native.Nat.{◌-◌}
 use native.Mathlib.Omega.{arith}
 use Rattle.walks.proofs.LoopLaws.{count-end, count-hit, count-miss}
 use Rattle.walks.proofs.times.Goals as goal
+use Rattle.walks.proofs.times.Goals.{then-u-v, else-u-v}
 
 pub loop-i-init : goal.loop-i-init
 loop-i-init c = omega arith
@@ -26,10 +26,10 @@ loop-i-smaller c = omega arith
 
 pub loop-i-preserved : goal.loop-i-preserved
 loop-i-preserved c =
-    ⊎_elim
-    (λ w. omega (arith, c.loop-i.invariant.2, count-hit c.args.order.now c.loop-i.i c.args.u c.loop-i-test.true w.0.taken))
-    (λ w. omega (arith, c.loop-i.invariant.2, count-miss c.args.order.now c.loop-i.i c.args.u c.loop-i-test.true w.0.left))
-    c.if-u-v.branch-raw
+    elim c.if-u-v.branch [
+      then-u-v w ↦ omega (arith, c.loop-i.invariant.2, count-hit c.args.order.now c.loop-i.i c.args.u c.loop-i-test.true w.if-u-v.true)
+      | else-u-v w ↦ omega (arith, c.loop-i.invariant.2, count-miss c.args.order.now c.loop-i.i c.args.u c.loop-i-test.true w.if-u-v.false)
+    ]
 
 pub returns : goal.returns
 returns c =

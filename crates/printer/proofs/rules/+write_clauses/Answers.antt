@@ -10,8 +10,7 @@ pub op_at-requires : goal.op_at-requires
 op_at-requires t c = ready-size c.requires.printable
 
 pub write_clause-requires : goal.write_clause-requires
-write_clause-requires t c =
-    c.requires.1
+write_clause-requires t c = record { printable = c.requires.printable; at_in_bounds = c.requires.at_in_bounds }
 
 pub returns-then-op_at-ne-ALSO : goal.returns-then-op_at-ne-ALSO
 returns-then-op_at-ne-ALSO t c =

@@ -5,7 +5,6 @@ use native.Mathlib.Omega.{arith}
 use Rattle.printer.proofs.PrintsLaws.{appends-as, appends-then, add-appends, appends-add, appends-full, appends-never, ready-size, ready-left, ready-right}
 use Rattle.syntax.proofs.ArenaLaws.{two-low}
 use Rattle.printer.proofs.PrintsLaws.{term-leaf, term-call, term-new, term-choice, term-others, term-two, no-term, others-text}
-use Rattle.printer.proofs.terms.+write_closed_write_one_write_others_write_term_write_two.{
 use Rattle.printer.proofs.terms.+write_closed_write_one_write_others_write_term_write_two.Goals as goal
 
 pub write_closed-put_sign-end-requires : goal.write_closed-put_sign-end-requires

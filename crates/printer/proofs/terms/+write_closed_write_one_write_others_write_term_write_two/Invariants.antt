@@ -1,7 +1,6 @@
 -- The writers of terms call each other on nodes below their own: three times the index falls, a helper one below its caller.
 -- Assumes nothing.
 use Prim.Native.Nat.{◌+◌, ◌*◌}
-use Rattle.printer.proofs.terms.+write_closed_write_one_write_others_write_term_write_two.{
 use Rattle.printer.proofs.terms.+write_closed_write_one_write_others_write_term_write_two.Given as goal
 
 abbrev pub decreases-write_closed : goal.decreases-write_closed

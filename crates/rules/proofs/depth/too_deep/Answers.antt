@@ -16,13 +16,11 @@ surplus_after-surplus-requires c = omega (arith, read-mag c.loop-i.invariant.1, 
 
 pub returns-then-surplus-gt-DEPTH_LIMIT : goal.returns-then-surplus-gt-DEPTH_LIMIT
 returns-then-surplus-gt-DEPTH_LIMIT c =
-    let m = read-mag c.loop-i.invariant.1 in
-    read-over c.loop-i.invariant.1 (omega arith) (stepped-back (get_or c.args.s.now c.loop-i.i 0) (to_z w32 c.loop-i.surplus) (omega arith) c.surplus_after-surplus.ensures) c.if-surplus-gt-DEPTH_LIMIT.true
+    read-over c.loop-i.invariant.1 (omega arith) (stepped-back (get_or c.args.s.now c.loop-i.i 0) (to_z w32 c.loop-i.surplus-bits) (omega (arith, read-mag c.loop-i.invariant.1, c.requires)) c.surplus_after-surplus.ensures) c.if-surplus-gt-DEPTH_LIMIT.true
 
 pub loop-i-preserved : goal.loop-i-preserved
 loop-i-preserved c =
-    let m = read-mag c.loop-i.invariant.1 in
-    (omega arith, read_next c.loop-i.invariant.1 (omega arith) (stepped-back (get_or c.args.s.now c.loop-i.i 0) (to_z w32 c.loop-i.surplus) (omega arith) c.surplus_after-surplus.ensures) c.if-surplus-gt-DEPTH_LIMIT.false)
+    (omega arith, read_next c.loop-i.invariant.1 (omega arith) (stepped-back (get_or c.args.s.now c.loop-i.i 0) (to_z w32 c.loop-i.surplus-bits) (omega (arith, read-mag c.loop-i.invariant.1, c.requires)) c.surplus_after-surplus.ensures) c.if-surplus-gt-DEPTH_LIMIT.false)
 
 pub returns : goal.returns
 returns c = read-end c.loop-i.invariant.1 (omega arith)

@@ -2,13 +2,11 @@
 -- Assumes nothing.
 use Prim.Native.Nat.{◌≤◌, ◌-◌}
 use lib.ListN.{length}
-use mir.Syntax.{w32}
-use mir.Val.{to_z}
 use Rattle.rules.specs.Code.Surplus.{Read}
 use Rattle.rules.proofs.depth.too_deep.Given as goal
 
 abbrev pub invariant-loop-i : goal.invariant-loop-i
-invariant-loop-i l = (l.i ≤ length l.s) × Read l.s l.i (to_z w32 l.surplus)
+invariant-loop-i l = (l.i ≤ length l.s) × Read l.s l.i l.surplus
 
 abbrev pub decreases-loop-i : goal.decreases-loop-i
 decreases-loop-i l = length l.s - l.i

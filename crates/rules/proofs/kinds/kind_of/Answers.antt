@@ -17,8 +17,8 @@ returns-then-op-lt-MEMBER c =
 
 pub returns-then-fits : goal.returns-then-fits
 returns-then-fits c =
-    sym (node-fits c.operation-op.result c.kind_at-a.result c.kind_at-b.result c.if-op-lt-MEMBER.false (sym c.fits2.ensures ∙ c.if-fits.true)) ∙ number_is c.args.kinds.now c.args.node c.operation-op.ensures c.left.ensures c.right.ensures c.kind_at-a.ensures c.kind_at-b.ensures
+    sym (node-fits c.operation-op.result c.kind_at-a.result c.kind_at-b.result c.if-op-lt-MEMBER.false (sym c.fits.ensures ∙ c.if-fits.true)) ∙ number_is c.args.kinds.now c.args.node c.operation-op.ensures c.left.ensures c.right.ensures c.kind_at-a.ensures c.kind_at-b.ensures
 
 pub returns-else-fits : goal.returns-else-fits
 returns-else-fits c =
-    sym (node-fits c.operation-op.result c.kind_at-a.result c.kind_at-b.result c.if-op-lt-MEMBER.false (sym c.fits2.ensures ∙ c.if-fits.false)) ∙ number_is c.args.kinds.now c.args.node c.operation-op.ensures c.left.ensures c.right.ensures c.kind_at-a.ensures c.kind_at-b.ensures
+    sym (node-fits c.operation-op.result c.kind_at-a.result c.kind_at-b.result c.if-op-lt-MEMBER.false (sym c.fits.ensures ∙ c.if-fits.false)) ∙ number_is c.args.kinds.now c.args.node c.operation-op.ensures c.left.ensures c.right.ensures c.kind_at-a.ensures c.kind_at-b.ensures

@@ -16,7 +16,7 @@ loop-i-smaller c = omega (arith, c.loop-i-test.true, c.loop-i.invariant.1)
 
 pub loop-i-preserved : goal.loop-i-preserved
 loop-i-preserved c =
-    (omega (arith, c.loop-i-test.true, c.loop-i.invariant.1), simp length-set c.loop-i.invariant.1, put_next c.loop-i.auto (λ j. unwritten) c.loop-i.i c.loop-i-test.true c.loop-i.invariant.2 unwritten refl)
+    (omega (arith, c.loop-i-test.true, c.loop-i.invariant.1), simp length-set c.loop-i.invariant.1, put_next c.loop-i.kept (λ j. unwritten) c.loop-i.i c.loop-i-test.true c.loop-i.invariant.2 unwritten refl)
 
 pub shape_of-kept : goal.shape_of-kept
 shape_of-kept c = c.loop-i.invariant.1

@@ -2,13 +2,13 @@
 -- Assumes nothing.
 use mathlib.Core.Path.{sym, ap, ◌∙◌}
 use mathlib.Core.Bool.{true≢false}
-use mathlib.Core.Logic.{⊎_elim}
 use Prim.Native.Nat.{ℕ, ◌-◌}
 use native.Mathlib.Omega.{arith}
 use Rattle.words.specs.Words.{has}
 use Rattle.words.proofs.WordsLaws.{has-zero}
 use Rattle.walks.proofs.BytesLaws.{masks-start, masks-next, masks-out}
 use Rattle.walks.proofs.kept.spread.Goals as goal
+use Rattle.walks.proofs.kept.spread.Goals.{then-contains, else-contains}
 
 pub returns-then-word-eq0 : goal.returns-then-word-eq0
 returns-then-word-eq0 c = λ u i l m h. absurd (true≢false (sym h ∙ ap (λ (w : ℕ). has w u) c.if-word-eq0.true ∙ has-zero u))
@@ -34,10 +34,10 @@ loop-u-smaller c = omega arith
 pub loop-u-preserved : goal.loop-u-preserved
 loop-u-preserved c = (
   omega arith,
-  ⊎_elim
-      (λ w. masks-next _ _ _ _ c.loop-u-test.true c.loop-u.invariant.1 (w.2 ∙ w.1.ensures))
-      (λ w. rw w.1 (masks-out _ _ _ (sym c.contains.ensures ∙ w.0.left) c.loop-u.invariant.1))
-      c.if-contains.branch-raw,
+  elim c.if-contains.branch [
+      then-contains w ↦ masks-next _ _ _ _ c.loop-u-test.true c.loop-u.invariant.1 (w.mask-is ∙ w.join-mask.ensures)
+      | else-contains w ↦ rw w.mask-is (masks-out _ _ _ (sym c.contains.ensures ∙ w.if-contains.false) c.loop-u.invariant.1)
+    ],
 )
 
 pub returns : goal.returns
