@@ -42,9 +42,6 @@ cond-le : (b : Bool) (x y n : ℕ) → x ≤ n → y ≤ n → cond b x y ≤ n
 cond-le true x y n p q = p
 cond-le false x y n p q = q
 
-here : (c : goal.After-lowest-l → Turn c.args.active lines_limit c.loop-rest.rest c.lowest-l.result
-here c = turn c.requires.lines.0 c.loop-rest.invariant.1 c.loop-rest-test.true c.lowest-l.ensures
-
 -- What is added to the line's count.
 more : (c : goal.Joined-contains
     → c.if-contains.more ≡ cond (has c.args.closed c.lowest-l.result)
@@ -72,31 +69,37 @@ less-rest-requires c κs = tt
 
 pub contains-requires : goal.contains-requires
 contains-requires c =
-    omega (arith, (here c.before.before).few)
+    let here : Turn c.args.active lines_limit c.loop-rest.rest c.lowest-l.result = turn c.requires.lines.0 c.loop-rest.invariant.1 c.loop-rest-test.true c.lowest-l.ensures in
+    omega (arith, here.few)
 
 pub offset_bounds-under-l : goal.offset_bounds-under-l
 offset_bounds-under-l c =
-    omega (arith, (here c.before.before.before.before).few)
+    let here : Turn c.args.active lines_limit c.loop-rest.rest c.lowest-l.result = turn c.requires.lines.0 c.loop-rest.invariant.1 c.loop-rest-test.true c.lowest-l.ensures in
+    omega (arith, here.few)
 
 pub bounds-under-l : goal.bounds-under-l
 bounds-under-l c =
-    omega (arith, (here c.before.before.before.before.before).few, c.requires.lines.2)
+    let here : Turn c.args.active lines_limit c.loop-rest.rest c.lowest-l.result = turn c.requires.lines.0 c.loop-rest.invariant.1 c.loop-rest-test.true c.lowest-l.ensures in
+    omega (arith, here.few, c.requires.lines.2)
 
 pub offset_bounds-breaking-l : goal.offset_bounds-breaking-l
 offset_bounds-breaking-l c =
-    omega (arith, (here c.before.before.before.before).few)
+    let here : Turn c.args.active lines_limit c.loop-rest.rest c.lowest-l.result = turn c.requires.lines.0 c.loop-rest.invariant.1 c.loop-rest-test.true c.lowest-l.ensures in
+    omega (arith, here.few)
 
 pub bounds-breaking-l : goal.bounds-breaking-l
 bounds-breaking-l c =
-    omega (arith, (here c.before.before.before.before.before).few, c.requires.lines.3, c.loop-rest.invariant.0)
+    let here : Turn c.args.active lines_limit c.loop-rest.rest c.lowest-l.result = turn c.requires.lines.0 c.loop-rest.invariant.1 c.loop-rest-test.true c.lowest-l.ensures in
+    omega (arith, here.few, c.requires.lines.3, c.loop-rest.invariant.0)
 
 pub overflow_add-breaking : goal.overflow_add-breaking
 overflow_add-breaking c =
+    let here : Turn c.args.active lines_limit c.loop-rest.rest c.lowest-l.result = turn c.requires.lines.0 c.loop-rest.invariant.1 c.loop-rest-test.true c.lowest-l.ensures in
     let l : ℕ = c.lowest-l.result in
-    let small = c.requires.by_index l (here c.before.before.before.before.before.before).counted in
+    let small = c.requires.by_index l here.counted in
     omega (
       arith,
-      c.loop-rest.invariant.1.ahead l (here c.before.before.before.before.before.before).coming,
+      c.loop-rest.invariant.1.ahead l here.coming,
       small.0,
       small.1,
       more c.before.before,
@@ -105,19 +108,22 @@ overflow_add-breaking c =
 
 pub bounds-breaking-l-in-loop-rest : goal.bounds-breaking-l-in-loop-rest
 bounds-breaking-l-in-loop-rest c =
-    omega (arith, (here c.before.before.before.before.before.before).few, c.requires.lines.3, c.loop-rest.invariant.0)
+    let here : Turn c.args.active lines_limit c.loop-rest.rest c.lowest-l.result = turn c.requires.lines.0 c.loop-rest.invariant.1 c.loop-rest-test.true c.lowest-l.ensures in
+    omega (arith, here.few, c.requires.lines.3, c.loop-rest.invariant.0)
 
 pub loop-rest-smaller : goal.loop-rest-smaller
 loop-rest-smaller c =
-    rw (c.less-rest.ensures, c.item.ensures) (here c.before.before.before.before.before.before).less
+    let here : Turn c.args.active lines_limit c.loop-rest.rest c.lowest-l.result = turn c.requires.lines.0 c.loop-rest.invariant.1 c.loop-rest-test.true c.lowest-l.ensures in
+    rw (c.less-rest.ensures, c.item.ensures) here.less
 
 pub loop-rest-preserved : goal.loop-rest-preserved
 loop-rest-preserved c =
+    let here : Turn c.args.active lines_limit c.loop-rest.rest c.lowest-l.result = turn c.requires.lines.0 c.loop-rest.invariant.1 c.loop-rest-test.true c.lowest-l.ensures in
     let now : List ℕ = c.loop-rest.breaking in
     let l : ℕ = c.lowest-l.result in
-    let fits : l < length now = omega (arith, (here c.before.before.before.before.before.before).few, c.requires.lines.3, c.loop-rest.invariant.0) in (
+    let fits : l < length now = omega (arith, here.few, c.requires.lines.3, c.loop-rest.invariant.0) in (
       length-set now l (get_or now l 0 + c.if-contains.more) ∙ c.loop-rest.invariant.0,
-      rw (c.less-rest.ensures, c.item.ensures) (added c.args.closed c.args.full c.args.under.now c.args.breaking.now now (here c.before.before.before.before.before.before) fits c.if-contains.more (more c.before.before) c.loop-rest.invariant.1),
+      rw (c.less-rest.ensures, c.item.ensures) (added c.args.closed c.args.full c.args.under.now c.args.breaking.now now here fits c.if-contains.more (more c.before.before) c.loop-rest.invariant.1),
     )
 
 pub shape_of-breaking : goal.shape_of-breaking
