@@ -19,7 +19,7 @@ seek-requires t c =
 pub loop-v-preserved : goal.loop-v-preserved
 loop-v-preserved t c =
     let long : length c.if-admits.desk ≡ desk_length = elim c.if-admits.branch [
-      then-admits+then-next-desk w ↦ rw w.desk-is w.seek.ensures
+      | then-admits+then-next-desk w ↦ rw w.desk-is w.seek.ensures
       | then-admits+else-next-desk w ↦ rw w.desk-is c.loop-v.invariant.1
       | else-admits w ↦ rw w.desk-is c.loop-v.invariant.1
     ] in (omega (arith, c.loop-v-test.true), long)

@@ -11,6 +11,6 @@ use Rattle.orders.proofs.add.Goals.{then-contains, else-contains}
 pub loop-v-preserved : goal.loop-v-preserved
 loop-v-preserved c =
     let long : length c.if-contains.desk ≡ desk_length = elim c.if-contains.branch [
-      then-contains w ↦ rw w.desk-is (simp length-set c.loop-v.invariant.1)
+      | then-contains w ↦ rw w.desk-is (simp length-set c.loop-v.invariant.1)
       | else-contains w ↦ rw w.desk-is c.loop-v.invariant.1
     ] in (omega (arith, c.loop-v-test.true), long)

@@ -25,18 +25,17 @@ chain-first-requires c =
     (c.requires.0.small, omega (arith, c.requires.0.small, long), refl, λ k l. omega (arith, (c.levels-node_levels.ensures _ _ c.terms.ensures).small k l, c.requires.0.short))
 
 pub steps-requires : goal.steps-requires
-steps-requires c =
-    (
-      record {
-        tidy = c.requires.0.tidy;
-        small = c.requires.0.small;
-        kinded = c.requires.0.kinded;
-        few = c.requires.0.few;
-        long = c.chain-first.ensures.linked.long;
-        within = λ k l. (c.chain-first.ensures.linked.each k l).within;
-      },
-      c.requires.1,
-    )
+steps-requires c = (
+  record {
+    tidy = c.requires.0.tidy;
+    small = c.requires.0.small;
+    kinded = c.requires.0.kinded;
+    few = c.requires.0.few;
+    long = c.chain-first.ensures.linked.long;
+    within = λ k l. (c.chain-first.ensures.linked.each k l).within;
+  },
+  c.requires.1,
+)
 
 pub starts-requires : goal.starts-requires
 starts-requires c =

@@ -10,7 +10,7 @@ use Rattle.sharing.proofs.laying.lay.Goals as goal
 
 pub slice_bounds-all-end : goal.slice_bounds-all-end
 slice_bounds-all-end c =
-    let vars-room : length c.args.t1.vars ≡ 8 = search rules in
+    let vars-room : length c.args.parsed.vars ≡ 8 = search rules in
     omega (arith, c.requires.0.few, vars-room)
 
 pub slice_bounds-vars-end : goal.slice_bounds-vars-end
