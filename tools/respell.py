@@ -107,6 +107,7 @@ def crates(top):
     lemmas(top)
     dashed = fields(top)
     known = {t for path in files(top, (".antt",)) for t in TOKEN.findall(read(path))}
+    known |= {t for path in files(top, (".rt",)) for line in read(path).splitlines() if line.startswith("ghost use ") for t in TOKEN.findall(line)}
     for path in files(top, (".antt", ".rt", ".edit")):
         text = read(path)
         new, pairs = turned(text, dashed, not path.endswith(".antt"), known if path.endswith(".rt") else None)

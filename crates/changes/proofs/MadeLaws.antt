@@ -15,14 +15,13 @@ use lib.Seq.{get_or-set_same, get_or-set_other, get_or-append_seam}
 use borrow.Author.Tests.{ltb-true, ltb-false}
 use Rattle.words.specs.Words.{item_of}
 use Rattle.tables.specs.Tables.{Session, Tables}
-use Rattle.tables.specs.Flat.{room, sections, flat}
+use Rattle.tables.specs.Flat.{room, sections}
 use Rattle.tables.specs.Code.Layout.{Whole, session_count_at, session_users_at, session_roles_at}
 use Rattle.tables.specs.Code.Loaded.{TablesAt}
 use Rattle.tables.proofs.FlatLaws.{flat-at, numbers-long}
-use Rattle.changes.specs.declared.Change.{Change}
 use Rattle.changes.specs.declared.Change.TheVariants.{Opening, Closing}
 use Rattle.changes.specs.Change.{new_session, sessions_by, changed, change_refusal}
-use Rattle.changes.specs.Code.Made.{Makes, ClosedUp}
+use Rattle.changes.specs.Code.Made.{ClosedUp}
 use Rattle.changes.proofs.PassesLaws.{passes-changed, opening-opens, closing-closes}
 use Rattle.changes.proofs.CountLaws.{counts_of}
 use Rattle.changes.proofs.ReplacedLaws.{user_words, role_words, Elsewhere, Replaced, replaced-flat}

@@ -19,7 +19,7 @@ use Rattle.tables.proofs.AllLaws.{all-ext}
 use Rattle.tables.proofs.EncodeLaws.{below-every}
 use Rattle.tables.proofs.EveryLaws.{every_map}
 use Rattle.tables.proofs.LateLaws.{late-each}
-use Rattle.cuts.specs.Cut.{rows_from, keep_if, of_reader, sessions_for, done_for, is_new, add_if, firsts_behind, words_for, with_people, cut}
+use Rattle.cuts.specs.Cut.{rows_from, keep_if, of_reader, sessions_for, done_for, is_new, firsts_behind, words_for, with_people, cut}
 use Rattle.cuts.specs.Alike.{SameOwn, no_rows, same_row, other_here, other_there, OneOf, first_one, later_one, Once, no_words, new_word, seen_word, SameWords, SeenAlike}
 use Rattle.cuts.proofs.FirstsLaws.{firsts_same}
 use Rattle.cuts.proofs.CutLaws.{rows_same, rows_alike, own_same}

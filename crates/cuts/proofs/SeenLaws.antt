@@ -11,8 +11,8 @@ use native.Mathlib.Omega.{arith}
 use lib.ListN.{length, get_elem?}
 use Rattle.words.specs.Words.{has, meet_of}
 use Rattle.tables.specs.Tables.{User, Tables}
-use Rattle.cuts.specs.Cut.{row_for, rows_from, keep_if, of_reader, is_new, firsts_behind, words_for, cut}
-use Rattle.cuts.specs.Alike.{SameOwn, no_rows, same_row, other_here, other_there, Once, no_words, new_word, seen_word, SameWords, SeenAlike}
+use Rattle.cuts.specs.Cut.{row_for, rows_from, keep_if, of_reader, is_new, words_for, cut}
+use Rattle.cuts.specs.Alike.{SameOwn, no_rows, same_row, other_here, other_there, Once, no_words, new_word, seen_word, SeenAlike}
 use Rattle.cuts.proofs.CutLaws.{rows-length}
 use Rattle.cuts.proofs.AlikeLaws.{Seen, seen_none, seen_more, once-firsts, cut-alike}
 

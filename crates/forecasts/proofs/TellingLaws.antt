@@ -11,7 +11,6 @@ use Rattle.answers.specs.declared.Refusal.{Refusal}
 use Rattle.answers.specs.declared.Written.{Written}
 use Rattle.answers.specs.declared.Written.TheVariants.{Refused}
 use Rattle.answers.proofs.AnswerLaws.{kept-refused}
-use Rattle.tables.specs.Tables.{Tables}
 use Rattle.tables.specs.Bytes.{lowest_first}
 use Rattle.syntax.specs.Bytes.{Bytes}
 use Rattle.syntax.specs.Rule.{rule_vars, formula}

@@ -6,7 +6,7 @@ use mathlib.Core.Option.{Option, none, some}
 use Rattle.syntax.specs.Bytes.{begins, skip}
 use Rattle.syntax.specs.Term.{Base, b_u, b_r, b_op, b_obj, b_p, b_s, b_cr, b_cp, b_cu, Fn, user, roles, roles*, sessions, permissions, permissions*}
 use Rattle.syntax.specs.Term.{object, Fn2, operations, done, Pair, calls, joins, Term, base, call, oe, ao, two, is_base, is_call, spell, text}
-use Rattle.rules.specs.Kind.{Sort, Sort≟, s_u, s_r, s_op, s_obj, s_p, s_s, CR, CP, CU, Kind, Kind≟, element, set, collection, holds, one_of, base_kind, takes, makes}
+use Rattle.rules.specs.Kind.{Sort, Sort≟, s_u, s_s, CR, CP, CU, Kind, Kind≟, element, set, collection, holds, one_of, base_kind, takes, makes}
 use Rattle.rules.specs.Kind.{of_element, call_kind, inside, one_kind, others_kind, as_set, joined, row, call2_kind, two_kind, with, kind}
 use Rattle.values.specs.Values.{of_sort}
 use Rattle.mentions.specs.Mention.{stands, mentions}

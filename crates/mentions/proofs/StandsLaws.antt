@@ -7,7 +7,7 @@ use native.Mathlib.Numerals.{add-one}
 use native.Mathlib.Omega.{arith}
 use lib.ListN.{length, drop, drop_of_length-le}
 use lib.Seq.{drop-cons}
-use Rattle.syntax.specs.Bytes.{Bytes, ascii, begins}
+use Rattle.syntax.specs.Bytes.{Bytes, ascii}
 use Rattle.syntax.specs.Code.Reading.{Stands}
 use Rattle.mentions.specs.Mention.{stands, mentions}
 

@@ -1,11 +1,10 @@
 -- Gathering the lines of a page: none, one more, and that each is a part of the rule that they make together.
 -- Assumes nothing.
 use mathlib.Core.Path.{◌≡◌, refl, sym, ap, ◌∙◌}
-use mathlib.Core.Bool.{true, false, true≢false}
+use mathlib.Core.Bool.{true, true≢false}
 use mathlib.Core.List.{List, [], ◌∷◌, ◌++◌}
 use mathlib.Core.Logic.{⊎_elim}
-use mathlib.Core.Option.{some}
-use Prim.Native.Nat.{ℕ, zero, suc, ◌+◌, ◌<◌, ◌≤◌, ◌^◌}
+use Prim.Native.Nat.{ℕ, ◌+◌, ◌<◌, ◌≤◌, ◌^◌}
 use native.Mathlib.Nat.{eq-or-lt_of_le}
 use native.Mathlib.Decide.{ℕ_discrete}
 use native.Mathlib.Omega.{arith}
@@ -13,18 +12,17 @@ use lib.ListN.{length, get_or, set, length-set, length-append, get_or-append}
 use lib.Seq.{get_or-set_same, get_or-set_other, get_or-append_seam}
 use Rattle.words.specs.Words.{has, Lowest, item_of, less_of}
 use Rattle.words.proofs.WordsLaws.{has-zero, has_in, less-here, less-lt}
-use Rattle.words.proofs.LoopLaws.{lowest-item}
 use Rattle.syntax.specs.Bytes.{Bytes}
-use Rattle.syntax.specs.Rule.{Rule, rule_of}
+use Rattle.syntax.specs.Rule.{Rule}
 use Rattle.sharing.specs.declared.gathering.Added.{Added}
 use Rattle.sharing.specs.declared.gathering.Added.TheVariants.{No, Yes}
-use Rattle.sharing.specs.Code.Gathering.{gather_room, start_of, Sheaf, Adds}
+use Rattle.sharing.specs.Code.Gathering.{start_of, Sheaf, Adds}
 use Rattle.sharing.proofs.ClausesLaws.{start-same}
 use Rattle.sharing.proofs.GatheringLaws.{sheaf-none, as-left, as-taken, sheaf-end}
 use Rattle.sharing.proofs.LineLaws.{less-others}
 use Rattle.pages.specs.Page.{page_limit}
 use Rattle.pages.specs.Code.Parts.{line_at}
-use Rattle.pages.specs.Code.Sheaves.{Wanted, Arrays, Members, Gathers}
+use Rattle.pages.specs.Code.Sheaves.{Arrays, Gathers}
 use Rattle.pages.specs.declared.sheaves.Gathered.{Gathered}
 
 abbrev pub gathered_of : ℕ → ℕ → ℕ → ℕ → Gathered

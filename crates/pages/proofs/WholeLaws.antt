@@ -3,11 +3,11 @@
 use mathlib.Core.Path.{◌≡◌, refl, sym, subst, ◌∙◌}
 use mathlib.Core.Bool.{Bool, true, false, true≢false, ◌||◌}
 use mathlib.Core.List.{List, []}
-use mathlib.Core.Logic.{◌⊎◌, ⊎_elim}
-use mathlib.Core.Option.{none, some}
-use Prim.Native.Nat.{ℕ, ◌+◌, ◌<◌, ◌≤◌}
+use mathlib.Core.Logic.{⊎_elim}
+use mathlib.Core.Option.{some}
+use Prim.Native.Nat.{ℕ, ◌+◌, ◌<◌}
 use native.Mathlib.Omega.{arith}
-use lib.ListN.{length, get_or, take}
+use lib.ListN.{length, get_or}
 use lib.Seq.{length-take-le}
 use Rattle.words.specs.Words.{has, join_of}
 use Rattle.words.proofs.WordsLaws.{has-zero, has_in, has_join, join-lt}
@@ -15,12 +15,9 @@ use Rattle.tables.specs.Tables.{Tables}
 use Rattle.syntax.specs.Bytes.{Bytes}
 use Rattle.syntax.specs.Term.{Choices}
 use Rattle.syntax.specs.Rule.{Rule, rule_vars, rule_of}
-use Rattle.syntax.specs.Code.Arena.{HoldsRule}
-use Rattle.rules.specs.Accept.{refusal}
 use Rattle.rules.specs.declared.Parsed.{Parsed}
 use Rattle.walks.specs.Code.Among.{Within}
 use Rattle.values.specs.Sets.{items_of, in_set}
-use Rattle.values.specs.Code.Clauses.{clause_count}
 use Rattle.values.proofs.BoundLaws.{accepted-within}
 use Rattle.judging.specs.Code.Lent.{CaseBy, LentBy}
 use Rattle.verdicts.specs.Verdict.{full_count, breaking_count}
@@ -28,16 +25,16 @@ use Rattle.verdicts.specs.Code.Judging.{TablesAt, Loaded}
 use Rattle.verdicts.proofs.HeldLaws.{held-rule}
 use Rattle.verdicts.proofs.LoadedLaws.{loaded-whole}
 use Rattle.sharing.specs.declared.together.Shared.{Shared}
-use Rattle.sharing.specs.declared.together.Shared.TheVariants.{No, Yes}
+use Rattle.sharing.specs.declared.together.Shared.TheVariants.{Yes}
 use Rattle.sharing.specs.Code.Part.{Part}
-use Rattle.sharing.specs.Code.Gathering.{start_of, Sheaf, Bound}
+use Rattle.sharing.specs.Code.Gathering.{Bound}
 use Rattle.sharing.specs.Code.Laying.{Starts}
-use Rattle.sharing.specs.Code.Together.{full_of, breaking_of, Ranges, CountsAll, CountsTogether, no, yes}
+use Rattle.sharing.specs.Code.Together.{Ranges, CountsAll, CountsTogether, no, yes}
 use Rattle.sharing.proofs.ClausesLaws.{start-within}
 use Rattle.sharing.proofs.WalkLaws.{true-or-false}
 use Rattle.pages.specs.Page.{page_limit}
 use Rattle.pages.specs.Code.Parts.{line_at}
-use Rattle.pages.specs.Code.Sheaves.{Wanted, Gathers, Spreads, Whole, CountedLine, CountsLines, KnownLines, Grows}
+use Rattle.pages.specs.Code.Sheaves.{Wanted, Gathers, Spreads, Whole, CountsLines, Grows}
 use Rattle.pages.specs.declared.sheaves.Gathered.{Gathered}
 
 module _ {p : Parsed} {starts members : List ℕ} {many : ℕ} (W : Whole p starts members many) where

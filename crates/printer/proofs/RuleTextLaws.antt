@@ -10,12 +10,12 @@ use Rattle.syntax.specs.Term.{Term, Choices, text}
 use Rattle.syntax.specs.Rule.{Cmp, lt, le, gt, ge, eq, ne, Sign, is, isnt, number, count, Test, member, alike, empty, sized}
 use Rattle.syntax.specs.Rule.{Clause, plain, when, Rule, last, also, spell_cmp, spell_between, is_sign, digits, count_text, test_text, clause_text, rule_text}
 use Rattle.syntax.specs.Code.Printing.{quantifiers_after}
-use Rattle.syntax.specs.Code.Arena.{alike_op, empty_op, cmp_number, Numbered, Holds, HoldsTest, HoldsClause}
+use Rattle.syntax.specs.Code.Arena.{alike_op, empty_op, cmp_number, Holds, HoldsTest, HoldsClause}
 use Rattle.syntax.specs.Code.Arena.{HoldsRule, HoldsAll}
-use Rattle.syntax.specs.Code.Nodes.{member_op, first_empty, first_numbered, first_counted, when_op, also_op, op_at, left_at, right_at, op_room}
+use Rattle.syntax.specs.Code.Nodes.{member_op, first_empty, first_numbered, first_counted, when_op, also_op, op_at, left_at, right_at}
 use Rattle.printer.specs.Code.Signs.{signs, sign_of, cmp_signs}
 use Rattle.printer.specs.Code.Printed.{left_text, right_text, quantifier, quantifiers_from}
-use Rattle.syntax.proofs.ArenaLaws.{Parts, parts, one-parts, both-parts, numbered-parts}
+use Rattle.syntax.proofs.ArenaLaws.{one-parts, both-parts, numbered-parts}
 use Rattle.printer.proofs.TextLaws.{Shown, AtBoth}
 use Rattle.syntax.proofs.TestLaws.{cmp-small, alike-range, empty-range}
 

@@ -32,9 +32,9 @@ use Rattle.sheets.proofs.ShortLaws.{sheet-short}
 use Rattle.cuts.specs.Cut.{cut}
 use Rattle.cuts.specs.Alike.{SeenAlike}
 use Rattle.cuts.proofs.PassLaws.{cut-passes}
-use Rattle.readers.specs.Reader.{reader_sheet, Beyond, reader_line}
+use Rattle.readers.specs.Reader.{Beyond, reader_line}
 use Rattle.readers.proofs.SheetLaws.{cut-accepted, line-written, lines-alike, none-beyond, whole-sheet}
-use Rattle.rcl2000.specs.Calls.{Sees, Writes, Ends, Forecasts, told_ceiling, ListsLine, DayLine, LineRefuses, LineNumber}
+use Rattle.rcl2000.specs.Calls.{Writes, Ends, Forecasts, told_ceiling, ListsLine, DayLine, LineRefuses, LineNumber}
 use Rattle.rcl2000.proofs.CallLaws.{through, lent-room, sees-wrote, refuses-exactly, writes-exactly, call_ends}
 use Rattle.rcl2000.proofs.ForecastDemands.{forecast-writes}
 use Rattle.rcl2000.proofs.ReaderCeilingLaws.{ceiling-most}

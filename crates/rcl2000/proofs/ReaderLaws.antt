@@ -8,9 +8,8 @@ use Prim.Native.Nat.{ℕ, ◌<◌}
 use native.Mathlib.Omega.{arith}
 use lib.ListN.{length}
 use Rattle.answers.specs.Refusal.{number_of}
-use Rattle.answers.specs.Answer.{Answer, refused, wrote, lent}
+use Rattle.answers.specs.Answer.{refused, wrote, lent}
 use Rattle.answers.specs.declared.Refusal.{Refusal}
-use Rattle.answers.specs.declared.Refusal.TheVariants.{Reader}
 use Rattle.answers.proofs.AnswerLaws.{lent-short}
 use Rattle.tables.specs.Tables.{Tables}
 use Rattle.tables.specs.Encode.{encode}

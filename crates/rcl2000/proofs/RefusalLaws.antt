@@ -1,7 +1,7 @@
 -- The numbers that each call refuses by: tables' 1 to 10 and 20, rules' 11 to 15, and those of the calls themselves.
 -- Assumes nothing.
 use mathlib.Core.Path.{◌≡◌, refl}
-use mathlib.Core.Logic.{◌⊎◌, inl, inr, ⊎_elim}
+use mathlib.Core.Logic.{inl, inr, ⊎_elim}
 use mathlib.Core.Option.{some}
 use Prim.Native.Nat.{ℕ, ◌≤◌}
 use Rattle.answers.specs.Refusal.{number_of}

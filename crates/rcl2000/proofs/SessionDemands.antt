@@ -1,18 +1,15 @@
 -- The demands, and document 02's N9, of what the tracker sees of `sessions_start`, `session_open` and `session_close`: the number r that a call returns
 -- and the lent bytes, old before it and new after it. The contracts say `Starts` and `Changes` of them. Assumes nothing.
 use mathlib.Core.Path.{◌≡◌, refl, sym, ap, ◌∙◌}
-use mathlib.Core.Bool.{false}
 use mathlib.Core.List.{List, [], ◌∷◌, ◌++◌}
 use mathlib.Core.Logic.{◌↔◌}
 use mathlib.Core.Option.{Option, none, some}
 use Prim.Native.Nat.{ℕ, ◌*◌, ◌≤◌, ◌<◌}
 use native.Mathlib.Omega.{arith}
-use lib.ListN.{length, take, drop}
-use lib.Seq.{take-take}
+use lib.ListN.{length, take}
 use Rattle.answers.specs.Refusal.{number_of}
 use Rattle.answers.specs.Answer.{refused, wrote, lent}
 use Rattle.answers.specs.declared.Refusal.{Refusal}
-use Rattle.answers.specs.declared.Refusal.TheVariants.{ShortSheet}
 use Rattle.answers.proofs.AnswerLaws.{number-some, lent-wrote, lent_fits, lent-short}
 use Rattle.tables.specs.Tables.{Session, Tables, with_sessions}
 use Rattle.tables.specs.Encode.{encode}
@@ -27,7 +24,6 @@ use Rattle.verdicts.proofs.ReportLaws.{bytes-report}
 use Rattle.verdicts.proofs.GivenLaws.{turn-ordered, given-admitted}
 use Rattle.changes.specs.declared.Change.{Change}
 use Rattle.changes.specs.Change.{sessions_by, changed, change_refusal}
-use Rattle.mentions.specs.Mention.{mentions}
 use Rattle.mentions.proofs.SameLaws.{bytes-unmentioned}
 use Rattle.sessions.specs.State.{current_bytes, state_bytes, verdict_in, rule_in, tables_in, stepped}
 use Rattle.sessions.proofs.StateLaws.{current-length, rule-short, given-encoded, given-changed, made-length, made-short, verdict-in, rule-in, tables-in, stepped-state}

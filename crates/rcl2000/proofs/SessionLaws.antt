@@ -5,34 +5,32 @@ use mathlib.Core.Bool.{Bool, true, false, cond}
 use mathlib.Core.List.{List, [], ◌∷◌}
 use mathlib.Core.Logic.{◌↔◌, inl, inr}
 use mathlib.Core.Option.{Option, none, some}
-use Prim.Native.Nat.{ℕ, ◌≤◌, ◌<◌}
+use Prim.Native.Nat.{ℕ, ◌≤◌}
 use lib.Dec.{lit≤}
 use native.Mathlib.Omega.{arith}
 use lib.ListN.{length}
 use Rattle.answers.specs.Refusal.{number_of}
-use Rattle.answers.specs.Answer.{Answer, refused, wrote, lent}
+use Rattle.answers.specs.Answer.{refused, wrote, lent}
 use Rattle.answers.specs.declared.Refusal.{Refusal}
 use Rattle.answers.specs.declared.Refusal.TheVariants.{CutShort}
 use Rattle.answers.proofs.AnswerLaws.{lent_fits, lent-short, lent-wrote}
 use Rattle.tables.specs.Tables.{Tables}
 use Rattle.tables.specs.Checks.{Check}
 use Rattle.tables.specs.Accepted.{Every}
-use Rattle.tables.specs.Encode.{encode}
 use Rattle.tables.specs.Reading.{rejected, taken, tables_of}
 use Rattle.syntax.specs.Bytes.{Bytes}
 use Rattle.syntax.specs.Rule.{Rule}
 use Rattle.rules.specs.Accept.{refusal}
-use Rattle.verdicts.specs.Verdict.{unless_refused}
 use Rattle.verdicts.specs.Both.{Given, Met, bad_tables, bad_rule, good}
 use Rattle.verdicts.proofs.BothLaws.{met, tables-refused, rule-refused}
 use Rattle.changes.specs.declared.Change.{Change}
 use Rattle.changes.specs.declared.Change.TheVariants.{Opening, Closing}
-use Rattle.changes.specs.Change.{changed, change_checks, first_due, change_refusal}
-use Rattle.sessions.specs.State.{state_bytes, started, verdict_in, rule_in, tables_in, is_cut, changed_state, stepped}
+use Rattle.changes.specs.Change.{change_checks, first_due, change_refusal}
+use Rattle.sessions.specs.State.{state_bytes, started, rule_in, tables_in, is_cut, changed_state, stepped}
 use Rattle.sessions.proofs.SplitLaws.{step-whole}
 use Rattle.sessions.proofs.StateLaws.{made-length, made-short, given-changed, next-answer, next_bytes, next-length}
 use Rattle.rcl2000.specs.Calls.{state_size, StartRefuses, ChangeRefuses, state_cut, state_tables, state_rule, change_refused, next_longer, ChangeNumber, BothNumber}
-use Rattle.rcl2000.proofs.CallLaws.{Short, lent-room}
+use Rattle.rcl2000.proofs.CallLaws.{Short}
 use Rattle.rcl2000.proofs.FormulaLaws.{short-lent, stays-refused, same-refused, never-wrote}
 use Rattle.rcl2000.proofs.BothLaws.{WroteBoth, both-short, both-refused, both-written, both-fits}
 use Rattle.rcl2000.proofs.RefusalLaws.{of-tables, of-rules}

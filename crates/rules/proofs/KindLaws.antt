@@ -17,7 +17,7 @@ use Rattle.syntax.specs.Rule.{Sign, is, isnt, number, count, Test, member, alike
 use Rattle.syntax.specs.Rule.{Clause, plain, when, Rule, last, also}
 use Rattle.syntax.specs.Code.Arena.{base_op, fn_op, two_op, alike_op, empty_op, cmp_number, One}
 use Rattle.syntax.specs.Code.Arena.{Holds, HoldsTest, HoldsClause, HoldsRule}
-use Rattle.syntax.specs.Code.Nodes.{first_call, oe_op, ao_op, first_pair, member_op, first_alike, first_empty, first_numbered, first_counted, when_op, also_op, op_at, left_at, right_at, op_room, operation_of, left_of, right_of}
+use Rattle.syntax.specs.Code.Nodes.{first_call, oe_op, ao_op, first_pair, member_op, first_alike, first_empty, first_numbered, first_counted, when_op, also_op, left_at, right_at, op_room, operation_of, left_of, right_of}
 use Rattle.syntax.proofs.ArenaLaws.{base-small, two-range, Parts, none-parts, one-parts, both-parts, numbered-parts}
 use Rattle.syntax.proofs.TestLaws.{cmp-small, alike-range, empty-range}
 use Rattle.rules.specs.Kind.{Kind, Kind≟, holds, one_of, base_kind, takes, makes, of_element}

@@ -11,9 +11,8 @@ use mathlib.Core.Bool.{Bool, true, false}
 use mathlib.Core.Logic.{◌⊎◌, inl, inr, ⊎_elim}
 use native.Mathlib.Nat.{le_of_suc-le-suc, not-suc-le-zero, eq-or-lt_of_le}
 use native.Mathlib.Omega.{arith}
-use Rattle.syntax.specs.Code.Arena.{Numbered, has_two, Down, Tidy}
-use Rattle.syntax.specs.Code.Nodes.{first_call, op_at, left_at, right_at, op_room}
-use Rattle.syntax.proofs.ArenaLaws.{Parts, parts}
+use Rattle.syntax.specs.Code.Arena.{has_two, Down, Tidy}
+use Rattle.syntax.specs.Code.Nodes.{first_call, op_at, left_at, right_at}
 
 -- What stands within a list does not hang on what is taken past its end.
 pub get_d_any : (l : List ℕ) (i d e : ℕ) → i < length l → get_or l i d ≡ get_or l i e

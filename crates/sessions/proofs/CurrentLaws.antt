@@ -1,23 +1,19 @@
 -- The verdict in front of a state: that of an accepted rule in the order 1, 2, ..
 -- Assumes nothing.
-use mathlib.Core.Path.{◌≡◌, refl, sym, ap, ap₂, ◌∙◌}
-use mathlib.Core.Bool.{Bool, true, false, cond}
+use mathlib.Core.Path.{◌≡◌, sym, ap, ap₂, ◌∙◌}
+use mathlib.Core.Bool.{Bool, true, false}
 use mathlib.Core.List.{List}
-use mathlib.Core.Option.{Option, none, some}
-use Prim.Native.Nat.{ℕ, ◌≤◌}
-use lib.ListN.{length, take}
-use Rattle.tables.specs.Tables.{Tables}
+use mathlib.Core.Option.{Option, some}
+use Prim.Native.Nat.{ℕ}
 use Rattle.syntax.specs.Bytes.{Bytes}
-use Rattle.syntax.specs.Rule.{Rule, rule_of}
-use Rattle.rules.specs.Accept.{refusal}
+use Rattle.syntax.specs.Rule.{Rule}
 use Rattle.rules.specs.declared.Parsed.{Parsed}
 use Rattle.rules.specs.declared.Checked.TheVariants.{Accepted}
 use Rattle.walks.specs.Order.{variables_of}
 use Rattle.texts.specs.Code.Overwritten.{Overwritten}
-use Rattle.verdicts.specs.declared.Outcome.{Outcome}
 use Rattle.verdicts.specs.declared.Verdict.{Verdict}
-use Rattle.verdicts.specs.Verdict.{word_number, outcome_of, full_count, breaking_count, verdict_along, turn_order, turn_verdict, written}
-use Rattle.verdicts.specs.Code.Judging.{TablesAt, ParsedFrom, JudgesInTurn}
+use Rattle.verdicts.specs.Verdict.{word_number, outcome_of, full_count, breaking_count, verdict_along, turn_order, written}
+use Rattle.verdicts.specs.Code.Judging.{ParsedFrom, JudgesInTurn}
 use Rattle.verdicts.proofs.ParsedLaws.{parsed-accepts}
 use Rattle.verdicts.proofs.TurnLaws.{judged-in-turn, outcome-in-turn}
 use Rattle.mentions.specs.Mention.{mentions}

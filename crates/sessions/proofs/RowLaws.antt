@@ -9,7 +9,7 @@ use lib.ListN.{length, get_or, take, drop, length-append, length-drop, take-appe
 use lib.Seq.{take_at, drop_at, drop-drop, length-take-le, take_all}
 use Rattle.tables.specs.Tables.{Session, Tables, with_sessions}
 use Rattle.tables.specs.Bytes.{lowest_first}
-use Rattle.tables.specs.Encode.{word_bytes, user_bytes, session_bytes, joined, counted, section_bytes, encode, bytes_of}
+use Rattle.tables.specs.Encode.{word_bytes, user_bytes, session_bytes, joined, counted, section_bytes, encode}
 use Rattle.tables.specs.Code.Layout.{session_count_at}
 use Rattle.tables.specs.Code.Loaded.{TablesAt}
 use Rattle.tables.proofs.BytesLaws.{lowest-length}

@@ -1,15 +1,15 @@
 -- Where a state's rule ends, and the parts of a state that is not cut short.
 -- Assumes nothing.
-use mathlib.Core.Path.{◌≡◌, refl, sym, ap, ◌∙◌}
+use mathlib.Core.Path.{◌≡◌, refl, ap, ◌∙◌}
 use mathlib.Core.Bool.{Bool, true, false, ◌||◌, cond, true≢false}
-use mathlib.Core.List.{List, [], ◌∷◌, ◌++◌}
+use mathlib.Core.List.{◌∷◌}
 use Prim.Native.Nat.{ℕ, ◌+◌, ◌*◌, ◌-◌, ◌≤◌, ◌<◌}
 use native.Mathlib.Omega.{arith}
 use lib.Dec.{ltb}
 use lib.ListN.{length, get_or, take, drop, length-drop}
 use lib.Seq.{drop-cons, take_all, take-take, take-add, drop_at, length-take-le}
 use borrow.Author.Tests.{lt-ltb, le-ltb, ltb-false}
-use Rattle.answers.specs.Answer.{refused, lent}
+use Rattle.answers.specs.Answer.{refused}
 use Rattle.answers.specs.declared.Refusal.TheVariants.{CutShort}
 use Rattle.tables.specs.Bytes.{word_from}
 use Rattle.syntax.specs.Bytes.{Bytes}

@@ -2,20 +2,16 @@
 -- Assumes nothing.
 use mathlib.Core.Path.{◌≡◌, refl, sym, ap, ap₂, ◌∙◌}
 use mathlib.Core.Bool.{Bool, true, false, cond}
-use mathlib.Core.List.{List, [], ◌++◌}
-use mathlib.Core.Option.{Option, none, some}
+use mathlib.Core.List.{List, ◌++◌}
+use mathlib.Core.Option.{none, some}
 use Prim.Native.Nat.{ℕ, ◌+◌, ◌≤◌}
 use native.Mathlib.Omega.{arith}
-use lib.Dec.{ltb}
 use lib.ListN.{length, take, drop}
 use lib.Seq.{take_at, drop_at, drop-drop, length-take-le}
 use borrow.Author.Tests.{le-ltb}
-use Rattle.answers.specs.Answer.{wrote}
 use Rattle.tables.specs.Tables.{Session, Tables, with_sessions}
-use Rattle.tables.specs.Accepted.{Passes}
 use Rattle.tables.specs.Bytes.{word_from, lowest_first}
 use Rattle.tables.specs.Encode.{encode}
-use Rattle.tables.specs.Reading.{tables_of, taken}
 use Rattle.tables.proofs.BytesLaws.{lowest-length, word-lowest}
 use Rattle.tables.proofs.EncodeLaws.{passes-accepted}
 use Rattle.tables.proofs.FitsLaws.{accepted-passes}
@@ -23,7 +19,7 @@ use Rattle.tables.proofs.LocalLaws.{accepted-short}
 use Rattle.syntax.specs.Bytes.{Bytes}
 use Rattle.syntax.specs.Rule.{Rule}
 use Rattle.rules.proofs.AcceptLaws.{accepted-gives}
-use Rattle.verdicts.specs.Verdict.{turn_order, unless_refused, judged}
+use Rattle.verdicts.specs.Verdict.{turn_order, unless_refused}
 use Rattle.verdicts.specs.Both.{Given, of_texts}
 use Rattle.verdicts.proofs.BothLaws.{given-answers}
 use Rattle.verdicts.proofs.JudgedLaws.{bytes-length}

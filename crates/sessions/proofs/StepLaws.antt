@@ -1,16 +1,16 @@
 -- From what the parts of a call say to its answer.
 -- Assumes nothing.
-use mathlib.Core.Path.{◌≡◌, refl, sym, ap, ◌∙◌}
+use mathlib.Core.Path.{◌≡◌, sym, ap, ◌∙◌}
 use mathlib.Core.Bool.{Bool, true, false, cond}
 use mathlib.Core.List.{List, ◌++◌}
-use mathlib.Core.Option.{Option, none, some}
+use mathlib.Core.Option.{none, some}
 use Prim.Native.Nat.{ℕ, ◌+◌, ◌-◌, ◌≤◌, ◌<◌}
 use native.Mathlib.Omega.{arith}
 use lib.ListN.{length, get_or, take, drop, length-drop}
 use lib.Seq.{length-take-le, get_or-drop}
 use mir.Val.{Fits as FitsIn}
 use mir.Syntax.{w8}
-use Rattle.answers.specs.Answer.{Answer, refused, wrote, lent}
+use Rattle.answers.specs.Answer.{Answer, wrote, lent}
 use Rattle.answers.specs.Written.{Answers}
 use Rattle.answers.specs.declared.Refusal.{Refusal}
 use Rattle.answers.specs.declared.Refusal.TheVariants.{ShortSheet}
@@ -20,7 +20,7 @@ use Rattle.answers.proofs.AnswerLaws.{kept-refused, kept-short}
 use Rattle.tables.specs.Tables.{Tables}
 use Rattle.tables.specs.Bytes.{AreBytes, lowest_first}
 use Rattle.tables.specs.Encode.{encode}
-use Rattle.tables.specs.Reading.{rejected, taken, tables_of}
+use Rattle.tables.specs.Reading.{rejected, tables_of}
 use Rattle.tables.specs.declared.Outcome.{Outcome}
 use Rattle.tables.specs.declared.Outcome.TheVariants.{Refused as RefusedChange, Accepted as AcceptedChange}
 use Rattle.tables.proofs.EncodeLaws.{accepted-bytes, passes-accepted}
@@ -29,13 +29,11 @@ use Rattle.tables.proofs.OneLaws.{tables-one}
 use Rattle.tables.proofs.LocalLaws.{accepted-short}
 use Rattle.syntax.specs.Bytes.{Bytes}
 use Rattle.syntax.specs.Rule.{Rule, rule_of}
-use Rattle.rules.specs.Accept.{refusal}
 use Rattle.rules.specs.declared.Parsed.{Parsed}
 use Rattle.rules.specs.declared.Checked.TheVariants.{Refused as RefusedRule, Accepted as AcceptedRule}
 use Rattle.rules.proofs.AcceptLaws.{accepted-gives}
 use Rattle.texts.specs.Code.Overwritten.{Added}
 use Rattle.texts.proofs.OverwrittenLaws.{written-length, add-more}
-use Rattle.verdicts.specs.Verdict.{turn_order, unless_refused}
 use Rattle.verdicts.specs.Both.{Given, of_both}
 use Rattle.verdicts.specs.Code.Judging.{TablesAt, Loaded, ParsedFrom, AnswersOn}
 use Rattle.verdicts.proofs.LoadedLaws.{Took}

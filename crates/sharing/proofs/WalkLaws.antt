@@ -4,31 +4,28 @@ use mathlib.Core.Path.{◌≡◌, refl, sym, ap, ◌∙◌}
 use mathlib.Core.Bool.{Bool, true, false, not, cond, ◌&&◌, ◌||◌, true≢false}
 use mathlib.Core.List.{List, [], ◌++◌}
 use mathlib.Core.Logic.{◌⊎◌, inl, inr, ⊎_elim}
-use Prim.Native.Nat.{ℕ, ◌+◌, ◌*◌, ◌-◌, ◌%◌, ◌<◌, ◌≤◌, ◌^◌}
+use Prim.Native.Nat.{ℕ, ◌+◌, ◌*◌, ◌-◌, ◌<◌, ◌≤◌, ◌^◌}
 use native.Mathlib.Omega.{arith}
-use borrow.Author.Tests.{leb-true, ltb-true, le-leb, lt-ltb, ne_eqb}
+use borrow.Author.Tests.{ltb-true, lt-ltb, ne_eqb}
 use lib.Dec.{leb, ltb, eqb}
 use lib.ListN.{length, get_or, set, take, drop, replicate, length-replicate, get_or-replicate, get_or-eq_default}
 use lib.Seq.{length_front, length-take-le, take_at, get_or-append-add, get_or-drop}
-use Rattle.words.specs.Words.{has, any_to, word_of, item_of, meet_of, less_of}
+use Rattle.words.specs.Words.{has, any_to, word_of, item_of, less_of}
 use Rattle.words.proofs.WordsLaws.{both, and-true, and_both, any_here, any-witness, any_word, word-self, has_in, has-less, less-lt}
 use Rattle.rules.proofs.NodeLaws.{lt-or-le}
-use Rattle.tables.specs.Tables.{Tables}
-use Rattle.syntax.specs.Rule.{Rule, rule_vars}
-use Rattle.walks.specs.Choices.{each}
-use Rattle.walks.specs.Code.Clauses.{Clauses, false_to, false_in, level_is, Levelled, weight_of, mode_of}
+use Rattle.syntax.specs.Rule.{rule_vars}
+use Rattle.walks.specs.Code.Clauses.{false_to, false_in, level_is, Levelled, weight_of, mode_of}
 use Rattle.walks.specs.Code.Kept.{choice_of, Counted}
 use Rattle.walks.specs.Code.Turning.{Turning}
 use Rattle.walks.proofs.TurningLaws.{turning-start, turning-step, turning-end, turning-room, counted-small, counted-whole}
 use Rattle.values.specs.Sets.{in_set}
 use Rattle.values.specs.Truth.{clause_true}
 use Rattle.values.specs.Code.Clauses.{clause_count, clause_at}
-use Rattle.values.specs.Code.Plan.{plan_room, levels_from, level_from_on, clauses_at, SettlesBy}
-use Rattle.values.proofs.ClausesLaws.{clauses_of}
-use Rattle.judging.specs.Code.Planning.{order_from, sets_from, Layout, Planned, Caches, Keeps}
+use Rattle.values.specs.Code.Plan.{levels_from, level_from_on, SettlesBy}
+use Rattle.judging.specs.Code.Planning.{order_from, Planned, Caches, Keeps}
 use Rattle.judging.specs.Code.Counting.{depth_of}
-use Rattle.judging.proofs.CountingLaws.{set-in, clause-values, caches-on, caches-back}
-use Rattle.sharing.specs.Code.Lines.{within, line_of, lines_limit, from_of, to_of, Held, clauses_in, Grouped, CountedFor, full_below, whole_slots, slot_of, KeptFor, Looks, Lines, Ranged, Fails, Adds, StaysFor}
+use Rattle.judging.proofs.CountingLaws.{clause-values, caches-on, caches-back}
+use Rattle.sharing.specs.Code.Lines.{within, lines_limit, from_of, to_of, Held, clauses_in, Grouped, CountedFor, full_below, whole_slots, slot_of, KeptFor, Looks, Lines, Ranged, Fails, Adds, StaysFor}
 use Rattle.sharing.proofs.LineLaws.{hit-for}
 
 -- ---- words of lines

@@ -12,7 +12,7 @@ use lib.ListN.{length, take, drop, get_elem?}
 use lib.Seq.{take_at, drop_at}
 use borrow.Author.Tests.{le-leb, lt-leb, leb-false}
 use Rattle.answers.specs.Refusal.{number_of}
-use Rattle.answers.specs.Answer.{Answer, refused, wrote, if_room, lent, output_after, answer_number, answer_length}
+use Rattle.answers.specs.Answer.{Answer, wrote, if_room, lent, output_after, answer_number, answer_length}
 use Rattle.answers.specs.Written.{number_in, length_in}
 use Rattle.answers.specs.declared.Written.{Written}
 use Rattle.answers.specs.declared.Refusal.{Refusal}

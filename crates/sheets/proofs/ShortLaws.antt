@@ -1,6 +1,6 @@
 -- No line of a sheet has more than 96 bytes: a place of 5 digits, ` broken `, two counts of 15, a share of 3 and eight choices of 6 bytes each.
 -- Assumes nothing.
-use mathlib.Core.Path.{◌≡◌, refl, sym, ap, ◌∙◌}
+use mathlib.Core.Path.{◌≡◌, refl, ap, ◌∙◌}
 use mathlib.Core.Bool.{Bool, true, false, cond}
 use mathlib.Core.List.{List, [], ◌∷◌, ◌++◌}
 use mathlib.Core.Logic.{◌⊎◌, inl, inr}
@@ -10,8 +10,8 @@ use native.Mathlib.Decide.{dec_lt}
 use native.Mathlib.Omega.{arith}
 use lib.Dec.{eqb, leb, ltb}
 use lib.ListN.{length, get_or, get_elem?, replicate, length-append}
-use borrow.Author.Tests.{ltb-true, ltb-false, leb-true, eqb-false}
-use Rattle.answers.specs.Refusal.{number_of, last_number}
+use borrow.Author.Tests.{ltb-false, leb-true, eqb-false}
+use Rattle.answers.specs.Refusal.{number_of}
 use Rattle.answers.specs.declared.Refusal.{Refusal}
 use Rattle.answers.proofs.AnswerLaws.{number-few}
 use Rattle.syntax.specs.Bytes.{Bytes, ascii}
@@ -37,10 +37,9 @@ use Rattle.verdicts.proofs.GivenLaws.{given-admitted}
 use Rattle.verdicts.proofs.JudgedLaws.{few-variables, in-sorts, first-length}
 use Rattle.verdicts.proofs.TurnLaws.{judged-in-turn}
 use Rattle.verdicts.proofs.VerdictLaws.{breaking-le-full, full-fits, first-least}
-use Rattle.sheets.specs.declared.total.Total.{Total}
 use Rattle.sheets.specs.Line.{labelled, unless, choices_from, counts_of, shared_of, says_of, line_text}
 use Rattle.sheets.specs.Total.{is_held, is_idle, is_broken, is_refused, how_many, one_if, total_of, total_text}
-use Rattle.sheets.specs.Sheet.{judged_from, only, listed, rules_limit, unless_long, sheet_by, sheet_of, text_or, sheet_line, longest_line}
+use Rattle.sheets.specs.Sheet.{judged_from, only, rules_limit, unless_long, sheet_by, sheet_of, text_or, sheet_line, longest_line}
 
 -- ---- digits
 

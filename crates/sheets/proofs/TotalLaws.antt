@@ -5,13 +5,12 @@ use mathlib.Core.List.{List, [], ◌∷◌, ◌++◌, append_assoc}
 use Prim.Native.Nat.{ℕ, ◌+◌, ◌<◌}
 use native.Mathlib.Omega.{arith}
 use lib.ListN.{length}
-use Rattle.syntax.specs.Bytes.{Bytes, ascii}
+use Rattle.syntax.specs.Bytes.{Bytes}
 use Rattle.tables.specs.Tables.{Tables}
 use Rattle.verdicts.specs.Verdict.{turn_verdict}
 use Rattle.verdicts.specs.declared.Outcome.{Outcome}
 use Rattle.verdicts.specs.declared.Outcome.TheVariants.{Refused, Held, Idle, Broken}
 use Rattle.sheets.specs.declared.total.Total.{Total}
-use Rattle.sheets.specs.Line.{labelled}
 use Rattle.sheets.specs.Total.{is_held, is_idle, is_broken, is_refused, one_if, how_many, total_of, total_text}
 use Rattle.sheets.specs.Code.Turns.{no_lines, counted, front_text, others_text, Adds, Earlier}
 

@@ -26,7 +26,7 @@ use Rattle.sheets.specs.declared.turns.Turn.{Turn}
 use Rattle.sheets.specs.Line.{line_text}
 use Rattle.sheets.specs.Total.{total_of, total_text}
 use Rattle.sheets.specs.Sheet.{listed, sheet_line}
-use Rattle.sheets.specs.Code.Turns.{no_lines, counted, Earlier, Sofar, SofarOn, Onward, WritesNext, Turns}
+use Rattle.sheets.specs.Code.Turns.{no_lines, counted, Sofar, SofarOn, Onward, WritesNext, Turns}
 use Rattle.sheets.proofs.SheetLaws.{judged-length, listed-some, listed-total}
 use Rattle.sheets.proofs.TotalLaws.{adds-first, adds-next, adds-last, earlier-next}
 

@@ -1,6 +1,6 @@
 -- Document 01, "Rule text" and "Formula", above terms: tests, clauses, rules and formulas, how they are written and how they are read.
 -- Assumes nothing.
-use Rattle.std.specs.Prelude.{List, [], ◌∷◌, ◌++◌, Bool, true, false, ℕ, suc, zero, ◌+◌, ◌≤◌, ◌/◌, ◌%◌, ltb, length}
+use Rattle.std.specs.Prelude.{List, [], ◌∷◌, ◌++◌, true, false, ℕ, suc, zero, ◌+◌, ◌≤◌, ◌/◌, ◌%◌, ltb, length}
 use Rattle.std.proofs.Math.Option.{Option, none, some}
 use Rattle.syntax.specs.Bytes.{Bytes, ascii, Read, fail, got, Reader, ◌>>=◌, ◌>>◌, give, skip, scan, either}
 use Rattle.syntax.specs.Term.{Term, base, call, oe, ao, two, Choices, digit, text, read_term}

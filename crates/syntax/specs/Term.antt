@@ -1,8 +1,8 @@
 -- Document 01, "Rule text" and "Formula", for terms: what a term is, how it is written, how it is read.
 -- Assumes nothing.
-use Rattle.std.specs.Prelude.{List, [], ◌∷◌, ◌++◌, Bool, true, false, ℕ, suc, zero, eqb, length}
+use Rattle.std.specs.Prelude.{List, [], ◌∷◌, ◌++◌, true, false, ℕ, suc, zero, eqb, length}
 use Rattle.std.proofs.Math.Option.{Option, none, some}
-use Rattle.syntax.specs.Bytes.{Bytes, ascii, Read, fail, got, Reader, ◌>>=◌, ◌>>◌, give, skip, scan}
+use Rattle.syntax.specs.Bytes.{Bytes, ascii, fail, got, Reader, ◌>>=◌, ◌>>◌, give, skip, scan}
 
 -- "Term: U R OP OBJ P S CR CP CU, a call, OE(term), AO(term), (term&term) (intersection), (term+term) (union)."
 

@@ -12,7 +12,7 @@ use lib.ListN.{length, get_or, take, drop, length-append, length-drop, take-appe
 use lib.Seq.{take_at, drop_at, drop-cons, length-take-le}
 use borrow.Author.Tests.{ltb-false, le-ltb, lt-leb, eq-eqb, ne_eqb, eqb-false}
 use Rattle.answers.specs.declared.Refusal.TheVariants.{CutShort}
-use Rattle.tables.specs.Tables.{User, Tables, user_rows}
+use Rattle.tables.specs.Tables.{User, Tables}
 use Rattle.tables.specs.Bytes.{Bytes, AreBytes, word_from, lowest_first, entered, left}
 use Rattle.tables.specs.Accepted.{Below, Known, KnownDeed, Every, Sound, Passes}
 use Rattle.tables.specs.Reading.{Taken, Reader, stop, took, next, refuse, front, byte, count, word_within, word_row, MarkedRow, marked_row, user_row, permission_row, session_row, done_row}

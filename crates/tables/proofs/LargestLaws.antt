@@ -13,7 +13,7 @@ use Rattle.words.specs.Words.{has, item_of}
 use Rattle.words.proofs.WordsLaws.{has-zero, has-item, item-lt}
 use Rattle.tables.specs.Tables.{User, Session, Deed, Tables, is_present, session_roles}
 use Rattle.tables.specs.Functions.{dominates}
-use Rattle.tables.specs.Checks.{all_to, leavers_gone, rank_step, ranked, in_reach, apart, late_checks, first_failing}
+use Rattle.tables.specs.Checks.{leavers_gone, rank_step, ranked, in_reach, apart, late_checks, first_failing}
 use Rattle.tables.specs.Bytes.{Bytes, AreBytes}
 use Rattle.tables.specs.Accepted.{Below, Known, KnownDeed, Every, Passes}
 use Rattle.tables.specs.Reading.{taken, tables_of}

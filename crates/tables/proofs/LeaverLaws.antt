@@ -11,7 +11,7 @@ use native.Mathlib.Omega.{arith}
 use lib.Dec.{eqb, ltb}
 use lib.ListN.{length, get_or, length-map, get_or-eq_default}
 use borrow.Author.Tests.{ltb-true, lt-ltb, eq-eqb, ne_eqb, eqb-true, eqb-false, not-false}
-use Rattle.words.specs.Words.{has, any_to, all_of, item_of, join_of, less_of, image_of, preimage_of}
+use Rattle.words.specs.Words.{has, any_to, all_of, item_of, less_of, image_of, preimage_of}
 use Rattle.words.proofs.WordsLaws.{word-self, has_join, has-item, has_all, has_in, has-out, has-zero, join-lt, any_word, any-ext, any_here, any-witness, and-true, and_both, both, eqb_comm}
 use Rattle.words.proofs.RelationLaws.{has-image, has-preimage}
 use Rattle.tables.specs.Tables.{Tables, user_rows, is_present, present_users, session_users}
@@ -24,7 +24,7 @@ use Rattle.tables.proofs.FlatLaws.{map_at}
 use Rattle.tables.proofs.FitsLaws.{users-below}
 use Rattle.tables.proofs.AllLaws.{all-every, all-at, all-ext}
 use Rattle.tables.proofs.CheckLaws.{less_zero}
-use Rattle.tables.proofs.PresentLaws.{has-present, present-there}
+use Rattle.tables.proofs.PresentLaws.{has-present}
 
 -- ---- the words
 

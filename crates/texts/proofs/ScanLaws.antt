@@ -1,16 +1,15 @@
 -- Laws of `index_of` in a part of a text: its first byte is the one that is looked for, or is passed, or there is none.
 -- Assumes nothing.
-use mathlib.Core.Path.{◌≡◌, refl, ◌∙◌}
-use mathlib.Core.List.{List, [], ◌∷◌}
-use Prim.Native.Nat.{ℕ, zero, suc, ◌+◌, ◌≤◌, ◌<◌}
+use mathlib.Core.Path.{◌≡◌, refl}
+use mathlib.Core.List.{List, ◌∷◌}
+use Prim.Native.Nat.{ℕ, suc, ◌+◌, ◌≤◌, ◌<◌}
 use native.Mathlib.Omega.{arith}
-use lib.Dec.{eqb}
-use lib.ListN.{length, get_or, take, drop, length-take}
+use lib.ListN.{length, get_or, take, length-take}
 use lib.Seq.{length-take-le, drop-cons, get_or-take}
 use native.Mathlib.Numerals.{add-one}
 use lib.ListN.{drop_of_length-le}
 use borrow.Author.Tests.{eq-eqb, ne_eqb}
-use Rattle.texts.specs.Scan.{slice, index_of, index_after}
+use Rattle.texts.specs.Scan.{slice, index_of}
 
 -- A part that is not empty begins with its first byte.
 front : (s : List ℕ) (a b : ℕ) → a < b → b ≤ length s → slice a b s ≡ get_or s a 0 ∷ slice (a + 1) b s

@@ -1,6 +1,6 @@
 -- Where a byte stands in a text.
 -- Assumes nothing.
-use Rattle.std.specs.Prelude.{Bool, true, false, List, [], ◌∷◌, ℕ, zero, suc, eqb, take, drop}
+use Rattle.std.specs.Prelude.{Bool, true, false, List, [], ◌∷◌, ℕ, suc, eqb, take, drop}
 
 -- The bytes of s from place a to before place b.
 unfoldable pub slice : ℕ → ℕ → List ℕ → List ℕ

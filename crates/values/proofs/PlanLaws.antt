@@ -19,7 +19,7 @@ use Rattle.syntax.specs.Code.Nodes.{first_call, oe_op, ao_op, first_pair, member
 use Rattle.rules.specs.Kind.{base_kind}
 use Rattle.rules.specs.Code.Numbers.{kinds_fit, kind_of}
 use Rattle.walks.specs.Code.Clauses.{level_is, false_to}
-use Rattle.walks.proofs.ClauseLaws.{test-start, test_in, test-out}
+use Rattle.walks.proofs.ClauseLaws.{test_in, test-out}
 use Rattle.values.specs.Items.{kind_items}
 use Rattle.values.specs.Values.{value, call_value, one_value, two_value}
 use Rattle.values.specs.Truth.{clause_true}

@@ -8,7 +8,7 @@ use Rattle.tables.specs.Functions.{user_of_sessions, user_of_roles, roles_of_use
 use Rattle.tables.specs.Functions.{juniors_of_sessions, seniors_of_permissions, sessions_of_users, permissions_of_roles, permissions_of_juniors}
 use Rattle.tables.specs.Functions.{objects_of_permissions, operations_on, done_by}
 use Rattle.syntax.specs.Term.{Fn, user, roles, roles*, sessions, permissions, permissions*, object, Fn2, operations, done, Op, meet, join, Pair, calls, joins, Term, base, call, oe, ao, two, Term≟, Choices}
-use Rattle.rules.specs.Kind.{Sort, Sort≟, s_u, s_r, s_op, s_obj, s_p, s_s, CR, CP, CU, Kind, element, set, collection, holds, base_kind, kind}
+use Rattle.rules.specs.Kind.{Sort, Sort≟, s_u, s_r, s_p, CR, CP, CU, Kind, element, set, collection, holds, base_kind, kind}
 use Rattle.values.specs.Items.{kind_items}
 
 -- An element or a set of the sort.

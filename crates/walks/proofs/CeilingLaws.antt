@@ -1,6 +1,5 @@
 -- There are at most as many full choices as the product of how many items the variables have.
 -- Assumes nothing.
-use mathlib.Core.Path.{◌≡◌, refl, sym}
 use mathlib.Core.Bool.{Bool, true, false}
 use mathlib.Core.List.{List}
 use Prim.Native.Nat.{ℕ, zero, suc, ◌+◌, ◌*◌, ◌^◌, ◌≤◌}

@@ -1,6 +1,5 @@
 -- `copy` meets its contract. The invariant: the first i bytes are copied, the rest is as it was.
 -- Assumes nothing.
-use Prim.Native.Nat.{◌-◌}
 use native.Mathlib.Omega.{arith}
 use Rattle.answers.proofs.CopyLaws.{copied_none, copied_next, copied_all}
 use Rattle.answers.proofs.copy.Goals as goal

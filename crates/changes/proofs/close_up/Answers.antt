@@ -1,7 +1,7 @@
 -- `changes::close_up` moves word by word.
 -- Assumes nothing.
 use mathlib.Core.Path.{◌≡◌}
-use Prim.Native.Nat.{◌+◌, ◌-◌, ◌<◌}
+use Prim.Native.Nat.{◌+◌, ◌<◌}
 use native.Mathlib.Omega.{arith}
 use lib.ListN.{length}
 use Rattle.changes.proofs.MadeLaws.{moving-first, moving-next, moving-last}

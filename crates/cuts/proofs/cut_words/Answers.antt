@@ -1,6 +1,6 @@
 -- `cuts::cut_words`: of the first i words those that are new are kept, cut.
 -- Assumes nothing.
-use Prim.Native.Nat.{ℕ, ◌-◌}
+use Prim.Native.Nat.{ℕ}
 use mathlib.Core.Path.{sym, ap, ◌∙◌}
 use native.Mathlib.Omega.{arith}
 use lib.ListN.{length, length-replicate}
@@ -36,7 +36,7 @@ pub loop-i-preserved : goal.loop-i-preserved
 loop-i-preserved c =
     let front = keeping-front c.loop-i.invariant c.requires.words_len_bound in
     elim c.if-is_new.branch [
-      then-is_new w ↦ keeping-in c.loop-i.invariant _ c.requires.words_len_bound c.loop-i-test.true (first-in _ _ _ c.meet-word.ensures front c.is_new.ensures w.if-is_new.true) w.kept-is w.n-is
+      | then-is_new w ↦ keeping-in c.loop-i.invariant _ c.requires.words_len_bound c.loop-i-test.true (first-in _ _ _ c.meet-word.ensures front c.is_new.ensures w.if-is_new.true) w.kept-is w.n-is
       | else-is_new w ↦ keeping-out c.loop-i.invariant c.loop-i-test.true (first_out _ _ _ c.meet-word.ensures front c.is_new.ensures w.if-is_new.false) w.kept-is w.n-is
     ]
 

@@ -1,6 +1,5 @@
 -- `cuts::is_new`: what is noted of the words passed.
 -- Assumes nothing.
-use Prim.Native.Nat.{◌-◌}
 use mathlib.Core.Path.{ap}
 use mathlib.Core.Bool.{not}
 use lib.ListN.{length}
@@ -16,7 +15,7 @@ loop-i-init c = noted-none (length c.args.words.now) _
 pub loop-i-preserved : goal.loop-i-preserved
 loop-i-preserved c =
     elim c.if-words-i.branch [
-      then-words-i w ↦ noted-not c.loop-i.invariant c.loop-i-test.true (ap not (eq-eqb _ _ w.if-words-i.true)) w.twin-is
+      | then-words-i w ↦ noted-not c.loop-i.invariant c.loop-i-test.true (ap not (eq-eqb _ _ w.if-words-i.true)) w.twin-is
       | else-words-i w ↦ noted_more c.loop-i.invariant c.loop-i-test.true (ap not (ne_eqb _ _ w.if-words-i.false)) w.twin-is
     ]
 

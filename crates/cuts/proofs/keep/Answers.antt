@@ -1,6 +1,6 @@
 -- `cuts::keep`: of the first i sessions those of the reader's users are kept.
 -- Assumes nothing.
-use Prim.Native.Nat.{ℕ, ◌-◌}
+use Prim.Native.Nat.{ℕ}
 use mathlib.Core.Path.{sym, ap, ◌∙◌}
 use native.Mathlib.Omega.{arith}
 use lib.ListN.{length, length-replicate}
@@ -30,7 +30,7 @@ overflow_add-n c =
 pub loop-i-preserved : goal.loop-i-preserved
 loop-i-preserved c =
     elim c.if-meet-ne0.branch [
-      then-meet-ne0 w ↦ keeping-in c.loop-i.invariant _ c.requires.users_len_bound.0 c.loop-i-test.true (kept_in _ _ c.args.column.now _ c.meet.ensures w.if-meet-ne0.true) w.kept-is w.n-is
+      | then-meet-ne0 w ↦ keeping-in c.loop-i.invariant _ c.requires.users_len_bound.0 c.loop-i-test.true (kept_in _ _ c.args.column.now _ c.meet.ensures w.if-meet-ne0.true) w.kept-is w.n-is
       | else-meet-ne0 w ↦ keeping-out c.loop-i.invariant c.loop-i-test.true (kept_out _ _ c.args.column.now _ c.meet.ensures w.if-meet-ne0.false) w.kept-is w.n-is
     ]
 

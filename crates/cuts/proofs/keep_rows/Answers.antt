@@ -1,6 +1,6 @@
 -- `cuts::keep_rows`: of the first i users the rows are kept.
 -- Assumes nothing.
-use Prim.Native.Nat.{ℕ, ◌-◌}
+use Prim.Native.Nat.{ℕ}
 use mathlib.Core.Path.{sym, ap, ◌∙◌}
 use native.Mathlib.Omega.{arith}
 use lib.ListN.{length, length-replicate}
@@ -25,7 +25,7 @@ bounds-kept-i c =
 pub loop-i-preserved : goal.loop-i-preserved
 loop-i-preserved c =
     elim c.if-contains.branch [
-      then-contains w ↦ rows_in c.requires.rows_len_bound c.loop-i.invariant c.loop-i-test.true c.contains.ensures w.if-contains.true w.kept-is
+      | then-contains w ↦ rows_in c.requires.rows_len_bound c.loop-i.invariant c.loop-i-test.true c.contains.ensures w.if-contains.true w.kept-is
       | else-contains w ↦ rows_out c.requires.rows_len_bound c.loop-i.invariant c.loop-i-test.true c.contains.ensures w.if-contains.false w.kept-is
     ]
 

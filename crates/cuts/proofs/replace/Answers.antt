@@ -1,6 +1,5 @@
 -- `cuts::replace`: the first i words of the section are written.
 -- Assumes nothing.
-use Prim.Native.Nat.{◌-◌}
 use native.Mathlib.Omega.{arith}
 use Rattle.cuts.proofs.ReplacingLaws.{replaced-none, replaced-more, replaced-all, replaced-long}
 use Rattle.cuts.proofs.replace.Goals as goal

@@ -1,6 +1,5 @@
 -- `stands_in` tries each place: the answer from there on is the answer.
 -- Assumes nothing.
-use Prim.Native.Nat.{◌-◌}
 use native.Mathlib.Omega.{arith}
 use borrow.Author.Rules.{rules}
 use Rattle.mentions.proofs.StandsLaws.{onward-first, onward-hit, onward-next, onward-none}

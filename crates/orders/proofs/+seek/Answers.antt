@@ -4,7 +4,6 @@ use mathlib.Core.Path.{◌≡◌}
 use native.Mathlib.Omega.{arith}
 use lib.ListN.{length, length-set}
 use Rattle.orders.specs.Code.Desk.{desk_length}
-use Prim.Native.Nat.{◌-◌}
 use Rattle.orders.proofs.+seek.Goals as goal
 use Rattle.orders.proofs.+seek.Goals.{then-admits+then-next-desk, then-admits+else-next-desk, else-admits}
 

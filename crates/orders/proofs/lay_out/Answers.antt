@@ -1,6 +1,5 @@
 -- `orders::lay_out` meets its contract.
 -- Assumes nothing.
-use Prim.Native.Nat.{◌-◌}
 use native.Mathlib.Omega.{arith}
 use lib.ListN.{length-set}
 use Rattle.orders.proofs.lay_out.Goals as goal

@@ -1,6 +1,5 @@
 -- `orders::weigh` meets its contract.
 -- Assumes nothing.
-use Prim.Native.Nat.{◌-◌}
 use native.Mathlib.Omega.{arith}
 use lib.ListN.{length-set}
 use Rattle.orders.proofs.weigh.Goals as goal

@@ -1,6 +1,5 @@
 -- `pages::count` counts the lines as far as a page may have. The invariant: the lines counted and those to come are all lines.
 -- Assumes nothing.
-use Prim.Native.Nat.{◌-◌}
 use native.Mathlib.Omega.{arith}
 use Rattle.pages.proofs.LineLaws.{counting-none, counting-next, counting-all, counting-enough}
 use Rattle.pages.proofs.count.Goals as goal

@@ -1,6 +1,6 @@
 -- What is written for an operation: a name with its bracket, or the sign that stands between two things.
 -- Internal: contracts of entry points do not speak of it. Assumes nothing.
-use Rattle.std.specs.Prelude.{List, [], ◌∷◌, ◌++◌, ℕ, ◌+◌, ◌-◌, get_or}
+use Rattle.std.specs.Prelude.{List, [], ◌∷◌, ◌++◌, ℕ, ◌-◌, get_or}
 use Rattle.syntax.specs.Bytes.{Bytes, ascii}
 use Rattle.syntax.specs.Term.{b_u, b_r, b_op, b_obj, b_p, b_s, b_cr, b_cp, b_cu, user, roles, roles*, sessions, permissions, permissions*, object}
 use Rattle.syntax.specs.Term.{is_base, is_call, is_oe, is_ao, calls, joins, operations, done, meet, join, opening, parting, spell}

@@ -1,7 +1,6 @@
 -- `protocol::read_number` gives `value_of`. The invariant: the digits passed stand for n.
 -- Assumes nothing.
 use mathlib.Core.Path.{ap, sym}
-use Prim.Native.Nat.{◌-◌}
 use native.Mathlib.Omega.{arith}
 use Rattle.protocol.specs.Code.Taken.{took}
 use Rattle.protocol.proofs.NumbersLaws.{value-first, value_none, value-next, too-low, too-high, too_much, value-all}

@@ -1,7 +1,6 @@
 -- `protocol::read_pairs` writes the bytes of `pairs`. The invariant: the digits passed gave the n bytes written.
 -- Assumes nothing.
 use mathlib.Core.Path.{refl}
-use Prim.Native.Nat.{◌-◌}
 use native.Mathlib.Omega.{arith}
 use borrow.Author.Rules.{rules}
 use Rattle.protocol.proofs.HexLaws.{paired_none, paired-next, no-high, no-low, odd-one, all-pairs}

@@ -1,7 +1,6 @@
 -- `protocol::write_pairs` writes `hex_of`. The invariant: the digits of the bytes passed were written.
 -- Assumes nothing.
 use mathlib.Core.Path.{refl}
-use Prim.Native.Nat.{◌-◌}
 use native.Mathlib.Omega.{arith}
 use borrow.Author.Rules.{rules}
 use lib.ListN.{length-set}

@@ -1,7 +1,6 @@
 -- `readers::line` lends the reader's line: refused tables first, then the reader's word, then the line of the cut tables.
 -- Assumes nothing.
 use native.Mathlib.Omega.{arith}
-use borrow.Author.Rules.{rules}
 use Rattle.verdicts.proofs.LoadedLaws.{load-rejected, load-taken}
 use Rattle.readers.proofs.LineLaws.{line-rejected, took-fits, count-few, cut-loaded, line-beyond, line-lent}
 use Rattle.readers.proofs.line.Goals as goal

@@ -5,7 +5,6 @@ use native.Mathlib.Omega.{arith}
 use lib.ListN.{length}
 use Rattle.texts.proofs.SpansLaws.{lies}
 use Rattle.sheets.proofs.JudgedLaws.{long-made, zero-made, no-line-at, found-made}
-use borrow.Author.Rules.{rules}
 use Rattle.sheets.proofs.judged_line.Goals as goal
 
 pub returns-then-rules-gt-RULES_LIMIT : goal.returns-then-rules-gt-RULES_LIMIT

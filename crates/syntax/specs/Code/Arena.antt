@@ -1,9 +1,9 @@
 -- How the code holds a tree: nodes in a flat list, each an operation with at most two smaller indexes, no two nodes equal.
 -- Internal: contracts of entry points do not speak of it. Assumes nothing.
-use Rattle.std.specs.Prelude.{◌≡◌, Bool, true, false, ◌||◌, ◌&&◌, List, [], ◌∷◌, ℕ, ◌+◌, ◌<◌, ◌≤◌, ltb, leb, length, get_or}
+use Rattle.std.specs.Prelude.{◌≡◌, Bool, true, ◌||◌, ◌&&◌, List, [], ◌∷◌, ℕ, ◌+◌, ◌<◌, ◌≤◌, ltb, leb, length, get_or}
 use Rattle.syntax.specs.Term.{Base, b_u, b_r, b_op, b_obj, b_p, b_s, b_cr, b_cp, b_cu, Fn, user, roles, roles*, sessions, permissions}
-use Rattle.syntax.specs.Term.{permissions*, object, Fn2, operations, done, Op, meet, join, Pair, calls, joins, Term, base, call, oe, ao, two}
-use Rattle.syntax.specs.Rule.{Cmp, lt, le, gt, ge, eq, ne, Sign, is, isnt, Count, number, count, Test, member, alike, empty, sized}
+use Rattle.syntax.specs.Term.{permissions*, object, operations, done, meet, join, Pair, calls, joins, Term, base, call, oe, ao, two}
+use Rattle.syntax.specs.Rule.{Cmp, lt, le, gt, ge, eq, ne, Sign, is, isnt, number, count, Test, member, alike, empty, sized}
 use Rattle.syntax.specs.Rule.{Clause, plain, when, Rule, last, also}
 use Rattle.syntax.specs.Code.Nodes.{first_call, oe_op, ao_op, first_pair, first_join, member_op, first_alike, first_empty, first_numbered, first_counted, when_op, also_op, ops_end, operation_of, left_of, right_of, node_of, index_room}
 

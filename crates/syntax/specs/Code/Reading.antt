@@ -1,12 +1,12 @@
 -- What the functions of the reader ensure: which name stands at a place, what a reader found, what the nodes hold.
 -- Internal: contracts of entry points do not speak of it. Assumes nothing.
-use Rattle.std.specs.Prelude.{◌≡◌, Bool, true, false, cond, List, [], ◌∷◌, ℕ, ◌+◌, ◌-◌, ◌<◌, ◌≤◌, eqb, ltb, length, get_or, drop}
+use Rattle.std.specs.Prelude.{◌≡◌, Bool, cond, List, [], ◌∷◌, ℕ, ◌+◌, ◌-◌, ◌<◌, ◌≤◌, eqb, ltb, length, get_or, drop}
 use Rattle.std.proofs.Math.Option.{Option, none, some}
-use Rattle.syntax.specs.Bytes.{Bytes, ascii, Read, fail, got, Reader, ◌>>=◌, ◌>>◌, give, skip, begins, scan, either}
-use Rattle.syntax.specs.Term.{Base, Fn, Fn2, operations, done, meet, join, Pair, calls, joins, Term, oe, ao, two, Choices, Head, is_base, is_call, is_oe, is_ao}
-use Rattle.syntax.specs.Term.{is_call2, is_bracket, is_choice, Middle, is_less, spell_middle, parting, middles, known, closed, read_term}
+use Rattle.syntax.specs.Bytes.{Bytes, ascii, Read, fail, got, Reader, ◌>>=◌, ◌>>◌, give, skip, begins, scan}
+use Rattle.syntax.specs.Term.{Fn2, operations, done, meet, join, Pair, calls, joins, Term, oe, ao, two, Choices, Head, is_base, is_call, is_oe, is_ao}
+use Rattle.syntax.specs.Term.{is_call2, is_bracket, is_choice, is_less, spell_middle, parting, known, closed, read_term}
 use Rattle.syntax.specs.Rule.{Between, is_in, is_sign, Cmp, Test, Clause, Rule, last, also, sized, spell_cmp, cmps, spell_between, betweens, read_count, read_second}
-use Rattle.syntax.specs.Code.Arena.{base_op, fn_op, two_op, alike_op, cmp_number, One, Holds, HoldsAll, HoldsClause, HoldsRule, Low, Tidy}
+use Rattle.syntax.specs.Code.Arena.{base_op, fn_op, two_op, alike_op, One, Holds, HoldsAll, HoldsClause, HoldsRule, Low, Tidy}
 use Rattle.syntax.specs.declared.names.Spelled.{Spelled}
 use Rattle.syntax.specs.declared.names.Spelled.TheVariants.{Unknown, Name}
 use Rattle.syntax.specs.declared.arena.Place.{Place}

@@ -1,7 +1,7 @@
 -- `walks::after` meets its contract. The loop's invariant: the answer from i on is the answer.
 -- Assumes nothing.
 use mathlib.Core.Path.{refl, sym, ◌∙◌}
-use Prim.Native.Nat.{◌<◌, ◌-◌}
+use Prim.Native.Nat.{◌<◌}
 use native.Mathlib.Omega.{arith}
 use lib.ListN.{length, get_or}
 use Rattle.walks.specs.Order.{named_by}

@@ -1,7 +1,7 @@
 -- `walks::begins_alike` meets its contract. The invariant: both begin with the same i variables.
 -- Assumes nothing.
 use mathlib.Core.Path.{◌≡◌, refl}
-use Prim.Native.Nat.{ℕ, ◌-◌}
+use Prim.Native.Nat.{ℕ}
 use native.Mathlib.Omega.{arith}
 use Rattle.walks.proofs.LoopLaws.{alike_next}
 use Rattle.walks.proofs.begins_alike.Goals as goal

@@ -1,7 +1,6 @@
 -- `walks::free` meets its contract. The loop's invariant: the answer from i on is the answer.
 -- Assumes nothing.
 use mathlib.Core.Path.{refl, sym, ◌∙◌}
-use Prim.Native.Nat.{◌-◌}
 use native.Mathlib.Omega.{arith}
 use Rattle.walks.specs.Order.{named_by}
 use Rattle.walks.proofs.LoopLaws.{free-end, free-stop, free-go}

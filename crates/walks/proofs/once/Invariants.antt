@@ -1,7 +1,6 @@
 -- `walks::once` meets its contract. The loop's invariant: the answer for the numbers below k is the answer.
 -- Assumes nothing.
 use mathlib.Core.Path.{◌≡◌}
-use Prim.Native.Nat.{◌-◌}
 use Rattle.walks.specs.Order.{is_once}
 use Rattle.walks.proofs.once.Given as goal
 

@@ -1,7 +1,6 @@
 -- `walks::small` meets its contract. The loop's invariant: the answer from i on is the answer.
 -- Assumes nothing.
 use mathlib.Core.Path.{refl, sym, ◌∙◌}
-use Prim.Native.Nat.{◌-◌}
 use native.Mathlib.Omega.{arith}
 use Rattle.walks.proofs.LoopLaws.{small-end, small-stop, small-go}
 use Rattle.walks.proofs.small.Goals as goal

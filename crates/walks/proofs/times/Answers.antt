@@ -1,6 +1,5 @@
 -- `walks::times` meets its contract. The loop's invariant: what is found and what stands from i on add up.
 -- Assumes nothing.
-use Prim.Native.Nat.{◌-◌}
 use native.Mathlib.Omega.{arith}
 use Rattle.walks.proofs.LoopLaws.{count-end, count-hit, count-miss}
 use Rattle.walks.proofs.times.Goals as goal
@@ -27,7 +26,7 @@ loop-i-smaller c = omega arith
 pub loop-i-preserved : goal.loop-i-preserved
 loop-i-preserved c =
     elim c.if-u-v.branch [
-      then-u-v w ↦ omega (arith, c.loop-i.invariant.2, count-hit c.args.order.now c.loop-i.i c.args.u c.loop-i-test.true w.if-u-v.true)
+      | then-u-v w ↦ omega (arith, c.loop-i.invariant.2, count-hit c.args.order.now c.loop-i.i c.args.u c.loop-i-test.true w.if-u-v.true)
       | else-u-v w ↦ omega (arith, c.loop-i.invariant.2, count-miss c.args.order.now c.loop-i.i c.args.u c.loop-i-test.true w.if-u-v.false)
     ]
 

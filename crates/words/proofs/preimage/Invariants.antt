@@ -1,6 +1,6 @@
 -- `words::preimage` meets its contract. Invariant: what was found are those of the first i items whose row meets w.
 -- The measure is what is left of the rows. Assumes nothing.
-use Prim.Native.Nat.{◌≤◌, ◌-◌}
+use Prim.Native.Nat.{◌≤◌}
 use mathlib.Core.Path.{◌≡◌}
 use Rattle.words.specs.Words.{word_of}
 use Rattle.words.proofs.LoopLaws.{meets}

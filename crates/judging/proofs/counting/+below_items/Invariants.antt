@@ -6,7 +6,7 @@ use Rattle.tables.specs.Tables.{Tables}
 use Rattle.syntax.specs.Rule.{Rule}
 use Rattle.judging.specs.Code.Planning.{Layout, Planned, Caches, Keeps}
 use Rattle.judging.specs.Code.Counting.{TurningAt}
-use Prim.Native.Nat.{◌<◌, ◌+◌, ◌-◌, ◌*◌, ◌^◌}
+use Prim.Native.Nat.{◌<◌, ◌+◌, ◌*◌, ◌^◌}
 use Rattle.judging.proofs.counting.+below_items.Given as goal
 
 abbrev pub decreases-below : goal.decreases-below

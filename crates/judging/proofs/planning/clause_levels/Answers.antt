@@ -1,6 +1,5 @@
 -- `judging::planning::clause_levels` meets its contract. The invariant: those of the first i clauses are filled in.
 -- Assumes nothing.
-use Prim.Native.Nat.{◌-◌}
 use native.Mathlib.Omega.{arith}
 use Rattle.values.specs.Code.Plan.{levels_from}
 use Rattle.judging.proofs.PlanningLaws.{filled_none, filled_more}

@@ -1,7 +1,7 @@
 -- `judging::planning::masks` meets its contract. The invariant: the first ones are filled in.
 -- Assumes nothing.
 use mathlib.Core.Path.{◌≡◌}
-use Prim.Native.Nat.{◌+◌, ◌-◌}
+use Prim.Native.Nat.{◌+◌}
 use native.Mathlib.Omega.{arith}
 use lib.ListN.{get_or}
 use Rattle.judging.specs.Code.Planning.{contexts_from, masks_from}

@@ -1,4 +1,4 @@
-use Prim.Native.Nat.{◌+◌, ◌-◌}
+use Prim.Native.Nat.{◌+◌}
 use Rattle.judging.proofs.PlanningLaws.{noted-none, noted_more}
 use native.Mathlib.Omega.{arith}
 use Rattle.judging.proofs.planning.note.Goals as goal

@@ -1,7 +1,6 @@
 -- `judging::planning::places` meets its contract. The invariant: those at the depths below d are filled in.
 -- Assumes nothing.
 use mathlib.Core.Path.{refl}
-use Prim.Native.Nat.{◌-◌}
 use native.Mathlib.Omega.{arith}
 use Rattle.judging.specs.Code.Planning.{order_from}
 use Rattle.judging.proofs.PlanningLaws.{filled_none, filled_more}

@@ -1,7 +1,6 @@
 -- `judging::planning::sets` meets its contract. The invariant: those at the depths below d are filled in.
 -- Assumes nothing.
 use mathlib.Core.Path.{refl}
-use Prim.Native.Nat.{◌-◌}
 use native.Mathlib.Omega.{arith}
 use lib.ListN.{get_or}
 use Rattle.judging.specs.Code.Planning.{sets_from}

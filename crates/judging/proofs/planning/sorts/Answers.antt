@@ -1,4 +1,4 @@
-use Prim.Native.Nat.{◌+◌, ◌-◌}
+use Prim.Native.Nat.{◌+◌}
 use lib.ListN.{get_or}
 use Rattle.judging.proofs.PlanningLaws.{noted-none, noted_more}
 use native.Mathlib.Omega.{arith}

@@ -1,7 +1,6 @@
 -- `judging::planning::starts` meets its contract. The invariant: those of the levels below d are filled in.
 -- Assumes nothing.
 use mathlib.Core.Path.{refl}
-use Prim.Native.Nat.{◌-◌}
 use native.Mathlib.Omega.{arith}
 use Rattle.values.specs.Code.Plan.{starts_from}
 use Rattle.judging.proofs.PlanningLaws.{filled_none, filled_more}

@@ -1,6 +1,5 @@
 -- `judging::planning::steps` meets its contract. The invariant: the nodes below k are filled in.
 -- Assumes nothing.
-use Prim.Native.Nat.{◌-◌}
 use native.Mathlib.Omega.{arith}
 use Rattle.judging.proofs.PlanningLaws.{filled_none, filled-front}
 use Rattle.judging.proofs.planning.steps.Goals as goal

@@ -1,7 +1,6 @@
 -- `pages::parts::first_with` seeks the first line with the part of line k. The invariant: none before j has it.
 -- Assumes nothing.
 use mathlib.Core.Path.{◌≡◌}
-use Prim.Native.Nat.{◌-◌}
 use native.Mathlib.Omega.{arith}
 use Rattle.pages.proofs.SortLaws.{seek-first, seek-next, seek_hit, seek-self}
 use Rattle.pages.proofs.parts.first_with.Goals as goal

@@ -1,7 +1,7 @@
 -- `pages::parts::sort` sorts the lines by their quantifier parts. The invariant: the first k are sorted.
 -- Assumes nothing.
 use mathlib.Core.Path.{sym, ◌∙◌}
-use Prim.Native.Nat.{ℕ, ◌-◌, ◌<◌}
+use Prim.Native.Nat.{ℕ, ◌<◌}
 use native.Mathlib.Omega.{arith}
 use lib.ListN.{length, length-set, length-replicate}
 use Rattle.texts.specs.Pieces.{lines}

@@ -1,7 +1,6 @@
 -- `pages::sheaves::alike` meets its contract. The invariant: what was found are lines.
 -- Assumes nothing.
 use mathlib.Core.Path.{ap, ◌∙◌}
-use Prim.Native.Nat.{◌-◌}
 use native.Mathlib.Omega.{arith}
 use Rattle.words.specs.Words.{join_of}
 use Rattle.pages.proofs.SheafLaws.{lines_none, lines-add}

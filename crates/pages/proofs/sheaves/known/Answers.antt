@@ -1,7 +1,6 @@
 -- `pages::sheaves::known` meets its contract. The invariant: the lines that were found have their counts.
 -- Assumes nothing.
 use mathlib.Core.Path.{sym, ◌∙◌}
-use Prim.Native.Nat.{◌-◌}
 use native.Mathlib.Omega.{arith}
 use Rattle.pages.proofs.SheafLaws.{wanted-lines, known-none}
 use Rattle.pages.proofs.sheaves.known.Goals as goal

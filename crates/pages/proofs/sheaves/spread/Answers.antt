@@ -1,7 +1,7 @@
 -- `pages::sheaves::spread` meets its contract. The invariant: the counts of the first l gathered lines are in their places.
 -- Assumes nothing.
 use mathlib.Core.Path.{◌≡◌, ap, ◌∙◌}
-use Prim.Native.Nat.{ℕ, ◌-◌}
+use Prim.Native.Nat.{ℕ}
 use native.Mathlib.Omega.{arith}
 use Rattle.words.specs.Words.{join_of}
 use Rattle.pages.proofs.SheafLaws.{spreads-none, spreads-next}

@@ -1,7 +1,7 @@
 -- `pages::tallies::tallied` judges line by line. The invariant: the first k lines are judged, and those known have their counts from k on.
 -- Assumes nothing.
 use mathlib.Core.Path.{◌≡◌, sym, ◌∙◌}
-use Prim.Native.Nat.{◌-◌, ◌<◌}
+use Prim.Native.Nat.{◌<◌}
 use native.Mathlib.Omega.{arith}
 use lib.ListN.{length, length-take, length-drop}
 use Rattle.texts.proofs.SpansLaws.{lies}

@@ -1,6 +1,5 @@
 -- `write_quantifiers` lends the rest of the sheet to itself for the next index; what is left of the choices falls.
 -- Assumes nothing.
-use Prim.Native.Nat.{◌-◌}
 use native.Mathlib.Omega.{arith}
 use Rattle.printer.proofs.RulePrintsLaws.{ready-choice, quantifiers-none, quantifiers-then}
 use Rattle.printer.proofs.rules.+write_quantifiers.Goals as goal

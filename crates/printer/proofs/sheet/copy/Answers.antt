@@ -1,6 +1,5 @@
 -- `copy` copies byte by byte: the loop has copied the first i bytes.
 -- Assumes nothing.
-use Prim.Native.Nat.{◌-◌}
 use native.Mathlib.Omega.{arith}
 use Rattle.printer.proofs.PrintedLaws.{copied_none, copied_next, copied_all}
 use Rattle.printer.proofs.sheet.copy.Goals as goal

@@ -1,6 +1,5 @@
 -- `rules::depth::too_deep`: the surplus is that of the bytes read, and passed 32 nowhere before.
 -- Assumes nothing.
-use Prim.Native.Nat.{◌-◌}
 use native.Mathlib.Omega.{arith}
 use lib.ListN.{get_or}
 use mir.Syntax.{w32}

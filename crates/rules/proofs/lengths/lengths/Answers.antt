@@ -1,7 +1,6 @@
 -- `rules::lengths::lengths` fills the list of lengths from the front: the nodes below k have theirs.
 -- Assumes nothing.
 use mathlib.Core.Path.{◌≡◌, refl, ◌∙◌}
-use Prim.Native.Nat.{◌-◌}
 use native.Mathlib.Omega.{arith}
 use lib.ListN.{length-set}
 use Rattle.rules.proofs.LengthLaws.{measured-none, measured-next}
@@ -14,12 +13,11 @@ pub overflow_cast-lens : goal.overflow_cast-lens
 overflow_cast-lens c = omega (arith, c.length_of.ensures)
 
 pub loop-k-preserved : goal.loop-k-preserved
-loop-k-preserved c =
-    (
-      omega arith,
-      length-set c.loop-k.lens c.loop-k.k c.length_of.result ∙ c.loop-k.invariant.1,
-      λ σ w. measured-next c.requires.tidy.apart (omega arith) w (c.loop-k.invariant.2 σ w) c.length_of.ensures (omega arith),
-    )
+loop-k-preserved c = (
+  omega arith,
+  length-set c.loop-k.lens c.loop-k.k c.length_of.result ∙ c.loop-k.invariant.1,
+  λ σ w. measured-next c.requires.tidy.apart (omega arith) w (c.loop-k.invariant.2 σ w) c.length_of.ensures (omega arith),
+)
 
 pub returns : goal.returns
 returns c =

@@ -1,6 +1,5 @@
 -- `rules::lengths::totalled` adds the quantifiers to the rule one by one.
 -- Assumes nothing.
-use Prim.Native.Nat.{◌-◌}
 use native.Mathlib.Omega.{arith}
 use Rattle.rules.proofs.FormulaLengthLaws.{totalled_none, totalled-next, totalled-all}
 use Rattle.rules.proofs.lengths.totalled.Goals as goal

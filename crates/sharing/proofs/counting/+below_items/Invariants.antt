@@ -8,7 +8,7 @@ use Rattle.judging.specs.Code.Planning.{sets_from, Caches}
 use Rattle.judging.specs.Code.Counting.{depth_of}
 use Rattle.sharing.specs.Code.Lines.{Held, Grouped, KeptFor}
 use Rattle.sharing.proofs.WalkLaws.{TurningFor}
-use Prim.Native.Nat.{ℕ, ◌<◌, ◌+◌, ◌-◌, ◌*◌, ◌^◌}
+use Prim.Native.Nat.{ℕ, ◌<◌, ◌+◌, ◌*◌, ◌^◌}
 use Rattle.sharing.proofs.counting.+below_items.Given as goal
 
 abbrev pub decreases-below : goal.decreases-below

@@ -2,7 +2,7 @@
 -- Assumes nothing.
 use mathlib.Core.Path.{◌≡◌}
 use mathlib.Core.Bool.{true, false}
-use Prim.Native.Nat.{ℕ, ◌<◌, ◌+◌, ◌-◌, ◌^◌}
+use Prim.Native.Nat.{ℕ, ◌<◌, ◌+◌, ◌^◌}
 use lib.ListN.{length, get_or}
 use Rattle.words.specs.Words.{has}
 use Rattle.judging.specs.Code.Planning.{sets_from, Caches}

@@ -1,7 +1,6 @@
 -- `copy` copies number by number: the loop has copied the first i.
 -- Assumes nothing.
 use mathlib.Core.Path.{◌≡◌}
-use Prim.Native.Nat.{◌-◌}
 use native.Mathlib.Omega.{arith}
 use Rattle.sharing.proofs.GatheringLaws.{copying-none, copying-next}
 use Rattle.sharing.proofs.gathering.copy.Goals as goal

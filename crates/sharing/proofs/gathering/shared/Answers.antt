@@ -1,7 +1,6 @@
 -- `shared` takes the first line, and another as long as the nodes passed are equal and as many.
 -- Assumes nothing.
 use mathlib.Core.Path.{◌≡◌}
-use Prim.Native.Nat.{◌-◌}
 use native.Mathlib.Omega.{arith}
 use borrow.Author.Count.{below_more}
 use Rattle.sharing.proofs.GatheringLaws.{shared-first, shared-not, shared-all}

@@ -1,7 +1,6 @@
 -- `variables` walks over one clause after the other: the loop has the variables of the first i.
 -- Assumes nothing.
 use mathlib.Core.Path.{◌≡◌}
-use Prim.Native.Nat.{◌-◌}
 use native.Mathlib.Omega.{arith}
 use lib.ListN.{length}
 use Rattle.sharing.proofs.GatheringLaws.{varied-start, varied-next}

@@ -1,7 +1,6 @@
 -- `sharing::laying::by_depth` meets its contract. The invariant: the words of the depths below d are right.
 -- Assumes nothing.
 use mathlib.Core.Path.{refl, ◌∙◌}
-use Prim.Native.Nat.{◌-◌}
 use native.Mathlib.Omega.{arith}
 use lib.ListN.{length-set}
 use Rattle.judging.specs.Code.Planning.{SetsNamedFrom}

@@ -1,7 +1,6 @@
 -- `sharing::laying::lay` meets its contract. The invariant: the words of the first l lines are laid.
 -- Assumes nothing.
 use mathlib.Core.Path.{◌≡◌, refl, sym, ◌∙◌}
-use Prim.Native.Nat.{◌-◌}
 use native.Mathlib.Omega.{arith}
 use lib.ListN.{length}
 use Rattle.sharing.proofs.LayingLaws.{laid_more, clauses-low, order-in, chosen-long, chosen-below, nodes-tidy, nodes-few, vars-below, vars-few, lays-lines}

@@ -1,6 +1,6 @@
 -- `sharing::laying::line` meets its contract. The invariant: the masks of the depths below d are laid.
 -- Assumes nothing.
-use Prim.Native.Nat.{ℕ, ◌+◌, ◌-◌, ◌*◌, ◌<◌, ◌^◌}
+use Prim.Native.Nat.{ℕ, ◌+◌, ◌*◌, ◌<◌, ◌^◌}
 use native.Mathlib.Omega.{arith}
 use lib.ListN.{get_or, length-set}
 use Rattle.judging.proofs.PlanningLaws.{filled_none, filled_more}

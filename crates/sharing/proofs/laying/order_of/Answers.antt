@@ -1,7 +1,7 @@
 -- `sharing::laying::order_of` meets its contract. The invariant: the first d variables are there.
 -- Assumes nothing.
 use mathlib.Core.Path.{◌≡◌, refl, ◌∙◌}
-use Prim.Native.Nat.{ℕ, ◌+◌, ◌-◌}
+use Prim.Native.Nat.{ℕ, ◌+◌}
 use native.Mathlib.Omega.{arith}
 use lib.ListN.{get_or, length-set}
 use Rattle.judging.specs.Code.Planning.{order_from}

@@ -1,15 +1,14 @@
 -- `sharing::lines::add` meets its contract. The invariant: each line that was gone over has its summand, the others none yet.
 -- Assumes nothing.
 use mathlib.Core.Path.{◌≡◌, refl, sym, ◌∙◌}
-use mathlib.Core.Bool.{Bool, true, false, cond}
+use mathlib.Core.Bool.{cond}
 use mathlib.Core.List.{List}
-use Prim.Native.Nat.{ℕ, ◌+◌, ◌^◌, ◌<◌, ◌≤◌}
+use Prim.Native.Nat.{ℕ, ◌+◌, ◌^◌, ◌<◌}
 use native.Mathlib.Omega.{arith}
-use lib.ListN.{length, get_or, set, length-set}
-use lib.Seq.{get_or-set_same, get_or-set_other}
-use Rattle.words.specs.Words.{has, item_of, less_of}
+use lib.ListN.{length, get_or, length-set}
+use Rattle.words.specs.Words.{has}
 use Rattle.sharing.specs.Code.Lines.{lines_limit}
-use Rattle.sharing.proofs.LineLaws.{Going, going_start, going_end, going_on, Turn, turn}
+use Rattle.sharing.proofs.LineLaws.{going_start, going_end, Turn, turn}
 use Rattle.sharing.proofs.AddedLaws.{Added, Same, added, more-is, more-not, cond-le}
 use Rattle.sharing.proofs.lines.add.Goals as goal
 use Rattle.sharing.proofs.lines.add.Goals.{then-contains, else-contains}

@@ -1,16 +1,13 @@
 -- `sharing::lines::failed` meets its contract. The invariant: of the lines that were gone over, those found have a false clause; no other line is found.
 -- Assumes nothing.
-use mathlib.Core.Path.{◌≡◌, sym, ◌∙◌}
-use mathlib.Core.Bool.{true, false, not, true≢false}
+use mathlib.Core.Path.{sym, ◌∙◌}
+use mathlib.Core.Bool.{true≢false}
 use mathlib.Core.Logic.{⊎_elim}
-use mathlib.Core.List.{List}
-use Prim.Native.Nat.{ℕ, ◌<◌}
+use Prim.Native.Nat.{ℕ}
 use native.Mathlib.Omega.{arith}
 use lib.Dec.{lit<}
 use Rattle.words.specs.Words.{has}
 use Rattle.words.proofs.WordsLaws.{has-zero, join-lt}
-use Rattle.values.specs.Code.Plan.{HoldsAmong}
-use Rattle.sharing.specs.Code.Lines.{from_of, to_of}
 use Rattle.sharing.proofs.LineLaws.{going_start, going_end, Turn, turn}
 use Rattle.sharing.proofs.WalkLaws.{true-or-false}
 use Rattle.sharing.proofs.FailedLaws.{Told, Untold, false-on, true-on}

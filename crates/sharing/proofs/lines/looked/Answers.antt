@@ -1,7 +1,6 @@
 -- `sharing::lines::looked` meets its contract. The invariant: of the lines that were gone over, each has its kept count or is missing.
 -- Assumes nothing.
 use mathlib.Core.Path.{refl, ◌∙◌}
-use mathlib.Core.Bool.{true, false}
 use mathlib.Core.List.{List}
 use Prim.Native.Nat.{ℕ, ◌-◌, ◌<◌}
 use native.Mathlib.Omega.{arith}

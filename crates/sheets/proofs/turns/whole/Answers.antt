@@ -1,6 +1,5 @@
 -- `sheets::turns::whole` counts all lines. The invariant: the total is that of the lines so far.
 -- Assumes nothing.
-use Prim.Native.Nat.{◌-◌}
 use native.Mathlib.Omega.{arith}
 use Rattle.sheets.proofs.TurnLaws.{none-sofar, total-whole}
 use Rattle.sheets.proofs.turns.whole.Goals as goal

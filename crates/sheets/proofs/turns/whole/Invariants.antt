@@ -3,7 +3,6 @@
 use Prim.Native.Nat.{suc, ◌-◌}
 use lib.ListN.{length}
 use Rattle.sheets.specs.Code.Turns.{SofarOn}
-use borrow.Author.Rules.{rules}
 use Rattle.sheets.proofs.turns.whole.Given as goal
 
 abbrev pub invariant-loop-at : goal.invariant-loop-at

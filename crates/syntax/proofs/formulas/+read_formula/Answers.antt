@@ -10,7 +10,7 @@ use Rattle.syntax.proofs.ArenaLaws.{stays-refl}
 use Rattle.syntax.proofs.NameLaws.{hit, miss}
 use Rattle.syntax.proofs.ReadingLaws.{as_none, as_some, agree-from, ready_at}
 use Rattle.syntax.proofs.FormulaLaws.{formula-open, formula-rule, formula-full, formula-lost, formula-more, knows_more}
-use Prim.Native.Nat.{◌<◌, ◌-◌}
+use Prim.Native.Nat.{◌<◌}
 use Rattle.syntax.proofs.formulas.+read_formula.Goals as goal
 
 pub stands-requires : goal.stands-requires

@@ -1,12 +1,11 @@
 -- `between_at` tries the signs between two terms, one name after the other.
 -- Assumes nothing.
 use native.Mathlib.Omega.{arith}
-use mathlib.Core.List.{List}
 use lib.ListN.{drop}
-use Rattle.syntax.specs.Rule.{Between, is_in, is_sign, is, isnt, spell_between, betweens}
+use Rattle.syntax.specs.Rule.{is_in, is_sign, is, isnt, spell_between, betweens}
 use Rattle.syntax.specs.Code.Arena.{alike_op}
 use Rattle.syntax.specs.Code.Reading.{between_op}
-use Rattle.syntax.proofs.NameLaws.{From, from_all, past, here, nowhere}
+use Rattle.syntax.proofs.NameLaws.{from_all, past, here, nowhere}
 use Rattle.syntax.proofs.names.between_at.Goals as goal
 
 pub returns-then-stands : goal.returns-then-stands

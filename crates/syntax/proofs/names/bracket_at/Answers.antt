@@ -1,12 +1,11 @@
 -- `bracket_at` tries what is left of the beginnings, one name after the other.
 -- Assumes nothing.
 use native.Mathlib.Omega.{arith}
-use mathlib.Core.List.{List}
 use lib.ListN.{drop}
-use Rattle.syntax.specs.Term.{Head, is_bracket, is_choice, spell, bracket_heads, is_call2, operations, done}
+use Rattle.syntax.specs.Term.{is_bracket, is_choice, spell, bracket_heads, is_call2, operations, done}
 use Rattle.syntax.specs.Code.Arena.{base_op, fn_op}
 use Rattle.syntax.specs.Code.Reading.{head_op}
-use Rattle.syntax.proofs.NameLaws.{From, from_all, past, here, nowhere}
+use Rattle.syntax.proofs.NameLaws.{from_all, past, here, nowhere}
 use Rattle.syntax.proofs.names.bracket_at.Goals as goal
 
 pub returns-then-stands : goal.returns-then-stands

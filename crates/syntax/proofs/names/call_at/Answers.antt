@@ -1,12 +1,11 @@
 -- `call_at` tries the functions of one term, one name after the other.
 -- Assumes nothing.
 use native.Mathlib.Omega.{arith}
-use mathlib.Core.List.{List}
 use lib.ListN.{drop}
-use Rattle.syntax.specs.Term.{Head, is_call, user, roles*, roles, sessions, permissions*, permissions, object, spell, call_heads}
+use Rattle.syntax.specs.Term.{is_call, user, roles*, roles, sessions, permissions*, permissions, object, spell, call_heads}
 use Rattle.syntax.specs.Code.Arena.{base_op, fn_op}
 use Rattle.syntax.specs.Code.Reading.{head_op}
-use Rattle.syntax.proofs.NameLaws.{From, from_all, past, here, onward}
+use Rattle.syntax.proofs.NameLaws.{from_all, past, here, onward}
 use Rattle.syntax.proofs.names.call_at.Goals as goal
 
 pub returns-then-stands : goal.returns-then-stands

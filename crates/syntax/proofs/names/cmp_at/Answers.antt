@@ -1,11 +1,10 @@
 -- `cmp_at` tries the comparisons, one name after the other.
 -- Assumes nothing.
 use native.Mathlib.Omega.{arith}
-use mathlib.Core.List.{List}
 use lib.ListN.{drop}
-use Rattle.syntax.specs.Rule.{Cmp, le, lt, ge, gt, eq, ne, spell_cmp, cmps}
+use Rattle.syntax.specs.Rule.{le, lt, ge, gt, eq, ne, spell_cmp, cmps}
 use Rattle.syntax.specs.Code.Arena.{cmp_number}
-use Rattle.syntax.proofs.NameLaws.{From, from_all, past, here, nowhere}
+use Rattle.syntax.proofs.NameLaws.{from_all, past, here, nowhere}
 use Rattle.syntax.proofs.names.cmp_at.Goals as goal
 
 pub returns-then-stands : goal.returns-then-stands

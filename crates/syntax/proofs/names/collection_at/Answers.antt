@@ -1,12 +1,11 @@
 -- `collection_at` tries collections and choices, one name after the other.
 -- Assumes nothing.
 use native.Mathlib.Omega.{arith}
-use mathlib.Core.List.{List}
 use lib.ListN.{drop}
-use Rattle.syntax.specs.Term.{Head, is_base, b_cr, b_cp, b_cu, is_oe, is_ao, spell, collection_heads}
+use Rattle.syntax.specs.Term.{is_base, b_cr, b_cp, b_cu, is_oe, is_ao, spell, collection_heads}
 use Rattle.syntax.specs.Code.Arena.{base_op, fn_op}
 use Rattle.syntax.specs.Code.Reading.{head_op}
-use Rattle.syntax.proofs.NameLaws.{From, from_all, past, here, onward}
+use Rattle.syntax.proofs.NameLaws.{from_all, past, here, onward}
 use Rattle.syntax.proofs.names.collection_at.Goals as goal
 
 pub returns-then-stands : goal.returns-then-stands

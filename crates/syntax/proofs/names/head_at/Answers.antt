@@ -1,12 +1,11 @@
 -- `head_at` tries the six sets, one name after the other.
 -- Assumes nothing.
 use native.Mathlib.Omega.{arith}
-use mathlib.Core.List.{List}
 use lib.ListN.{drop}
-use Rattle.syntax.specs.Term.{Head, is_base, b_u, b_r, b_obj, b_op, b_p, b_s, spell, heads}
+use Rattle.syntax.specs.Term.{is_base, b_u, b_r, b_obj, b_op, b_p, b_s, spell, heads}
 use Rattle.syntax.specs.Code.Arena.{base_op, fn_op}
 use Rattle.syntax.specs.Code.Reading.{head_op}
-use Rattle.syntax.proofs.NameLaws.{From, from_all, past, here, onward}
+use Rattle.syntax.proofs.NameLaws.{from_all, past, here, onward}
 use Rattle.syntax.proofs.names.head_at.Goals as goal
 
 pub returns-then-stands : goal.returns-then-stands

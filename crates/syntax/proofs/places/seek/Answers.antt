@@ -1,6 +1,5 @@
 -- `seek` passes numbers that are not the one sought.
 -- Assumes nothing.
-use Prim.Native.Nat.{◌-◌}
 use borrow.Author.Count.{below_more, below_none}
 use borrow.Author.Rules.{rules}
 use native.Mathlib.Omega.{arith}

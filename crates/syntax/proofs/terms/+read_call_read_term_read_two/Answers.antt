@@ -8,7 +8,6 @@ use Rattle.syntax.proofs.NameLaws.{hit, miss, as-unknown, as-name}
 use Rattle.syntax.proofs.ReadingLaws.{as_none, as_some, agree-from, ready_at, ready_on, fresh-leaf, fresh_on, fresh-pair, leaf-found}
 use Rattle.syntax.proofs.ReadingLaws.{read-unknown, read_one, read-pair, read_known, closed_none, closed-lost, call-found}
 use Rattle.syntax.proofs.ReadingLaws.{paired_none, two-lost, away-found, two_none, two-open, two-small, two-found}
-use Prim.Native.Nat.{◌-◌}
 use Rattle.syntax.proofs.terms.+read_call_read_term_read_two.Goals as goal
 
 pub read_call-read_term-p-requires : goal.read_call-read_term-p-requires

@@ -1,6 +1,5 @@
 -- `join_clauses` joins from the last clause on: the rule of the clauses from k on is at a node.
 -- Assumes nothing.
-use Prim.Native.Nat.{◌-◌}
 use Rattle.syntax.specs.Code.Reading.{mk}
 use Rattle.syntax.proofs.ClauseLaws.{Joining}
 use Rattle.syntax.proofs.tests.join_clauses.Given as goal

@@ -1,7 +1,7 @@
 -- `read_clauses` reads clause after clause: those with `^` behind them are passed.
 -- Assumes nothing.
 use mathlib.Core.Path.{◌∙◌}
-use Prim.Native.Nat.{◌-◌, ◌<◌}
+use Prim.Native.Nat.{◌<◌}
 use native.Mathlib.Omega.{arith}
 use lib.ListN.{length, length-set}
 use Rattle.syntax.specs.Code.Reading.{no_clause, some_clauses}

@@ -1,6 +1,5 @@
 -- `tables::checks::in_reach`: the active roles of each session passed are its user's own or their juniors.
 -- Assumes nothing.
-use Prim.Native.Nat.{◌-◌}
 use lib.ListN.{length}
 use Rattle.tables.specs.Code.Reads.{reach_at, reaching}
 use Rattle.tables.proofs.AllLaws.{passed_none, passed-more, passed-not, passed-all}

@@ -1,6 +1,5 @@
 -- `tables::hierarchy::reflexive`: each role passed dominates itself.
 -- Assumes nothing.
-use Prim.Native.Nat.{◌-◌}
 use native.Mathlib.Omega.{arith}
 use lib.ListN.{length}
 use Rattle.tables.specs.Checks.{reflexive}

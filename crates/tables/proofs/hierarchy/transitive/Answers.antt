@@ -1,6 +1,5 @@
 -- `tables::hierarchy::transitive`: each role passed is closed.
 -- Assumes nothing.
-use Prim.Native.Nat.{◌-◌}
 use mathlib.Core.Path.{◌∙◌}
 use lib.ListN.{length}
 use Rattle.tables.specs.Code.Reads.{closed_at}

@@ -1,6 +1,5 @@
 -- `tables::rows::word`: from the highest byte down, w is the word of the bytes from i on.
 -- Assumes nothing.
-use Prim.Native.Nat.{◌-◌}
 use Rattle.tables.proofs.ReadLaws.{WordRead}
 use Rattle.tables.proofs.rows.word.Given as goal
 

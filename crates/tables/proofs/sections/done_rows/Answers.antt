@@ -1,6 +1,5 @@
 -- `tables::sections::done_rows`: the rows of Done read so far are stored in three lists, and what is read from here on is the rest.
 -- Assumes nothing.
-use Prim.Native.Nat.{◌-◌}
 use native.Mathlib.Omega.{arith}
 use mathlib.Core.Path.{◌∙◌}
 use Rattle.tables.specs.Reading.{done_row}

@@ -1,6 +1,5 @@
 -- `tables::sections::rows`: the rows read so far are stored, and what is read from here on is the rest.
 -- Assumes nothing.
-use Prim.Native.Nat.{◌-◌}
 use native.Mathlib.Omega.{arith}
 use Rattle.tables.specs.Code.Reads.{row_of}
 use Rattle.tables.proofs.ReadLaws.{as-took, as-stop, stops_as}

@@ -66,8 +66,11 @@ returns-in_default-fifth c =
 
 pub done-requires : goal.done-requires
 done-requires c =
-    let z = as-took c.collections-fifth.ensures c.in-Took-fifth.is in record { at_in_bounds = z.within; whole = c.collections-fifth.auto.words ∙ c.rights-fourth.auto.words ∙ c.sessions-third.auto.words
-          ∙ c.users-second.auto.words ∙ c.roles-first.auto.words ∙ c.requires }
+    let z = as-took c.collections-fifth.ensures c.in-Took-fifth.is in record {
+      at_in_bounds = z.within;
+      whole = c.collections-fifth.auto.words ∙ c.rights-fourth.auto.words ∙ c.sessions-third.auto.words
+          ∙ c.users-second.auto.words ∙ c.roles-first.auto.words ∙ c.requires;
+    }
 
 pub shape_of-words : goal.shape_of-words
 shape_of-words c =

@@ -1,6 +1,5 @@
 -- `tables::sections::session_rows`: the sessions read so far are stored in two lists, and what is read from here on is the rest.
 -- Assumes nothing.
-use Prim.Native.Nat.{◌-◌}
 use native.Mathlib.Omega.{arith}
 use lib.ListN.{length-set}
 use Rattle.tables.specs.Reading.{session_row}

@@ -1,7 +1,6 @@
 -- `tables::sections::user_rows`: the rows read so far are stored, the word of those present is kept, and what is read from here on is the rest.
 -- Assumes nothing.
 use mathlib.Core.Path.{ap, ◌∙◌}
-use Prim.Native.Nat.{◌-◌}
 use native.Mathlib.Omega.{arith}
 use lib.ListN.{drop, length-set}
 use Rattle.words.specs.Words.{join_of}
@@ -49,8 +48,8 @@ pub loop-i-preserved : goal.loop-i-preserved
 loop-i-preserved c =
     let got = user-got c.args.bytes.now c.loop-i.from c.args.roles (as-took c.marked_row-row.ensures c.in-Took.is) in
     elim c.if-bytes-from-eq-ENTERED.branch [
-      then-bytes-from-eq-ENTERED w ↦ users-in (user_row c.args.roles) c.args.n c.loop-i.invariant c.loop-i-test.true c.requires.n_le_room.0 got w.if-bytes-from-eq-ENTERED.true
-        (w.present-is ∙ w.join-present.ensures ∙ ap (join_of c.loop-i.present) w.item.ensures)
+      | then-bytes-from-eq-ENTERED w ↦ users-in (user_row c.args.roles) c.args.n c.loop-i.invariant c.loop-i-test.true c.requires.n_le_room.0 got w.if-bytes-from-eq-ENTERED.true
+          (w.present-is ∙ w.join-present.ensures ∙ ap (join_of c.loop-i.present) w.item.ensures)
       | else-bytes-from-eq-ENTERED w ↦ users-out (user_row c.args.roles) c.args.n c.loop-i.invariant c.loop-i-test.true got w.if-bytes-from-eq-ENTERED.false w.present-is
     ]
 

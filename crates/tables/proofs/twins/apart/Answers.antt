@@ -1,6 +1,5 @@
 -- `tables::twins::apart`: each word passed is new, and its slot is taken.
 -- Assumes nothing.
-use Prim.Native.Nat.{◌-◌}
 use lib.ListN.{length}
 use Rattle.tables.specs.Checks.{apart}
 use Rattle.tables.specs.Code.Reads.{new_at}

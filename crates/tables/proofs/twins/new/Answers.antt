@@ -1,6 +1,5 @@
 -- `tables::twins::new`: what is noted of the words passed.
 -- Assumes nothing.
-use Prim.Native.Nat.{◌-◌}
 use mathlib.Core.Path.{ap}
 use mathlib.Core.Bool.{not}
 use lib.Dec.{eqb}
@@ -17,7 +16,7 @@ loop-j-init c = noted-none c.args.i (λ j. not (eqb (get_or c.args.words.now j 0
 pub loop-j-preserved : goal.loop-j-preserved
 loop-j-preserved c =
     elim c.if-words-j.branch [
-      then-words-j w ↦ noted-not c.loop-j.invariant c.loop-j-test.true (ap not (eq-eqb _ _ w.if-words-j.true)) w.twin-is
+      | then-words-j w ↦ noted-not c.loop-j.invariant c.loop-j-test.true (ap not (eq-eqb _ _ w.if-words-j.true)) w.twin-is
       | else-words-j w ↦ noted_more c.loop-j.invariant c.loop-j-test.true (ap not (ne_eqb _ _ w.if-words-j.false)) w.twin-is
     ]
 

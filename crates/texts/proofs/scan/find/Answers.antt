@@ -1,6 +1,6 @@
 -- `texts::scan::find`: the byte at `at` is the first c, or none is left.
 -- Assumes nothing.
-use Rattle.std.proofs.Common.{◌≡◌, arith}
+use Rattle.std.proofs.Common.{arith}
 use Rattle.texts.proofs.ScanLaws.{here, there, end}
 use Rattle.texts.proofs.scan.find.Goals as goal
 

@@ -1,6 +1,5 @@
 -- `values::ceiling::ceiling` multiplies variable by variable.
 -- Assumes nothing.
-use Prim.Native.Nat.{◌-◌}
 use native.Mathlib.Omega.{arith}
 use Rattle.values.proofs.CeilingLaws.{multiplied-none, next_fits, multiplied-next, multiplied-all}
 use Rattle.values.proofs.ceiling.ceiling.Goals as goal

@@ -1,7 +1,6 @@
 -- `values::levels::chain` meets its contract. The invariant: the chains of the nodes from k on.
 -- Assumes nothing.
 use mathlib.Core.Path.{◌≡◌}
-use Prim.Native.Nat.{◌-◌}
 use lib.ListN.{length}
 use Rattle.values.proofs.ChainLaws.{From}
 use Rattle.values.proofs.levels.chain.Given as goal

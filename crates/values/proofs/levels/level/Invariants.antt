@@ -1,6 +1,6 @@
 -- `values::levels::level` meets its contract. The invariant: the word has no variable of the order from i on.
 -- Assumes nothing.
-use Prim.Native.Nat.{◌-◌, ◌≤◌}
+use Prim.Native.Nat.{◌≤◌}
 use lib.ListN.{length}
 use Rattle.values.proofs.LevelLaws.{Beyond}
 use Rattle.values.proofs.levels.level.Given as goal

@@ -1,7 +1,7 @@
 -- `values::levels::levels` meets its contract. The invariant: the levels of the first k nodes are right.
 -- Assumes nothing.
 use mathlib.Core.Path.{refl, ◌∙◌}
-use Prim.Native.Nat.{ℕ, ◌<◌, ◌-◌}
+use Prim.Native.Nat.{ℕ, ◌<◌}
 use native.Mathlib.Omega.{arith}
 use lib.ListN.{length, get_or, length-set}
 use Rattle.words.specs.Words.{has}

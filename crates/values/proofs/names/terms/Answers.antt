@@ -1,7 +1,7 @@
 -- `values::names::terms` meets its contract. The invariant: the words of the first k nodes are right.
 -- Assumes nothing.
 use mathlib.Core.Path.{refl, ◌∙◌}
-use Prim.Native.Nat.{ℕ, ◌<◌, ◌-◌}
+use Prim.Native.Nat.{ℕ, ◌<◌}
 use native.Mathlib.Omega.{arith}
 use lib.ListN.{length, length-set}
 use Rattle.rules.proofs.NodeLaws.{more-at}

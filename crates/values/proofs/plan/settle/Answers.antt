@@ -1,7 +1,7 @@
 -- `values::plan::settle` meets its contract. The invariant: of the level the cache has the nodes below k.
 -- Assumes nothing.
 use mathlib.Core.Path.{refl, ◌∙◌}
-use Prim.Native.Nat.{◌-◌, ◌<◌}
+use Prim.Native.Nat.{◌<◌}
 use native.Mathlib.Omega.{arith}
 use lib.ListN.{length-set}
 use Rattle.values.proofs.TruthLaws.{low-more}

@@ -1,6 +1,5 @@
 -- `verdicts::sheet::word_behind` meets its contract. The invariant: the bytes written and those of the rest are the word's.
 -- Assumes nothing.
-use Prim.Native.Nat.{◌-◌}
 use native.Mathlib.Omega.{arith}
 use Rattle.verdicts.proofs.SheetLaws.{word_none, word_next, word-all}
 use Rattle.verdicts.proofs.sheet.word_behind.Goals as goal

@@ -1,7 +1,6 @@
 -- `walks::kept::bytes` meets its contract. The invariant: the items of the variables below v stand there.
 -- Assumes nothing.
 use mathlib.Core.Path.{sym, ◌∙◌}
-use Prim.Native.Nat.{◌-◌}
 use native.Mathlib.Omega.{arith}
 use lib.ListN.{get_or, length-set}
 use lib.Seq.{ext_get_or}

@@ -1,7 +1,6 @@
 -- `walks::kept::clear` meets its contract. The invariant: the first i numbers are those of slots that were not written.
 -- Assumes nothing.
 use mathlib.Core.Path.{refl}
-use Prim.Native.Nat.{◌-◌}
 use native.Mathlib.Omega.{arith}
 use lib.ListN.{length-set}
 use Rattle.walks.specs.Code.Kept.{unwritten}

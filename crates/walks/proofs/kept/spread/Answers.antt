@@ -2,7 +2,7 @@
 -- Assumes nothing.
 use mathlib.Core.Path.{sym, ap, ◌∙◌}
 use mathlib.Core.Bool.{true≢false}
-use Prim.Native.Nat.{ℕ, ◌-◌}
+use Prim.Native.Nat.{ℕ}
 use native.Mathlib.Omega.{arith}
 use Rattle.words.specs.Words.{has}
 use Rattle.words.proofs.WordsLaws.{has-zero}
@@ -35,9 +35,9 @@ pub loop-u-preserved : goal.loop-u-preserved
 loop-u-preserved c = (
   omega arith,
   elim c.if-contains.branch [
-      then-contains w ↦ masks-next _ _ _ _ c.loop-u-test.true c.loop-u.invariant.1 (w.mask-is ∙ w.join-mask.ensures)
-      | else-contains w ↦ rw w.mask-is (masks-out _ _ _ (sym c.contains.ensures ∙ w.if-contains.false) c.loop-u.invariant.1)
-    ],
+    | then-contains w ↦ masks-next _ _ _ _ c.loop-u-test.true c.loop-u.invariant.1 (w.mask-is ∙ w.join-mask.ensures)
+    | else-contains w ↦ rw w.mask-is (masks-out _ _ _ (sym c.contains.ensures ∙ w.if-contains.false) c.loop-u.invariant.1)
+  ],
 )
 
 pub returns : goal.returns
