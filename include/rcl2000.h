@@ -1,7 +1,7 @@
 /*
  * RCL 2000 duty rules: the calls of the proved library.
  *
- *     rt staticlib rcl2000                # writes target/staticlib/librcl2000.a
+ *     bin/archive                         # proves the library and writes target/staticlib/librcl2000.a
  *     cc -I include program.c target/staticlib/librcl2000.a
  *
  * A call takes byte slices, each as a pointer and a length, and returns one number: L, how many bytes it wrote to the

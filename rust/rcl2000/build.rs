@@ -29,7 +29,7 @@ const CALLS: [&str; 10] = [
     "sheet_line",
 ];
 
-const HOW: &str = "run `rt staticlib rcl2000` at the root of the repository";
+const HOW: &str = "run `bin/archive` at the root of the repository";
 
 fn main() {
     println!("cargo:rerun-if-env-changed={FOLDER}");
@@ -77,7 +77,7 @@ fn set(name: &str) -> String {
     env::var(name).unwrap_or_default()
 }
 
-/// The archive: in the folder that `FOLDER` names, else where `rt` writes it.
+/// The archive: in the folder that `FOLDER` names, else where `bin/archive` writes it.
 fn found(root: &Path) -> Result<PathBuf, String> {
     let folders = match env::var_os(FOLDER) {
         Some(folder) => from_caller(folder),

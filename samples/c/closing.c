@@ -1,7 +1,7 @@
 /* The day sheet of a folder with tables.bin and rules.txt, by the C calls: what `bin/day-sheet FOLDER` prints where both
    files can be read and are not too long. From the repository's top folder:
 
-       rt staticlib rcl2000
+       bin/archive
        cc -I include samples/c/closing.c target/staticlib/librcl2000.a -o closing
        ./closing samples/closing */
 #include "rcl2000.h"

@@ -1,7 +1,7 @@
 /* The verdict on a page of rules, which is read from standard input, on a folder's tables.bin, by one C call. From the
    repository's top folder:
 
-       rt staticlib rcl2000
+       bin/archive
        cc -I include samples/c/page.c target/staticlib/librcl2000.a -o page
        head -n 6 samples/closing/rules.txt | ./page samples/closing */
 #include "rcl2000.h"

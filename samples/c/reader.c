@@ -1,7 +1,7 @@
 /* The day sheet of a folder with tables.bin and rules.txt as a reader sees it who is shown some users, by the C calls. From
    the repository's top folder, for the laboratory, which is users 2 and 3:
 
-       rt staticlib rcl2000
+       bin/archive
        cc -I include samples/c/reader.c target/staticlib/librcl2000.a -o reader
        ./reader samples/closing 2 3 */
 #include "rcl2000.h"

@@ -1,7 +1,7 @@
 /* A rule's verdict while sessions come and go, by the C calls, on a folder's tables.bin. What happens is read from standard
    input, one call to a line: `open USER ROLE..` or `close NUMBER`. From the repository's top folder:
 
-       rt staticlib rcl2000
+       bin/archive
        cc -I include samples/c/sessions.c target/staticlib/librcl2000.a -o sessions
        printf 'open 4 5 6\nclose 4\n' | ./sessions samples/closing '|(roles*(OE(sessions(OE(U))))&OE(CR))|<=1' */
 #include "rcl2000.h"

@@ -220,7 +220,7 @@
 //!
 //! # The archive
 //!
-//! The crate links `librcl2000.a`, which `rt staticlib rcl2000` writes. Its build script looks for
+//! The crate links `librcl2000.a`, which the repository's `bin/archive` writes. Its build script looks for
 //! it in `target/staticlib` of the repository that the crate is in, or in the folder that
 //! `RCL2000_LIB_DIR` names, and tries it before it links it: an archive without the ten calls,
 //! or one that answers otherwise than this version of the crate says, is a build error.
