@@ -36,11 +36,10 @@ pub loop-i-smaller : goal.loop-i-smaller
 loop-i-smaller c = omega arith
 
 pub loop-i-preserved : goal.loop-i-preserved
-loop-i-preserved c =
-    (
-      omega (arith, c.loop-i.invariant.0),
-      level-next c.args.order.now c.args.word c.loop-i.i c.loop-i-test.true c.loop-i.invariant.1 c.contains.result c.contains.ensures c.if-contains.false,
-    )
+loop-i-preserved c = (
+  omega (arith, c.loop-i.invariant.0),
+  level-next c.args.order.now c.args.word c.loop-i.i c.loop-i-test.true c.loop-i.invariant.1 c.contains.result c.contains.ensures c.if-contains.false,
+)
 
 pub returns : goal.returns
 returns c = level-here c.args.order.now c.args.word c.loop-i.i 0 c.loop-i.invariant.0 c.loop-i.invariant.1 (omega (arith, c.loop-i-test.false)) (λ pos. absurd (omega arith))

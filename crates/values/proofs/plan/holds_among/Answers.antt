@@ -3,7 +3,6 @@
 use mathlib.Core.Path.{◌≡◌, sym, ◌∙◌}
 use mathlib.Core.Bool.{true}
 use mathlib.Core.List.{List, []}
-use mathlib.Core.Logic.{⊎_elim}
 use Prim.Native.Nat.{ℕ, ◌+◌, ◌-◌, ◌<◌}
 use native.Mathlib.Omega.{arith}
 use borrow.Author.Tests.{not-false}
@@ -15,6 +14,7 @@ use Rattle.values.specs.Code.Plan.{levels_from}
 use Rattle.values.proofs.TruthLaws.{low-more}
 use Rattle.values.proofs.PlanLaws.{holds-start, holds-true, holds-false, holds-out}
 use Rattle.values.proofs.plan.holds_among.Goals as goal
+use Rattle.values.proofs.plan.holds_among.Goals.{then-plan-i+else-not-clause, else-plan-i}
 
 pub loop-i-init : goal.loop-i-init
 loop-i-init c =
@@ -74,22 +74,21 @@ loop-i-smaller c =
     omega (arith, c.loop-i-test.true)
 
 pub loop-i-preserved : goal.loop-i-preserved
-loop-i-preserved c =
-    (
-      omega (arith, c.loop-i.invariant.0),
-      omega (arith, c.loop-i-test.true),
-      λ ns n ρ C T d K.
-          let i : ℕ = c.loop-i.i in
-          let h : i < clause_count ρ = omega (arith, C.many, c.requires.3, c.loop-i-test.true) in
-          let P : List ℕ = c.args.plan.now in
-          let at : get_or (drop levels_from P) i 0 ≡ get_or P (levels_from + i) 0 = get_or-drop levels_from P i 0 in
-          let q = c.loop-i.invariant.2 ns n ρ C T d K in
-          ⊎_elim
-          (λ w. holds-true T ρ (drop levels_from P) c.args.level c.args.from d i q w.2.result c.loop-i.invariant.0 (at ∙ w.0.taken)
-          (w.2.ensures ns n (clause_at ρ i) (C.each i h) T (rule_vars [] ρ) d (K i h (at ∙ w.0.taken))) (not-false _ w.3.left))
-          (λ w. holds-out T ρ (drop levels_from P) c.args.level c.args.from d i q (λ e. w.left (sym at ∙ e)))
-          c.if-plan-i.branch-raw,
-    )
+loop-i-preserved c = (
+  omega (arith, c.loop-i.invariant.0),
+  omega (arith, c.loop-i-test.true),
+  λ ns n ρ C T d K.
+      let i : ℕ = c.loop-i.i in
+      let h : i < clause_count ρ = omega (arith, C.many, c.requires.3, c.loop-i-test.true) in
+      let P : List ℕ = c.args.plan.now in
+      let at : get_or (drop levels_from P) i 0 ≡ get_or P (levels_from + i) 0 = get_or-drop levels_from P i 0 in
+      let q = c.loop-i.invariant.2 ns n ρ C T d K in
+      elim c.if-plan-i.branch [
+        | then-plan-i+else-not-clause w ↦ holds-true T ρ (drop levels_from P) c.args.level c.args.from d i q w.clause.result c.loop-i.invariant.0 (at ∙ w.if-plan-i.true)
+            (w.clause.ensures ns n (clause_at ρ i) (C.each i h) T (rule_vars [] ρ) d (K i h (at ∙ w.if-plan-i.true))) w.if-not-clause.false
+        | else-plan-i w ↦ holds-out T ρ (drop levels_from P) c.args.level c.args.from d i q (λ e. w.if-plan-i.false (sym at ∙ e))
+      ],
+)
 
 pub returns : goal.returns
 returns c =
