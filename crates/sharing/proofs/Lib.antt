@@ -5,3 +5,6 @@ pub mod LineLaws
 pub mod WalkLaws
 pub mod LayingLaws
 pub mod TogetherLaws
+pub mod FailedLaws
+pub mod AddedLaws
+pub mod LookedLaws

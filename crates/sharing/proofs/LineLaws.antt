@@ -234,3 +234,7 @@ keeps-next {lines} {many} {e} {active} {choice} {full} {breaking} {old} {now} {n
       goes = λ ts plan h G deep C K.
           kept_line G (k.goes ts plan h G deep C K) e l choice full (get_or breaking l 0) deep b (C l c) (rw ek at (rw ep at q));
     }
+
+-- Nothing is said of single lines.
+abbrev pub Any : ℕ → Type 0
+Any l = Unit {0}

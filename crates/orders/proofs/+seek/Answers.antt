@@ -1,12 +1,12 @@
 -- The proof of the cycle of calls {seek}. The measure is the number of places left.
 -- Assumes nothing.
-use mathlib.Core.Logic.{⊎_elim}
 use mathlib.Core.Path.{◌≡◌}
 use native.Mathlib.Omega.{arith}
 use lib.ListN.{length, length-set}
 use Rattle.orders.specs.Code.Desk.{desk_length}
 use Prim.Native.Nat.{◌-◌}
 use Rattle.orders.proofs.+seek.Goals as goal
+use Rattle.orders.proofs.+seek.Goals.{then-admits+then-next-desk, then-admits+else-next-desk, else-admits}
 
 pub bounds-desk-d : goal.bounds-desk-d
 bounds-desk-d t c =
@@ -18,4 +18,8 @@ seek-requires t c =
 
 pub loop-v-preserved : goal.loop-v-preserved
 loop-v-preserved t c =
-    let long : length c.if-admits.desk ≡ desk_length = ⊎_elim (λ w. rw w.15 w.12.ensures) (λ w. ⊎_elim (λ z. rw z.9 c.loop-v.invariant.1) (λ z. rw z.1 c.loop-v.invariant.1) w) c.if-admits.branch-raw in (omega (arith, c.loop-v-test.true), long)
+    let long : length c.if-admits.desk ≡ desk_length = elim c.if-admits.branch [
+      | then-admits+then-next-desk w ↦ rw w.desk-is w.seek.ensures
+      | then-admits+else-next-desk w ↦ rw w.desk-is c.loop-v.invariant.1
+      | else-admits w ↦ rw w.desk-is c.loop-v.invariant.1
+    ] in (omega (arith, c.loop-v-test.true), long)

@@ -8,16 +8,6 @@ use Rattle.verdicts.proofs.CountedLaws.{turn-refused, turn-ordered, turn-counts,
 use borrow.Author.Rules.{rules}
 use Rattle.verdicts.proofs.counted_in_turn.Goals as goal
 
--- The parsed rule's parts have their lengths by their types.
-nodes-room : (c : goal.After-parse-parsed) → length c.parse-parsed.result.nodes ≡ 256
-nodes-room c = search rules
-
-kinds-room : (c : goal.After-parse-parsed) → length c.parse-parsed.result.kinds ≡ 256
-kinds-room c = search rules
-
-vars-room : (c : goal.After-parse-parsed) → length c.parse-parsed.result.vars ≡ 8
-vars-room c = search rules
-
 pub slice_bounds-variables-end : goal.slice_bounds-variables-end
 slice_bounds-variables-end c = parsed-few c.parse-parsed.ensures
 
@@ -26,8 +16,11 @@ slice_bounds-listed-end c = sym (length-take-le _ _ (parsed-few c.parse-parsed.e
 
 pub known-requires : goal.known-requires
 known-requires c =
-    let lent = parsed-lent c.parse-parsed.ensures c.in-Accepted.is c.requires.loaded (nodes-room c.before.before.before) (kinds-room c.before.before.before) (vars-room c.before.before.before) in
-    (record { lent = lent; few = parsed-few c.parse-parsed.ensures }, turn-ordered c.parse-parsed.ensures c.in-Accepted.is (vars-room c.before.before.before), turn-counts c.parse-parsed.ensures c.in-Accepted.is c.requires.loaded c.requires.known_counts)
+    let nodes-room : length c.parse-parsed.result.nodes ≡ 256 = search rules in
+    let kinds-room : length c.parse-parsed.result.kinds ≡ 256 = search rules in
+    let vars-room : length c.parse-parsed.result.vars ≡ 8 = search rules in
+    let lent = parsed-lent c.parse-parsed.ensures c.in-Accepted.is c.requires.loaded nodes-room kinds-room vars-room in
+    (record { lent = lent; few = parsed-few c.parse-parsed.ensures }, turn-ordered c.parse-parsed.ensures c.in-Accepted.is vars-room, turn-counts c.parse-parsed.ensures c.in-Accepted.is c.requires.loaded c.requires.known_counts)
 
 pub ruled-requires : goal.ruled-requires
 ruled-requires c =

@@ -8,16 +8,6 @@ use Rattle.verdicts.proofs.CountedLaws.{turn-refused, turn-ordered, turn-fits, t
 use borrow.Author.Rules.{rules}
 use Rattle.verdicts.proofs.parsed_in_turn.Goals as goal
 
--- The parsed rule's parts have their lengths by their types.
-nodes-room : (c : goal.Start) → length c.args.parsed.nodes ≡ 256
-nodes-room c = search rules
-
-kinds-room : (c : goal.Start) → length c.args.parsed.kinds ≡ 256
-kinds-room c = search rules
-
-vars-room : (c : goal.Start) → length c.args.parsed.vars ≡ 8
-vars-room c = search rules
-
 pub slice_bounds-variables-end : goal.slice_bounds-variables-end
 slice_bounds-variables-end c = parsed-few c.requires.some_rule.parses
 
@@ -26,8 +16,11 @@ slice_bounds-listed-end c = sym (length-take-le _ _ (parsed-few c.requires.some_
 
 pub whole-requires : goal.whole-requires
 whole-requires c =
-    let lent = parsed-lent c.requires.some_rule.parses c.in-Accepted.is c.requires.loaded (nodes-room c.before.before.before.before) (kinds-room c.before.before.before.before) (vars-room c.before.before.before.before) in
-    (record { lent = lent; few = parsed-few c.requires.some_rule.parses }, turn-ordered c.requires.some_rule.parses c.in-Accepted.is (vars-room c.before.before.before.before))
+    let nodes-room : length c.args.parsed.nodes ≡ 256 = search rules in
+    let kinds-room : length c.args.parsed.kinds ≡ 256 = search rules in
+    let vars-room : length c.args.parsed.vars ≡ 8 = search rules in
+    let lent = parsed-lent c.requires.some_rule.parses c.in-Accepted.is c.requires.loaded nodes-room kinds-room vars-room in
+    (record { lent = lent; few = parsed-few c.requires.some_rule.parses }, turn-ordered c.requires.some_rule.parses c.in-Accepted.is vars-room)
 
 pub ruled-requires : goal.ruled-requires
 ruled-requires c =

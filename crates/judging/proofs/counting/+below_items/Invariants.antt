@@ -15,9 +15,9 @@ decreases-below l = 2 * l.left + 1
 abbrev pub decreases-items : goal.decreases-items
 decreases-items l = 2 * l.left
 
-abbrev pub items-invariant-loop-rest : goal.items-invariant-loop-rest
-items-invariant-loop-rest l = (length l.cache ≡ length l.initial.cache) × (length l.kept ≡ length l.initial.kept) × (l.rest < 2 ^ 64) × ((y : Layout) (T : Tables) (ρ : Rule) → Planned l.t l.plan y T ρ
+abbrev pub invariant-items-loop-rest : goal.invariant-items-loop-rest
+invariant-items-loop-rest l = (length l.cache ≡ length l.initial.cache) × (length l.kept ≡ length l.initial.kept) × (l.rest < 2 ^ 64) × ((y : Layout) (T : Tables) (ρ : Rule) → Planned l.t l.plan y T ρ
     → Caches l.t y l.choice l.initial.cache (l.d + 1) → Keeps l.plan y T ρ l.initial.kept → TurningAt l.plan y T ρ l.mode l.d l.choice l.initial.rest l.rest l.full l.breaking × Caches l.t y l.choice l.cache (l.d + 1) × Keeps l.plan y T ρ l.kept)
 
-abbrev pub items-decreases-loop-rest : goal.items-decreases-loop-rest
-items-decreases-loop-rest l = l.rest
+abbrev pub decreases-items-loop-rest : goal.decreases-items-loop-rest
+decreases-items-loop-rest l = l.rest

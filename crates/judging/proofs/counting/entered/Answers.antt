@@ -20,13 +20,12 @@ enter-mode-requires c =
     (c.requires.0, c.requires.1, c.loop-level.invariant.2 ∙ c.requires.2, omega (arith, c.requires.3, c.loop-level-test.true), c.loop-level.invariant.0)
 
 pub loop-level-preserved : goal.loop-level-preserved
-loop-level-preserved c =
-    (
-      c.enter-mode.ensures.modes,
-      omega (arith, c.loop-level-test.true),
-      c.enter-mode.ensures.room ∙ c.loop-level.invariant.2,
-      λ y T ρ P. let r = c.loop-level.invariant.3 y T ρ P in let e = c.enter-mode.ensures.goes y T ρ P r.0 in (e.0, mode-next P e.1 r.1),
-    )
+loop-level-preserved c = (
+  c.enter-mode.ensures.modes,
+  omega (arith, c.loop-level-test.true),
+  c.enter-mode.ensures.room ∙ c.loop-level.invariant.2,
+  λ y T ρ P. let r = c.loop-level.invariant.3 y T ρ P in let e = c.enter-mode.ensures.goes y T ρ P r.0 in (e.0, mode-next P e.1 r.1),
+)
 
 pub shape_of-cache : goal.shape_of-cache
 shape_of-cache c = c.loop-level.invariant.2

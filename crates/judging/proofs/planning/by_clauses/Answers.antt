@@ -12,6 +12,7 @@ use Rattle.words.specs.Words.{has}
 use Rattle.values.specs.Code.Plan.{levels_from}
 use Rattle.judging.proofs.PlanningLaws.{joined-left, joined-right, joined_small}
 use Rattle.judging.proofs.planning.by_clauses.Goals as goal
+use Rattle.judging.proofs.planning.by_clauses.Goals.{then-d-plan, else-d-plan}
 
 pub loop-i-init : goal.loop-i-init
 loop-i-init c = (omega arith, λ j b l k. absurd (omega arith))
@@ -45,28 +46,28 @@ loop-i-preserved c =
     let P : List ℕ = c.args.plan.now in
     let w : ℕ = get_or c.args.scopes.now c.loop-i.i 0 in
     let level : get_or (drop levels_from P) c.loop-i.i 0 ≡ get_or P (levels_from + c.loop-i.i) 0 = get_or-drop levels_from P c.loop-i.i 0 in
-    ⊎_elim
-    (λ h.
-    let fit : w < 2 ^ 64 = omega (arith, h.1.given c.loop-i.i) in
-    let e = h.3 ∙ h.2.ensures in (
-      joined_small c.loop-i.found w c.if-d-plan.found e,
-      λ j b l k.
-          let at_most : j ≤ c.loop-i.i = omega arith in
-          ⊎_elim
-          (λ (q : j ≡ c.loop-i.i). rw q (joined-right c.loop-i.found w c.if-d-plan.found e fit))
-          (λ (q : j < c.loop-i.i). joined-left c.loop-i.found w c.if-d-plan.found (has (get_or c.args.scopes.now j 0)) e c.loop-i.invariant.0 (c.loop-i.invariant.1 j b q k))
-          (eq-or-lt_of_le at_most),
-    ))
-    (λ h. (
-      rw h.1 c.loop-i.invariant.0,
-      λ j b l k.
-          let at_most : j ≤ c.loop-i.i = omega arith in
-          ⊎_elim
-          (λ (q : j ≡ c.loop-i.i). let high : c.args.d < get_or (drop levels_from P) c.loop-i.i 0 = rw q at k in absurd (omega (arith, h.0.left, level)))
-          (λ (q : j < c.loop-i.i). rw h.1 (c.loop-i.invariant.1 j b q k))
-          (eq-or-lt_of_le at_most),
-    ))
-    c.if-d-plan.branch-raw
+    elim c.if-d-plan.branch [
+      | then-d-plan h ↦
+          let fit : w < 2 ^ 64 = omega (arith, c.type_inv.scopes c.loop-i.i) in
+          let e = h.found-is ∙ h.join-found.ensures in (
+            joined_small c.loop-i.found w c.if-d-plan.found e,
+            λ j b l k.
+                let at_most : j ≤ c.loop-i.i = omega arith in
+                ⊎_elim
+                (λ (q : j ≡ c.loop-i.i). rw q (joined-right c.loop-i.found w c.if-d-plan.found e fit))
+                (λ (q : j < c.loop-i.i). joined-left c.loop-i.found w c.if-d-plan.found (has (get_or c.args.scopes.now j 0)) e c.loop-i.invariant.0 (c.loop-i.invariant.1 j b q k))
+                (eq-or-lt_of_le at_most),
+          )
+      | else-d-plan h ↦ (
+        rw h.found-is c.loop-i.invariant.0,
+        λ j b l k.
+            let at_most : j ≤ c.loop-i.i = omega arith in
+            ⊎_elim
+            (λ (q : j ≡ c.loop-i.i). let high : c.args.d < get_or (drop levels_from P) c.loop-i.i 0 = rw q at k in absurd (omega (arith, h.if-d-plan.false, level)))
+            (λ (q : j < c.loop-i.i). rw h.found-is (c.loop-i.invariant.1 j b q k))
+            (eq-or-lt_of_le at_most),
+      )
+    ]
 
 pub returns : goal.returns
 returns c = (c.loop-i.invariant.0, λ j b l k. c.loop-i.invariant.1 j b (omega (arith, c.loop-i-test.false)) k)

@@ -32,12 +32,11 @@ pub loop-at-smaller : goal.loop-at-smaller
 loop-at-smaller c = omega (arith, c.loop-at-test.true)
 
 pub loop-at-preserved : goal.loop-at-preserved
-loop-at-preserved c =
-    (
-      omega (arith, c.loop-at-test.true),
-      filled_more c.loop-at.invariant.1 (omega (arith, c.requires.1, c.loop-at-test.true)) c.context-found.result
-          (context-same c.args.names.now c.args.scopes.now c.args.order.now c.args.plan.now c.loop-at.plan c.args.many c.loop-at.at c.context-found.result (levels-same c.args.plan.now c.loop-at.plan c.args.many c.loop-at.at _ c.requires.3 c.loop-at.invariant.1) c.context-found.ensures),
-    )
+loop-at-preserved c = (
+  omega (arith, c.loop-at-test.true),
+  filled_more c.loop-at.invariant.1 (omega (arith, c.requires.1, c.loop-at-test.true)) c.context-found.result
+      (context-same c.args.names.now c.args.scopes.now c.args.order.now c.args.plan.now c.loop-at.plan c.args.many c.loop-at.at c.context-found.result (levels-same c.args.plan.now c.loop-at.plan c.args.many c.loop-at.at _ c.requires.3 c.loop-at.invariant.1) c.context-found.ensures),
+)
 
 pub shape_of-plan : goal.shape_of-plan
 shape_of-plan c = c.loop-at.invariant.1.long

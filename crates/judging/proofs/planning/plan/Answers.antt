@@ -10,23 +10,14 @@ use Rattle.judging.proofs.PlannedLaws.{planned-by}
 use borrow.Author.Rules.{rules}
 use Rattle.judging.proofs.planning.plan.Goals as goal
 
--- The arrays have their length by their type.
-terms-room : (c : goal.After-terms-2-1) → length c.terms.new.found ≡ 256
-terms-room c = search rules
-
-named-room : (c : goal.After-named-2-1) → length c.scopes.new.found ≡ 256
-named-room c = search rules
-
-names-room : (c : goal.After-sets-names) → length c.sets-names.result ≡ 8
-names-room c = search rules
-
 pub terms-requires : goal.terms-requires
 terms-requires c =
     (c.requires.0.tidy, c.requires.0.small, c.requires.0.small)
 
 pub levels-node_levels-requires : goal.levels-node_levels-requires
 levels-node_levels-requires c =
-    (c.requires.0.small, omega (arith, c.requires.0.small, terms-room c.before), c.requires.0.short, λ i l. omega (arith, c.requires.0.known i l, c.requires.0.few))
+    let terms-room : length c.terms.new.found ≡ 256 = search rules in
+    (c.requires.0.small, omega (arith, c.requires.0.small, terms-room), c.requires.0.short, λ i l. omega (arith, c.requires.0.known i l, c.requires.0.few))
 
 pub chain-first-requires : goal.chain-first-requires
 chain-first-requires c =
@@ -34,18 +25,17 @@ chain-first-requires c =
     (c.requires.0.small, omega (arith, c.requires.0.small, long), refl, λ k l. omega (arith, (c.levels-node_levels.ensures _ _ c.terms.ensures).small k l, c.requires.0.short))
 
 pub steps-requires : goal.steps-requires
-steps-requires c =
-    (
-      record {
-        tidy = c.requires.0.tidy;
-        small = c.requires.0.small;
-        kinded = c.requires.0.kinded;
-        few = c.requires.0.few;
-        long = c.chain-first.ensures.linked.long;
-        within = λ k l. (c.chain-first.ensures.linked.each k l).within;
-      },
-      c.requires.1,
-    )
+steps-requires c = (
+  record {
+    tidy = c.requires.0.tidy;
+    small = c.requires.0.small;
+    kinded = c.requires.0.kinded;
+    few = c.requires.0.few;
+    long = c.chain-first.ensures.linked.long;
+    within = λ k l. (c.chain-first.ensures.linked.each k l).within;
+  },
+  c.requires.1,
+)
 
 pub starts-requires : goal.starts-requires
 starts-requires c =
@@ -57,11 +47,13 @@ clauses-many-requires c =
 
 pub slice_bounds-scopes-end : goal.slice_bounds-scopes-end
 slice_bounds-scopes-end c =
-    sym (terms-room c.before.before.before.before.before.before.before.before.before.before.before.before.before.before.before.before.before.before.before.before.before.before)
+    let terms-room : length c.terms.new.found ≡ 256 = search rules in
+    sym terms-room
 
 pub scopes-requires : goal.scopes-requires
 scopes-requires c =
-    let room = terms-room c.before.before.before.before.before.before.before.before.before.before.before.before.before.before.before.before.before.before.before.before.before.before.before in (
+    let terms-room : length c.terms.new.found ≡ 256 = search rules in
+    let room = terms-room in (
       c.clauses-many.ensures.filled.long ∙ c.starts.ensures.long ∙ c.steps.ensures.long ∙ c.requires.1,
       c.clauses-many.ensures.small,
       refl,
@@ -70,7 +62,8 @@ scopes-requires c =
 
 pub clause_levels-requires : goal.clause_levels-requires
 clause_levels-requires c =
-    let room = named-room c.before.before in
+    let named-room : length c.scopes.new.found ≡ 256 = search rules in
+    let room = named-room in
     (c.clauses-many.ensures.filled.long ∙ c.starts.ensures.long ∙ c.steps.ensures.long ∙ c.requires.1, c.clauses-many.ensures.small, room, c.requires.0.short, λ i l. omega (arith, c.requires.0.known i l, c.requires.0.few))
 
 pub places-requires : goal.places-requires
@@ -83,16 +76,20 @@ sets-requires c =
 
 pub slice_bounds-sets-end : goal.slice_bounds-sets-end
 slice_bounds-sets-end c =
-    sym (terms-room c.before.before.before.before.before.before.before.before.before.before.before.before.before.before.before.before.before.before.before.before.before.before.before.before.before.before.before.before.before.before.before.before.before.before.before.before.before.before.before)
+    let terms-room : length c.terms.new.found ≡ 256 = search rules in
+    sym terms-room
 
 pub sets-names-requires : goal.sets-names-requires
 sets-names-requires c =
-    (c.requires.0.few, λ i l. omega (arith, c.requires.0.nodes i l, c.requires.0.small, terms-room c.before.before.before.before.before.before.before.before.before.before.before.before.before.before.before.before.before.before.before.before.before.before.before.before.before.before.before.before.before.before.before.before.before.before.before.before.before.before.before))
+    let terms-room : length c.terms.new.found ≡ 256 = search rules in
+    (c.requires.0.few, λ i l. omega (arith, c.requires.0.nodes i l, c.requires.0.small, terms-room))
 
 pub contexts-requires : goal.contexts-requires
 contexts-requires c =
-    let room = named-room c.before.before.before.before.before.before.before.before.before.before.before.before.before.before.before.before.before.before in
-    let eight = names-room c.before.before.before in (
+    let named-room : length c.scopes.new.found ≡ 256 = search rules in
+    let names-room : length c.sets-names.result ≡ 8 = search rules in
+    let room = named-room in
+    let eight = names-room in (
       eight,
       c.sets.ensures.long ∙ c.places.ensures.long ∙ c.clause_levels.ensures.long ∙ c.clauses-many.ensures.filled.long ∙ c.starts.ensures.long ∙ c.steps.ensures.long ∙ c.requires.1,
       room,
@@ -108,21 +105,25 @@ masks-requires c =
 
 pub slice_bounds-named-end : goal.slice_bounds-named-end
 slice_bounds-named-end c =
-    omega (arith, named-room c.before.before.before.before.before.before.before.before.before.before.before.before.before.before.before.before.before.before.before.before.before.before.before.before.before.before)
+    let named-room : length c.scopes.new.found ≡ 256 = search rules in
+    omega (arith, named-room)
 
 pub slice_bounds-note-end : goal.slice_bounds-note-end
 slice_bounds-note-end c =
-    sym (length-take-le 64 c.scopes.new.found (omega (arith, named-room c.before.before.before.before.before.before.before.before.before.before.before.before.before.before.before.before.before.before.before.before.before.before.before.before.before.before.before)))
+    let named-room : length c.scopes.new.found ≡ 256 = search rules in
+    sym (length-take-le 64 c.scopes.new.found (omega (arith, named-room)))
 
 pub note-requires : goal.note-requires
 note-requires c =
-    let room = named-room c.before.before.before.before.before.before.before.before.before.before.before.before.before.before.before.before.before.before.before.before.before.before.before.before.before.before.before in
+    let named-room : length c.scopes.new.found ≡ 256 = search rules in
+    let room = named-room in
     let taken : length (take 64 c.scopes.new.found) ≡ 64 = length-take-le 64 c.scopes.new.found (omega arith) in
     (c.masks.ensures.long ∙ c.contexts.ensures.long ∙ c.sets.ensures.long ∙ c.places.ensures.long ∙ c.clause_levels.ensures.long ∙ c.clauses-many.ensures.filled.long ∙ c.starts.ensures.long ∙ c.steps.ensures.long ∙ c.requires.1, omega arith, omega arith)
 
 pub note-requires-2 : goal.note-requires-2
 note-requires-2 c =
-    let eight = names-room c.before.before.before.before.before.before.before.before.before.before.before.before.before.before.before.before.before in
+    let names-room : length c.sets-names.result ≡ 8 = search rules in
+    let eight = names-room in
     (c.note.ensures.long ∙ c.masks.ensures.long ∙ c.contexts.ensures.long ∙ c.sets.ensures.long ∙ c.places.ensures.long ∙ c.clause_levels.ensures.long ∙ c.clauses-many.ensures.filled.long ∙ c.starts.ensures.long ∙ c.steps.ensures.long ∙ c.requires.1, omega arith, omega arith)
 
 pub sorts-requires : goal.sorts-requires

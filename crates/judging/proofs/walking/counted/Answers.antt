@@ -31,24 +31,23 @@ returns-then-sum-eq0 c =
     walks-none o a R.along (rw (depth_is o a _ R all) at r.0) R.modes c.if-sum-eq0.true
 
 pub descend-requires : goal.descend-requires
-descend-requires c =
-    (
-      c.requires.0,
-      c.requires.1,
-      stands_here (record {
-        small = c.requires.2.small;
-        long = c.requires.2.long;
-        room = c.below-sum.ensures.room ∙ c.requires.2.room;
-        slots = c.below-sum.ensures.slots;
-        ready = λ T ρ C.
-            let o = once-for c.requires.0 c.requires.1 C in
-            let a = after-for c.requires.0 c.requires.1 C in
-            let R = c.requires.2.ready T ρ C in
-            let all : length c.args.order.now + 0 ≡ length c.args.order.now = omega arith in
-            let r = c.below-sum.ensures.goes R.along.layout T ρ R.along.planned (stored_at o a _ R all) R.keeps in
-            record { along = R.along; stored = rw (depth_is o a _ R all) at r.1; keeps = r.2; modes = R.modes };
-      }),
-    )
+descend-requires c = (
+  c.requires.0,
+  c.requires.1,
+  stands_here (record {
+    small = c.requires.2.small;
+    long = c.requires.2.long;
+    room = c.below-sum.ensures.room ∙ c.requires.2.room;
+    slots = c.below-sum.ensures.slots;
+    ready = λ T ρ C.
+        let o = once-for c.requires.0 c.requires.1 C in
+        let a = after-for c.requires.0 c.requires.1 C in
+        let R = c.requires.2.ready T ρ C in
+        let all : length c.args.order.now + 0 ≡ length c.args.order.now = omega arith in
+        let r = c.below-sum.ensures.goes R.along.layout T ρ R.along.planned (stored_at o a _ R all) R.keeps in
+        record { along = R.along; stored = rw (depth_is o a _ R all) at r.1; keeps = r.2; modes = R.modes };
+  }),
+)
 
 pub returns : goal.returns
 returns c =

@@ -7,17 +7,15 @@ use Rattle.judging.proofs.WalkingLaws.{vars-long, laid-for, laid-along}
 use borrow.Author.Rules.{rules}
 use Rattle.judging.proofs.walking.lay_first.Goals as goal
 
--- The variables have room by their type.
-vars-room : (c : goal.Start) → length c.args.t2.vars ≡ 8
-vars-room c = search rules
-
 pub slice_bounds-all-end : goal.slice_bounds-all-end
 slice_bounds-all-end c =
-    omega (arith, c.requires.0.few, vars-room c.before.before.before.before.before)
+    let vars-room : length c.args.parsed.vars ≡ 8 = search rules in
+    omega (arith, c.requires.0.few, vars-room)
 
 pub slice_bounds-vars-end : goal.slice_bounds-vars-end
 slice_bounds-vars-end c =
-    sym (vars-long c.requires.0 (vars-room c.before.before.before.before.before.before))
+    let vars-room : length c.args.parsed.vars ≡ 8 = search rules in
+    sym (vars-long c.requires.0 vars-room)
 
 pub plan-requires : goal.plan-requires
 plan-requires c =
@@ -25,7 +23,8 @@ plan-requires c =
 
 pub ceiling-many-requires : goal.ceiling-many-requires
 ceiling-many-requires c =
-    (c.requires.0.lent.ready.whole, simp length-take (omega (arith, c.requires.0.few, vars-room c.before.before.before.before.before.before.before.before.before.before.before.before.before.before.before)))
+    let vars-room : length c.args.parsed.vars ≡ 8 = search rules in
+    (c.requires.0.lent.ready.whole, simp length-take (omega (arith, c.requires.0.few, vars-room)))
 
 pub returns-then-many-lt-SEARCHED_FROM : goal.returns-then-many-lt-SEARCHED_FROM
 returns-then-many-lt-SEARCHED_FROM c =

@@ -8,12 +8,6 @@ use lib.Seq.{length-take-le}
 use Rattle.pages.proofs.PartLaws.{says-ends, says-accepted, again-same}
 use Rattle.pages.proofs.parts.alike_again.Goals as goal
 
-first-room : (c : goal.After-part_at) → length c.part_at.new.out ≡ 4096
-first-room c = c.part_at.auto.out ∙ length-replicate {A = ℕ} 4096 0
-
-second-room : (c : goal.After-part_at-2) → length c.part_at-2.new.out ≡ 4096
-second-room c = c.part_at-2.auto.out ∙ length-replicate {A = ℕ} 4096 0
-
 pub returns-in_default : goal.returns-in_default
 returns-in_default c =
     says-accepted c.part_at.ensures c.in_default.is c.requires.i_in_bounds.1
@@ -24,19 +18,23 @@ returns-in_default-part_at c =
 
 pub slice_bounds-a-end : goal.slice_bounds-a-end
 slice_bounds-a-end c =
-    omega (arith, (says-ends c.part_at.ensures c.in-Ends.is).short, first-room c.before.before.before.before.before.before.before.before.before.before)
+    let first-room : length c.part_at.new.out ≡ 4096 = c.part_at.auto.out ∙ length-replicate {A = ℕ} 4096 0 in
+    omega (arith, (says-ends c.part_at.ensures c.in-Ends.is).short, first-room)
 
 pub slice_bounds-alike-end : goal.slice_bounds-alike-end
 slice_bounds-alike-end c =
-    sym (length-take-le _ _ (omega (arith, (says-ends c.part_at.ensures c.in-Ends.is).short, first-room c.before.before.before.before.before.before.before.before.before.before.before)))
+    let first-room : length c.part_at.new.out ≡ 4096 = c.part_at.auto.out ∙ length-replicate {A = ℕ} 4096 0 in
+    sym (length-take-le _ _ (omega (arith, (says-ends c.part_at.ensures c.in-Ends.is).short, first-room)))
 
 pub slice_bounds-b-end : goal.slice_bounds-b-end
 slice_bounds-b-end c =
-    omega (arith, (says-ends c.part_at-2.ensures c.in-Ends-part_at.is).short, second-room c.before.before.before.before.before)
+    let second-room : length c.part_at-2.new.out ≡ 4096 = c.part_at-2.auto.out ∙ length-replicate {A = ℕ} 4096 0 in
+    omega (arith, (says-ends c.part_at-2.ensures c.in-Ends-part_at.is).short, second-room)
 
 pub slice_bounds-alike-end-2 : goal.slice_bounds-alike-end-2
 slice_bounds-alike-end-2 c =
-    sym (length-take-le _ _ (omega (arith, (says-ends c.part_at-2.ensures c.in-Ends-part_at.is).short, second-room c.before.before.before.before.before.before)))
+    let second-room : length c.part_at-2.new.out ≡ 4096 = c.part_at-2.auto.out ∙ length-replicate {A = ℕ} 4096 0 in
+    sym (length-take-le _ _ (omega (arith, (says-ends c.part_at-2.ensures c.in-Ends-part_at.is).short, second-room)))
 
 pub returns : goal.returns
 returns c =

@@ -8,19 +8,14 @@ use Rattle.sharing.proofs.WalkLaws.{zeros-none}
 use Rattle.pages.proofs.WholeLaws.{whole-lent, whole-starts, whole-ranges, as-counted, lines-uncounted, lines-counted}
 use Rattle.pages.proofs.sheaves.counted.Goals as goal
 
--- The parsed rule's arrays have room by their type.
-kinds-room : (c : goal.Start) → length c.args.parsed.kinds ≡ 256
-kinds-room c = search rules
-
-vars-room : (c : goal.Start) → length c.args.parsed.vars ≡ 8
-vars-room c = search rules
-
 pub slice_bounds-counts-end : goal.slice_bounds-counts-end
 slice_bounds-counts-end c = search rules
 
 pub counts-requires : goal.counts-requires
 counts-requires c =
-    record { lent_by = (whole-lent c.requires.loaded.1 c.requires.loaded.0 (kinds-room c.before.before.before.before.before.before) (vars-room c.before.before.before.before.before.before), whole-starts c.requires.loaded.1, whole-ranges c.requires.loaded.1, c.requires.loaded.1.few, length-replicate {A = ℕ} 32 0); by_index = zeros-none }
+    let kinds-room : length c.args.parsed.kinds ≡ 256 = search rules in
+    let vars-room : length c.args.parsed.vars ≡ 8 = search rules in
+    record { lent_by = (whole-lent c.requires.loaded.1 c.requires.loaded.0 kinds-room vars-room, whole-starts c.requires.loaded.1, whole-ranges c.requires.loaded.1, c.requires.loaded.1.few, length-replicate {A = ℕ} 32 0); by_index = zeros-none }
 
 pub enum_known-full : goal.enum_known-full
 enum_known-full c = search rules

@@ -13,9 +13,6 @@ use Rattle.pages.proofs.SheafLaws.{known_from, known-after, known-counts}
 use borrow.Author.Rules.{rules}
 use Rattle.pages.proofs.tallies.tallied.Goals as goal
 
-eight : (c : goal.After-verdict-judged → length c.verdict-judged.result.first ≡ 8
-eight c = search rules
-
 pub known-known-requires : goal.known-known-requires
 known-known-requires c =
     record { loaded = (c.requires.loaded, c.requires.ready, c.requires.groups_len); fulls_len = (c.requires.lanes.for_fulls, c.requires.lanes.for_breakings) }
@@ -103,7 +100,8 @@ slice_bounds-put-end-in-loop-k c =
 
 pub put-requires : goal.put-requires
 put-requires c =
-    simp (length-take, length-drop) (omega (arith, eight c.before.before.before, c.loop-k.invariant.0.for_firsts, c.requires.ready.few, c.loop-k-test.true))
+    let eight : length c.verdict-judged.result.first ≡ 8 = search rules in
+    simp (length-take, length-drop) (omega (arith, eight, c.loop-k.invariant.0.for_firsts, c.requires.ready.few, c.loop-k-test.true))
 
 pub overflow_add-k : goal.overflow_add-k
 overflow_add-k c =
@@ -115,11 +113,12 @@ loop-k-smaller c =
 
 pub loop-k-preserved : goal.loop-k-preserved
 loop-k-preserved c =
+    let eight : length c.verdict-judged.result.first ≡ 8 = search rules in
     let within : c.loop-k.k < 32 = omega (arith, c.requires.ready.few) in
     let ok = c.requires.ready.accepted c.loop-k.k c.loop-k-test.true in
     let judged : JudgesInTurn c.args.words.now (line_at c.args.page.now c.loop-k.k) c.verdict-judged.result = rw (line-is _ _ c.line.ensures c.in-Found.is) c.verdict-judged.ensures in (
-      lanes_next c.verdict-judged.result c.loop-k.invariant.0 within c.loop-k.invariant.1 judged ok (eight c.before.before.before.before.before.before) c.put.ensures,
-      tallies-next c.verdict-judged.result c.loop-k.invariant.0 within c.loop-k.invariant.1 judged ok (eight c.before.before.before.before.before.before) c.put.ensures,
+      lanes_next c.verdict-judged.result c.loop-k.invariant.0 within c.loop-k.invariant.1 judged ok eight c.put.ensures,
+      tallies-next c.verdict-judged.result c.loop-k.invariant.0 within c.loop-k.invariant.1 judged ok eight c.put.ensures,
       known-after c.verdict-judged.result.full c.verdict-judged.result.breaking c.loop-k.invariant.2,
     )
 

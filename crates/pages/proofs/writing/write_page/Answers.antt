@@ -16,19 +16,19 @@ use Rattle.pages.proofs.writing.write_page.Goals as goal
 abbrev empty : List ℕ
 empty = replicate 850 0
 
-with-lines : (c : goal.After-write_from-sums) → length (put_mid 18 832 empty c.write_from-sums.new.out) ≡ 850
-with-lines c = same_len_mid 18 832 empty c.write_from-sums.new.out c.write_from-sums.auto.out
-
 pub write_from-sums-requires : goal.write_from-sums-requires
 write_from-sums-requires c =
     record { lanes = c.requires.lanes; many_le_page_limit = c.requires.many_le_page_limit.0; all_fit = c.requires.all_fit; k_in_bounds = omega (arith, c.requires.many_le_page_limit.0) }
 
 pub slice_bounds-write_head-end : goal.slice_bounds-write_head-end
-slice_bounds-write_head-end c = sym (with-lines c.before.before)
+slice_bounds-write_head-end c =
+    let with-lines : length (put_mid 18 832 empty c.write_from-sums.new.out) ≡ 850 = same_len_mid 18 832 empty c.write_from-sums.new.out c.write_from-sums.auto.out in
+    sym with-lines
 
 pub slice_bounds-lend-end : goal.slice_bounds-lend-end
 slice_bounds-lend-end c =
-    sym (length-take-le _ c.write_head.new.out (omega (arith, c.requires.many_le_page_limit.0, with-lines c.before.before.before.before.before, written-length c.write_head.ensures)))
+    let with-lines : length (put_mid 18 832 empty c.write_from-sums.new.out) ≡ 850 = same_len_mid 18 832 empty c.write_from-sums.new.out c.write_from-sums.auto.out in
+    sym (length-take-le _ c.write_head.new.out (omega (arith, c.requires.many_le_page_limit.0, with-lines, written-length c.write_head.ensures)))
 
 pub returns : goal.returns
 returns c =

@@ -5,55 +5,65 @@ use Rattle.sessions.proofs.RowLaws.{ClosedFits, closed-fits, closed-added}
 use borrow.Author.Rules.{rules}
 use Rattle.sessions.proofs.rows.add_closed.Goals as goal
 
--- What is known of the numbers once it is known where the rows begin.
-sizes : (c : goal.After-rows_at-rows) → ClosedFits c.args.words.now c.args.tables.now c.args.k c.rows_at-rows.result
-sizes c = closed-fits c.requires.changed.tables _ c.requires.changed.free c.requires.changed.at c.requires.changed.bytes c.rows_at-rows.ensures
-
 pub rows_at-rows-requires : goal.rows_at-rows-requires
 rows_at-rows-requires c = record { tables = _; holds = c.requires.changed.at }
 
 pub overflow_mul-row : goal.overflow_mul-row
-overflow_mul-row c = let z = sizes c in omega (arith, z.few)
+overflow_mul-row c =
+    let sizes : ClosedFits c.args.words.now c.args.tables.now c.args.k c.rows_at-rows.result = closed-fits c.requires.changed.tables _ c.requires.changed.free c.requires.changed.at c.requires.changed.bytes c.rows_at-rows.ensures in
+    let z = sizes in omega (arith, z.few)
 
 pub overflow_add-row : goal.overflow_add-row
-overflow_add-row c = let z = sizes c in omega (arith, z.few, z.low)
+overflow_add-row c =
+    let sizes : ClosedFits c.args.words.now c.args.tables.now c.args.k c.rows_at-rows.result = closed-fits c.requires.changed.tables _ c.requires.changed.free c.requires.changed.at c.requires.changed.bytes c.rows_at-rows.ensures in
+    let z = sizes in omega (arith, z.few, z.low)
 
 pub overflow_add-rest : goal.overflow_add-rest
-overflow_add-rest c = let z = sizes c in omega (arith, z.few, z.low)
+overflow_add-rest c =
+    let sizes : ClosedFits c.args.words.now c.args.tables.now c.args.k c.rows_at-rows.result = closed-fits c.requires.changed.tables _ c.requires.changed.free c.requires.changed.at c.requires.changed.bytes c.rows_at-rows.ensures in
+    let z = sizes in omega (arith, z.few, z.low)
 
 pub add_count-a-requires : goal.add_count-a-requires
 add_count-a-requires c =
-    let z = sizes c.before in
+    let sizes : ClosedFits c.args.words.now c.args.tables.now c.args.k c.rows_at-rows.result = closed-fits c.requires.changed.tables _ c.requires.changed.free c.requires.changed.at c.requires.changed.bytes c.rows_at-rows.ensures in
+    let z = sizes in
     record { loaded = record { tables = _; holds = c.requires.changed.at }; words_in_bounds = (omega (arith, z.at, z.last), search rules) }
 
 pub slice_bounds-add-count : goal.slice_bounds-add-count
 slice_bounds-add-count c =
-    let z = sizes c.before.before.before.before in omega arith
+    let sizes : ClosedFits c.args.words.now c.args.tables.now c.args.k c.rows_at-rows.result = closed-fits c.requires.changed.tables _ c.requires.changed.free c.requires.changed.at c.requires.changed.bytes c.rows_at-rows.ensures in
+    let z = sizes in omega arith
 
 pub slice_bounds-add-start : goal.slice_bounds-add-start
 slice_bounds-add-start c =
-    let z = sizes c.before.before.before.before in omega arith
+    let sizes : ClosedFits c.args.words.now c.args.tables.now c.args.k c.rows_at-rows.result = closed-fits c.requires.changed.tables _ c.requires.changed.free c.requires.changed.at c.requires.changed.bytes c.rows_at-rows.ensures in
+    let z = sizes in omega arith
 
 pub slice_bounds-add-end : goal.slice_bounds-add-end
 slice_bounds-add-end c =
-    let z = sizes c.before.before.before.before in omega (arith, z.last)
+    let sizes : ClosedFits c.args.words.now c.args.tables.now c.args.k c.rows_at-rows.result = closed-fits c.requires.changed.tables _ c.requires.changed.free c.requires.changed.at c.requires.changed.bytes c.rows_at-rows.ensures in
+    let z = sizes in omega (arith, z.last)
 
 pub add-b-requires : goal.add-b-requires
 add-b-requires c =
-    let z = sizes c.before.before.before.before.before.before in
+    let sizes : ClosedFits c.args.words.now c.args.tables.now c.args.k c.rows_at-rows.result = closed-fits c.requires.changed.tables _ c.requires.changed.free c.requires.changed.at c.requires.changed.bytes c.rows_at-rows.ensures in
+    let z = sizes in
     search rules
 
 pub slice_bounds-add-count-2 : goal.slice_bounds-add-count-2
 slice_bounds-add-count-2 c =
-    let z = sizes c.before.before.before.before.before.before.before.before.before in omega (arith, z.last)
+    let sizes : ClosedFits c.args.words.now c.args.tables.now c.args.k c.rows_at-rows.result = closed-fits c.requires.changed.tables _ c.requires.changed.free c.requires.changed.at c.requires.changed.bytes c.rows_at-rows.ensures in
+    let z = sizes in omega (arith, z.last)
 
 pub slice_bounds-add-start-2 : goal.slice_bounds-add-start-2
 slice_bounds-add-start-2 c =
-    let z = sizes c.before.before.before.before.before.before.before.before.before in omega (arith, z.last)
+    let sizes : ClosedFits c.args.words.now c.args.tables.now c.args.k c.rows_at-rows.result = closed-fits c.requires.changed.tables _ c.requires.changed.free c.requires.changed.at c.requires.changed.bytes c.rows_at-rows.ensures in
+    let z = sizes in omega (arith, z.last)
 
 pub add-requires : goal.add-requires
 add-requires c =
-    let z = sizes c.before.before.before.before.before.before.before.before.before.before.before in
+    let sizes : ClosedFits c.args.words.now c.args.tables.now c.args.k c.rows_at-rows.result = closed-fits c.requires.changed.tables _ c.requires.changed.free c.requires.changed.at c.requires.changed.bytes c.rows_at-rows.ensures in
+    let z = sizes in
     search rules
 
 pub returns : goal.returns

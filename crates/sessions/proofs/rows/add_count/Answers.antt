@@ -10,10 +10,6 @@ use Rattle.sessions.proofs.LayLaws.{add-then}
 use borrow.Author.Rules.{rules}
 use Rattle.sessions.proofs.rows.add_count.Goals as goal
 
-front_length : (c : goal.After-rows_at-at) → length (take (c.rows_at-at.result - 1) c.args.tables.now) ≡ c.rows_at-at.result - 1
-front_length c =
-    length-take-le (c.rows_at-at.result - 1) c.args.tables.now (omega (arith, c.rows_at-at.ensures, c.requires.words_in_bounds.0))
-
 pub overflow_sub-at : goal.overflow_sub-at
 overflow_sub-at c = omega (arith, c.rows_at-at.ensures)
 
@@ -25,16 +21,19 @@ overflow_cast-count c = let k = counts_of c.requires.loaded.holds in omega (arit
 
 pub slice_bounds-add-end : goal.slice_bounds-add-end
 slice_bounds-add-end c =
-    sym (front_length c.before.before)
+    let front_length : length (take (c.rows_at-at.result - 1) c.args.tables.now) ≡ c.rows_at-at.result - 1 = length-take-le (c.rows_at-at.result - 1) c.args.tables.now (omega (arith, c.rows_at-at.ensures, c.requires.words_in_bounds.0)) in
+    sym front_length
 
 pub add-a-requires : goal.add-a-requires
 add-a-requires c =
-    let long = front_length c.before.before.before in
+    let front_length : length (take (c.rows_at-at.result - 1) c.args.tables.now) ≡ c.rows_at-at.result - 1 = length-take-le (c.rows_at-at.result - 1) c.args.tables.now (omega (arith, c.rows_at-at.ensures, c.requires.words_in_bounds.0)) in
+    let long = front_length in
     search rules
 
 pub add-requires : goal.add-requires
 add-requires c =
-    let long = front_length c.before.before.before.before.before.before.before.before in
+    let front_length : length (take (c.rows_at-at.result - 1) c.args.tables.now) ≡ c.rows_at-at.result - 1 = length-take-le (c.rows_at-at.result - 1) c.args.tables.now (omega (arith, c.rows_at-at.ensures, c.requires.words_in_bounds.0)) in
+    let long = front_length in
     search rules
 
 pub returns : goal.returns

@@ -8,13 +8,6 @@ use Rattle.sessions.proofs.RowLaws.{OpenedFits, opened-fits, rest-fits, opened-a
 use borrow.Author.Rules.{rules}
 use Rattle.sessions.proofs.rows.add_opened.Goals as goal
 
--- What is known of the numbers once it is known where the rows begin.
-sizes : (c : goal.After-rows_at-rows) → OpenedFits c.args.words.now c.args.tables.now c.args.user c.rows_at-rows.result
-sizes c = opened-fits c.requires.changed.tables _ _ c.requires.changed.free c.requires.changed.at c.requires.changed.bytes c.rows_at-rows.ensures
-
-nine : (c : goal.After-row-one) → length c.row-one.result ≡ 9
-nine c = search rules
-
 pub rows_at-rows-requires : goal.rows_at-rows-requires
 rows_at-rows-requires c = record { tables = _; holds = c.requires.changed.at }
 
@@ -22,55 +15,73 @@ pub bounds-words-3 : goal.bounds-words-3
 bounds-words-3 c = omega (arith, (counts_of c.requires.changed.at).long)
 
 pub overflow_sub-end : goal.overflow_sub-end
-overflow_sub-end c = (sizes c.before).some
+overflow_sub-end c =
+    let sizes : OpenedFits c.args.words.now c.args.tables.now c.args.user c.rows_at-rows.result = opened-fits c.requires.changed.tables _ _ c.requires.changed.free c.requires.changed.at c.requires.changed.bytes c.rows_at-rows.ensures in
+    sizes.some
 
 pub overflow_mul-end : goal.overflow_mul-end
-overflow_mul-end c = let z = sizes c.before in omega (arith, z.some, z.few)
+overflow_mul-end c =
+    let sizes : OpenedFits c.args.words.now c.args.tables.now c.args.user c.rows_at-rows.result = opened-fits c.requires.changed.tables _ _ c.requires.changed.free c.requires.changed.at c.requires.changed.bytes c.rows_at-rows.ensures in
+    let z = sizes in omega (arith, z.some, z.few)
 
 pub overflow_add-end : goal.overflow_add-end
-overflow_add-end c = let z = sizes c.before in omega (arith, z.some, z.few, z.low)
+overflow_add-end c =
+    let sizes : OpenedFits c.args.words.now c.args.tables.now c.args.user c.rows_at-rows.result = opened-fits c.requires.changed.tables _ _ c.requires.changed.free c.requires.changed.at c.requires.changed.bytes c.rows_at-rows.ensures in
+    let z = sizes in omega (arith, z.some, z.few, z.low)
 
 pub overflow_cast-user : goal.overflow_cast-user
-overflow_cast-user c = let z = sizes c.before in omega (arith, z.user)
+overflow_cast-user c =
+    let sizes : OpenedFits c.args.words.now c.args.tables.now c.args.user c.rows_at-rows.result = opened-fits c.requires.changed.tables _ _ c.requires.changed.free c.requires.changed.at c.requires.changed.bytes c.rows_at-rows.ensures in
+    let z = sizes in omega (arith, z.user)
 
 pub add_count-a-requires : goal.add_count-a-requires
 add_count-a-requires c =
-    let z = sizes c.before.before.before in
+    let sizes : OpenedFits c.args.words.now c.args.tables.now c.args.user c.rows_at-rows.result = opened-fits c.requires.changed.tables _ _ c.requires.changed.free c.requires.changed.at c.requires.changed.bytes c.rows_at-rows.ensures in
+    let z = sizes in
     record { loaded = record { tables = _; holds = c.requires.changed.at }; words_in_bounds = (omega (arith, z.at, z.last), search rules) }
 
 pub slice_bounds-add-count : goal.slice_bounds-add-count
 slice_bounds-add-count c =
-    let z = sizes c.before.before.before.before.before.before in omega (arith, z.some)
+    let sizes : OpenedFits c.args.words.now c.args.tables.now c.args.user c.rows_at-rows.result = opened-fits c.requires.changed.tables _ _ c.requires.changed.free c.requires.changed.at c.requires.changed.bytes c.rows_at-rows.ensures in
+    let z = sizes in omega (arith, z.some)
 
 pub slice_bounds-add-start : goal.slice_bounds-add-start
 slice_bounds-add-start c =
-    let z = sizes c.before.before.before.before.before.before in omega (arith, z.some)
+    let sizes : OpenedFits c.args.words.now c.args.tables.now c.args.user c.rows_at-rows.result = opened-fits c.requires.changed.tables _ _ c.requires.changed.free c.requires.changed.at c.requires.changed.bytes c.rows_at-rows.ensures in
+    let z = sizes in omega (arith, z.some)
 
 pub slice_bounds-add-end : goal.slice_bounds-add-end
 slice_bounds-add-end c =
-    let z = sizes c.before.before.before.before.before.before in omega (arith, z.last)
+    let sizes : OpenedFits c.args.words.now c.args.tables.now c.args.user c.rows_at-rows.result = opened-fits c.requires.changed.tables _ _ c.requires.changed.free c.requires.changed.at c.requires.changed.bytes c.rows_at-rows.ensures in
+    let z = sizes in omega (arith, z.last)
 
 pub add-b-requires : goal.add-b-requires
 add-b-requires c =
-    let z = sizes c.before.before.before.before.before.before.before.before in
+    let sizes : OpenedFits c.args.words.now c.args.tables.now c.args.user c.rows_at-rows.result = opened-fits c.requires.changed.tables _ _ c.requires.changed.free c.requires.changed.at c.requires.changed.bytes c.rows_at-rows.ensures in
+    let z = sizes in
     search rules
 
 pub add-c-requires : goal.add-c-requires
 add-c-requires c =
-    let z = sizes c.before.before.before.before.before.before.before.before.before.before.before.before.before in
+    let sizes : OpenedFits c.args.words.now c.args.tables.now c.args.user c.rows_at-rows.result = opened-fits c.requires.changed.tables _ _ c.requires.changed.free c.requires.changed.at c.requires.changed.bytes c.rows_at-rows.ensures in
+    let z = sizes in
     search rules
 
 pub slice_bounds-add-count-2 : goal.slice_bounds-add-count-2
 slice_bounds-add-count-2 c =
-    let z = sizes c.before.before.before.before.before.before.before.before.before.before.before.before.before.before.before.before in omega (arith, z.last)
+    let sizes : OpenedFits c.args.words.now c.args.tables.now c.args.user c.rows_at-rows.result = opened-fits c.requires.changed.tables _ _ c.requires.changed.free c.requires.changed.at c.requires.changed.bytes c.rows_at-rows.ensures in
+    let z = sizes in omega (arith, z.last)
 
 pub slice_bounds-add-start-2 : goal.slice_bounds-add-start-2
 slice_bounds-add-start-2 c =
-    let z = sizes c.before.before.before.before.before.before.before.before.before.before.before.before.before.before.before.before in omega (arith, z.last)
+    let sizes : OpenedFits c.args.words.now c.args.tables.now c.args.user c.rows_at-rows.result = opened-fits c.requires.changed.tables _ _ c.requires.changed.free c.requires.changed.at c.requires.changed.bytes c.rows_at-rows.ensures in
+    let z = sizes in omega (arith, z.last)
 
 pub add-requires : goal.add-requires
 add-requires c =
-    rest-fits (sizes c.before.before.before.before.before.before.before.before.before.before.before.before.before.before.before.before.before.before) (nine c.before.before.before.before.before.before.before.before.before.before.before.before.before.before.before.before) c.add_count-a.ensures c.add-b.ensures c.add-c.ensures c.requires.row_length_in_bounds
+    let sizes : OpenedFits c.args.words.now c.args.tables.now c.args.user c.rows_at-rows.result = opened-fits c.requires.changed.tables _ _ c.requires.changed.free c.requires.changed.at c.requires.changed.bytes c.rows_at-rows.ensures in
+    let nine : length c.row-one.result ≡ 9 = search rules in
+    rest-fits sizes nine c.add_count-a.ensures c.add-b.ensures c.add-c.ensures c.requires.row_length_in_bounds
 
 pub returns : goal.returns
 returns c =

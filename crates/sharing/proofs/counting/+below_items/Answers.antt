@@ -147,27 +147,26 @@ below-returns-then-missing-eq0 t c =
     }
 
 pub below-items-full-requires : goal.below-items-full-requires
-below-items-full-requires t c =
-    (
-      omega (arith, c.decreases),
-      (
-        record {
-          held = c.requires.held;
-          grouped = c.requires.grouped;
-          long = c.requires.long;
-          listed = record { small = c.looked-missing.ensures.small; few = c.requires.listed.few; inside = λ l a. c.requires.listed.inside l (c.looked-missing.ensures.inside l a) };
-          within = c.requires.within;
-          room = c.requires.room;
-          slots = c.requires.slots;
-          counts = c.looked-missing.ensures.long ∙ c.requires.counts;
-          none = λ l a. c.looked-missing.ensures.other l a ∙ c.requires.none l (c.looked-missing.ensures.inside l a);
-          stored = c.requires.stored;
-          keeps = c.requires.keeps;
-        },
-        omega (arith, c.if-at-eq0-2.false),
-        omega (arith, c.if-missing-eq0.false),
-      ),
-    )
+below-items-full-requires t c = (
+  omega (arith, c.decreases),
+  (
+    record {
+      held = c.requires.held;
+      grouped = c.requires.grouped;
+      long = c.requires.long;
+      listed = record { small = c.looked-missing.ensures.small; few = c.requires.listed.few; inside = λ l a. c.requires.listed.inside l (c.looked-missing.ensures.inside l a) };
+      within = c.requires.within;
+      room = c.requires.room;
+      slots = c.requires.slots;
+      counts = c.looked-missing.ensures.long ∙ c.requires.counts;
+      none = λ l a. c.looked-missing.ensures.other l a ∙ c.requires.none l (c.looked-missing.ensures.inside l a);
+      stored = c.requires.stored;
+      keeps = c.requires.keeps;
+    },
+    omega (arith, c.if-at-eq0-2.false),
+    omega (arith, c.if-missing-eq0.false),
+  ),
+)
 
 pub below-keep-requires : goal.below-keep-requires
 below-keep-requires t c =

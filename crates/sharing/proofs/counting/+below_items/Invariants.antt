@@ -12,18 +12,18 @@ use Prim.Native.Nat.{ℕ, ◌<◌, ◌+◌, ◌-◌, ◌*◌, ◌^◌}
 use Rattle.sharing.proofs.counting.+below_items.Given as goal
 
 abbrev pub decreases-below : goal.decreases-below
-decreases-below l = 2 * l.at.left + 1
+decreases-below v = 2 * v.at.left + 1
 
 abbrev pub decreases-items : goal.decreases-items
-decreases-items l = 2 * l.at.left
+decreases-items v = 2 * v.at.left
 
-abbrev pub items-invariant-loop-rest : goal.items-invariant-loop-rest
-items-invariant-loop-rest l = (length l.cache ≡ length l.initial.cache) × (length l.kept ≡ length l.initial.kept) × (length l.breaking ≡ length l.initial.breaking) × (l.rest < 2 ^ 64)
-    × ((l : ℕ) → has l.at.active l ≡ false → get_or l.breaking l 0 ≡ get_or l.initial.breaking l 0)
-    × ((h : Held) (G : Grouped l.t l.plan l.lines l.at.many h) → Caches l.t h.layout l.at.choice l.initial.cache (depth_of l.plan l.at.left + 1) → KeptFor l.plan l.lines l.at.many h l.initial.kept
-    → ((l : ℕ) → has l.at.active l ≡ true
-    → TurningFor G l (depth_of l.plan l.at.left) l.at.choice (get_or l.initial.cache (get_or l.plan (sets_from + depth_of l.plan l.at.left) 0) 0) l.rest l.full (get_or l.breaking l 0))
-    × Caches l.t h.layout l.at.choice l.cache (depth_of l.plan l.at.left + 1) × KeptFor l.plan l.lines l.at.many h l.kept)
+abbrev pub invariant-items-loop-rest : goal.invariant-items-loop-rest
+invariant-items-loop-rest v = (length v.cache ≡ length v.initial.cache) × (length v.kept ≡ length v.initial.kept) × (length v.breaking ≡ length v.initial.breaking) × (v.rest < 2 ^ 64)
+    × ((l : ℕ) → has v.at.active l ≡ false → get_or v.breaking l 0 ≡ get_or v.initial.breaking l 0)
+    × ((h : Held) (G : Grouped v.t v.plan v.lines v.at.many h) → Caches v.t h.layout v.at.choice v.initial.cache (depth_of v.plan v.at.left + 1) → KeptFor v.plan v.lines v.at.many h v.initial.kept
+    → ((l : ℕ) → has v.at.active l ≡ true
+    → TurningFor G l (depth_of v.plan v.at.left) v.at.choice (get_or v.initial.cache (get_or v.plan (sets_from + depth_of v.plan v.at.left) 0) 0) v.rest v.full (get_or v.breaking l 0))
+    × Caches v.t h.layout v.at.choice v.cache (depth_of v.plan v.at.left + 1) × KeptFor v.plan v.lines v.at.many h v.kept)
 
-abbrev pub items-decreases-loop-rest : goal.items-decreases-loop-rest
-items-decreases-loop-rest l = l.rest
+abbrev pub decreases-items-loop-rest : goal.decreases-items-loop-rest
+decreases-items-loop-rest v = v.rest

@@ -12,12 +12,12 @@ use Rattle.sharing.proofs.WalkLaws.{TurningFor}
 use Rattle.sharing.proofs.counting.last.Given as goal
 
 abbrev pub invariant-loop-rest : goal.invariant-loop-rest
-invariant-loop-rest l = (length l.cache ≡ length l.initial.cache) × (length l.breaking ≡ length l.initial.breaking) × (l.rest < 2 ^ 64)
-    × ((l : ℕ) → has l.at.active l ≡ false → get_or l.breaking l 0 ≡ get_or l.initial.breaking l 0)
-    × ((h : Held) (G : Grouped l.t l.plan l.lines l.at.many h) → Caches l.t h.layout l.at.choice l.initial.cache (depth_of l.plan l.at.left + 1)
-    → ((l : ℕ) → has l.at.active l ≡ true
-    → TurningFor G l (depth_of l.plan l.at.left) l.at.choice (get_or l.initial.cache (get_or l.plan (sets_from + depth_of l.plan l.at.left) 0) 0) l.rest l.full (get_or l.breaking l 0))
-    × Caches l.t h.layout l.at.choice l.cache (depth_of l.plan l.at.left + 1))
+invariant-loop-rest v = (length v.cache ≡ length v.initial.cache) × (length v.breaking ≡ length v.initial.breaking) × (v.rest < 2 ^ 64)
+    × ((l : ℕ) → has v.at.active l ≡ false → get_or v.breaking l 0 ≡ get_or v.initial.breaking l 0)
+    × ((h : Held) (G : Grouped v.t v.plan v.lines v.at.many h) → Caches v.t h.layout v.at.choice v.initial.cache (depth_of v.plan v.at.left + 1)
+    → ((l : ℕ) → has v.at.active l ≡ true
+    → TurningFor G l (depth_of v.plan v.at.left) v.at.choice (get_or v.initial.cache (get_or v.plan (sets_from + depth_of v.plan v.at.left) 0) 0) v.rest v.full (get_or v.breaking l 0))
+    × Caches v.t h.layout v.at.choice v.cache (depth_of v.plan v.at.left + 1))
 
 abbrev pub decreases-loop-rest : goal.decreases-loop-rest
-decreases-loop-rest l = l.rest
+decreases-loop-rest v = v.rest

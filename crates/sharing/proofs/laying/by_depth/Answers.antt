@@ -32,12 +32,11 @@ loop-d-smaller c =
     omega (arith, c.loop-d-test.true)
 
 pub loop-d-preserved : goal.loop-d-preserved
-loop-d-preserved c =
-    (
-      omega (arith, c.loop-d-test.true),
-      length-set c.loop-d.found c.loop-d.d c.by_sets.result ∙ c.loop-d.invariant.1,
-      put-more (λ e w. SetsNamedFrom c.args.names.now c.args.order.now e w) c.loop-d.found c.loop-d.d (omega (arith, c.loop-d.invariant.1, c.loop-d-test.true)) c.loop-d.invariant.2 c.by_sets.result c.by_sets.ensures.1,
-    )
+loop-d-preserved c = (
+  omega (arith, c.loop-d-test.true),
+  length-set c.loop-d.found c.loop-d.d c.by_sets.result ∙ c.loop-d.invariant.1,
+  put-more (λ e w. SetsNamedFrom c.args.names.now c.args.order.now e w) c.loop-d.found c.loop-d.d (omega (arith, c.loop-d.invariant.1, c.loop-d-test.true)) c.loop-d.invariant.2 c.by_sets.result c.by_sets.ensures.1,
+)
 
 pub returns : goal.returns
 returns c =

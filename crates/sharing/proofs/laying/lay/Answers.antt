@@ -8,28 +8,10 @@ use Rattle.sharing.proofs.LayingLaws.{laid_more, clauses-low, order-in, chosen-l
 use borrow.Author.Rules.{rules}
 use Rattle.sharing.proofs.laying.lay.Goals as goal
 
--- Arrays have their length by their type.
-vars-room : (c : goal.Start → length c.args.t1.vars ≡ 8
-vars-room c = search rules
-
-terms-room : (c : goal.After-terms-2-1 → length c.terms.new.found ≡ 256
-terms-room c = search rules
-
-scopes-room : (c : goal.After-scopes-2-1 → length c.scopes.new.found ≡ 256
-scopes-room c = search rules
-
-order-room : (c : goal.After-order_of-order → length c.order_of-order.result ≡ 8
-order-room c = search rules
-
-names-room : (c : goal.After-sets-names → length c.sets-names.result ≡ 8
-names-room c = search rules
-
-sets-room : (c : goal.After-by_depth-sets → length c.by_depth-sets.result ≡ 8
-sets-room c = search rules
-
 pub slice_bounds-all-end : goal.slice_bounds-all-end
 slice_bounds-all-end c =
-    omega (arith, c.requires.0.few, vars-room c.before.before.before.before)
+    let vars-room : length c.args.parsed.vars ≡ 8 = search rules in
+    omega (arith, c.requires.0.few, vars-room)
 
 pub slice_bounds-vars-end : goal.slice_bounds-vars-end
 slice_bounds-vars-end c =
@@ -41,7 +23,8 @@ terms-requires c =
 
 pub slice_bounds-scopes-end : goal.slice_bounds-scopes-end
 slice_bounds-scopes-end c =
-    sym (terms-room c.before)
+    let terms-room : length c.terms.new.found ≡ 256 = search rules in
+    sym terms-room
 
 pub bounds-plan-849 : goal.bounds-plan-849
 bounds-plan-849 c =
@@ -49,7 +32,8 @@ bounds-plan-849 c =
 
 pub scopes-requires : goal.scopes-requires
 scopes-requires c =
-    (c.requires.0.planned.long, omega (arith, c.requires.0.planned.clauses.many, c.requires.0.planned.clauses.few), refl, clauses-low c.requires.0.planned.clauses _ (omega (arith, c.requires.0.planned.small, terms-room c.before.before.before)))
+    let terms-room : length c.terms.new.found ≡ 256 = search rules in
+    (c.requires.0.planned.long, omega (arith, c.requires.0.planned.clauses.many, c.requires.0.planned.clauses.few), refl, clauses-low c.requires.0.planned.clauses _ (omega (arith, c.requires.0.planned.small, terms-room)))
 
 pub order_of-order-requires : goal.order_of-order-requires
 order_of-order-requires c =
@@ -57,11 +41,13 @@ order_of-order-requires c =
 
 pub slice_bounds-sets-end : goal.slice_bounds-sets-end
 slice_bounds-sets-end c =
-    sym (terms-room c.before.before.before.before.before.before.before)
+    let terms-room : length c.terms.new.found ≡ 256 = search rules in
+    sym terms-room
 
 pub sets-names-requires : goal.sets-names-requires
 sets-names-requires c =
-    (omega (arith, vars-few c.requires.0, c.requires.0.few), λ i l. omega (arith, vars-below c.requires.0 i l, nodes-few c.requires.0, terms-room c.before.before.before.before.before.before.before))
+    let terms-room : length c.terms.new.found ≡ 256 = search rules in
+    (omega (arith, vars-few c.requires.0, c.requires.0.few), λ i l. omega (arith, vars-below c.requires.0 i l, nodes-few c.requires.0, terms-room))
 
 pub bounds-plan-850 : goal.bounds-plan-850
 bounds-plan-850 c =
@@ -69,20 +55,25 @@ bounds-plan-850 c =
 
 pub slice_bounds-by_depth-end : goal.slice_bounds-by_depth-end
 slice_bounds-by_depth-end c =
-    sym (names-room c.before.before)
+    let names-room : length c.sets-names.result ≡ 8 = search rules in
+    sym names-room
 
 pub slice_bounds-order-end : goal.slice_bounds-order-end
 slice_bounds-order-end c =
-    omega (arith, (order-in c.requires.0.planned).short, order-room c.before.before.before.before)
+    let order-room : length c.order_of-order.result ≡ 8 = search rules in
+    omega (arith, (order-in c.requires.0.planned).short, order-room)
 
 pub slice_bounds-by_depth-end-2 : goal.slice_bounds-by_depth-end-2
 slice_bounds-by_depth-end-2 c =
-    sym (chosen-long (order-in c.requires.0.planned) c.order_of-order.result (order-room c.before.before.before.before.before))
+    let order-room : length c.order_of-order.result ≡ 8 = search rules in
+    sym (chosen-long (order-in c.requires.0.planned) c.order_of-order.result order-room)
 
 pub by_depth-sets-requires : goal.by_depth-sets-requires
 by_depth-sets-requires c =
+    let order-room : length c.order_of-order.result ≡ 8 = search rules in
+    let names-room : length c.sets-names.result ≡ 8 = search rules in
     let I = order-in c.requires.0.planned in
-    (names-room c.before.before.before, omega (arith, chosen-long I c.order_of-order.result (order-room c.before.before.before.before.before), I.short), chosen-below I c.order_of-order.result (order-room c.before.before.before.before.before) c.order_of-order.ensures)
+    (names-room, omega (arith, chosen-long I c.order_of-order.result order-room, I.short), chosen-below I c.order_of-order.result order-room c.order_of-order.ensures)
 
 pub loop-l-init : goal.loop-l-init
 loop-l-init c =
@@ -110,15 +101,19 @@ bounds-starts-l-in-loop-l c =
 
 pub slice_bounds-line-end : goal.slice_bounds-line-end
 slice_bounds-line-end c =
-    sym (scopes-room c.before.before.before.before.before.before.before.before.before.before.before.before)
+    let scopes-room : length c.scopes.new.found ≡ 256 = search rules in
+    sym scopes-room
 
 pub slice_bounds-line-end-in-loop-l : goal.slice_bounds-line-end-in-loop-l
 slice_bounds-line-end-in-loop-l c =
-    sym (sets-room c.before.before.before.before.before.before)
+    let sets-room : length c.by_depth-sets.result ≡ 8 = search rules in
+    sym sets-room
 
 pub line-requires : goal.line-requires
 line-requires c =
-    (c.requires.0.planned.long, scopes-room c.before.before.before.before.before.before.before.before.before.before.before.before.before.before, sets-room c.before.before.before.before.before.before.before, omega (arith, c.requires.1, c.loop-l-test.true), c.requires.2.within c.loop-l.l c.loop-l-test.true, c.loop-l.invariant.1)
+    let scopes-room : length c.scopes.new.found ≡ 256 = search rules in
+    let sets-room : length c.by_depth-sets.result ≡ 8 = search rules in
+    (c.requires.0.planned.long, scopes-room, sets-room, omega (arith, c.requires.1, c.loop-l-test.true), c.requires.2.within c.loop-l.l c.loop-l-test.true, c.loop-l.invariant.1)
 
 pub overflow_add-l : goal.overflow_add-l
 overflow_add-l c =
@@ -138,12 +133,13 @@ shape_of-lines c =
 
 pub returns : goal.returns
 returns c =
+    let order-room : length c.order_of-order.result ≡ 8 = search rules in
     lays-lines
     (record {
       terms = c.terms.new.found;
       words = c.sets-names.result;
       order = c.order_of-order.result;
-      room = order-room c.before.before.before.before.before.before.before.before;
+      room = order-room;
       named = c.terms.ensures;
       scoped = c.scopes.ensures;
       ordered = c.order_of-order.ensures;

@@ -3,7 +3,6 @@
 use mathlib.Core.Path.{◌≡◌, refl, sym, ◌∙◌}
 use mathlib.Core.Bool.{Bool, true, false, cond}
 use mathlib.Core.List.{List}
-use mathlib.Core.Logic.{⊎_elim}
 use Prim.Native.Nat.{ℕ, ◌+◌, ◌^◌, ◌<◌, ◌≤◌}
 use native.Mathlib.Omega.{arith}
 use lib.ListN.{length, get_or, set, length-set}
@@ -11,113 +10,81 @@ use lib.Seq.{get_or-set_same, get_or-set_other}
 use Rattle.words.specs.Words.{has, item_of, less_of}
 use Rattle.sharing.specs.Code.Lines.{lines_limit}
 use Rattle.sharing.proofs.LineLaws.{Going, going_start, going_end, going_on, Turn, turn}
+use Rattle.sharing.proofs.AddedLaws.{Added, Same, added, more-is, more-not, cond-le}
 use Rattle.sharing.proofs.lines.add.Goals as goal
-
-abbrev Added : ℕ → ℕ → List ℕ → List ℕ → List ℕ → ℕ → Type 0
-Added closed full under old new l = get_or new l 0 ≡ get_or old l 0 + cond (has closed l) full (get_or under l 0)
-
-abbrev Same : List ℕ → List ℕ → ℕ → Type 0
-Same old new l = get_or new l 0 ≡ get_or old l 0
-
--- The line l has its summand.
-added : (closed full : ℕ) (under old now : List ℕ) {active many rest l : ℕ} → Turn active many rest l → l < length now
-    → (more : ℕ) → more ≡ cond (has closed l) full (get_or under l 0)
-    → Going active rest (Added closed full under old now) (Same old now)
-    → Going active (less_of rest (item_of l)) (Added closed full under old (set now l (get_or now l 0 + more))) (Same old (set now l (get_or now l 0 + more)))
-added closed full under old now {active} {many} {rest} {l} t b more e g =
-    let new : List ℕ = set now l (get_or now l 0 + more) in
-    going_on (Added closed full under old now) (Same old now) (Added closed full under old new) (Same old new) t g
-    (get_or-set_same now l (get_or now l 0 + more) 0 b ∙ omega (arith, g.ahead l t.coming, e))
-    (λ j ne p. get_or-set_other now l j (get_or now l 0 + more) 0 ne ∙ p)
-    (λ j ne q. get_or-set_other now l j (get_or now l 0 + more) 0 ne ∙ q)
-
--- What is added is the one or the other.
-more-is : (b : Bool) (full x : ℕ) → b ≡ true → full ≡ cond b full x
-more-is b full x p = rw p
-
-more-not : (b : Bool) (full x : ℕ) → b ≡ false → x ≡ cond b full x
-more-not b full x p = rw p
-
-cond-le : (b : Bool) (x y n : ℕ) → x ≤ n → y ≤ n → cond b x y ≤ n
-cond-le true x y n p q = p
-cond-le false x y n p q = q
-
-here : (c : goal.After-lowest-l → Turn c.args.active lines_limit c.loop-rest.rest c.lowest-l.result
-here c = turn c.requires.lines.0 c.loop-rest.invariant.1 c.loop-rest-test.true c.lowest-l.ensures
-
--- What is added to the line's count.
-more : (c : goal.Joined-contains
-    → c.if-contains.more ≡ cond (has c.args.closed c.lowest-l.result)
-    c.args.full
-    (get_or c.args.under.now c.lowest-l.result 0)
-more c =
-    let l : ℕ = c.lowest-l.result in
-    ⊎_elim
-    (λ w. w.1 ∙ more-is (has c.args.closed l) c.args.full (get_or c.args.under.now l 0) (sym c.contains.ensures ∙ w.0.taken))
-    (λ w. w.2 ∙ more-not (has c.args.closed l) c.args.full (get_or c.args.under.now l 0) (sym c.contains.ensures ∙ w.0.left))
-    c.if-contains.branch-raw
+use Rattle.sharing.proofs.lines.add.Goals.{then-contains, else-contains}
 
 pub loop-rest-init : goal.loop-rest-init
 loop-rest-init c =
     (refl, going_start (Added c.args.closed c.args.full c.args.under.now c.args.breaking.now c.args.breaking.now) (Same c.args.breaking.now c.args.breaking.now) c.requires.lines.0 (λ l. refl))
 
-pub lowest-l-requires : goal.lowest-l-requires
-lowest-l-requires c κs = tt
-
-pub item-requires : goal.item-requires
-item-requires c κs = tt
-
-pub less-rest-requires : goal.less-rest-requires
-less-rest-requires c κs = tt
-
 pub contains-requires : goal.contains-requires
 contains-requires c =
-    omega (arith, (here c.before.before).few)
+    let here : Turn c.args.active lines_limit c.loop-rest.rest c.lowest-l.result = turn c.requires.lines.0 c.loop-rest.invariant.1 c.loop-rest-test.true c.lowest-l.ensures in
+    omega (arith, here.few)
 
 pub offset_bounds-under-l : goal.offset_bounds-under-l
 offset_bounds-under-l c =
-    omega (arith, (here c.before.before.before.before).few)
+    let here : Turn c.args.active lines_limit c.loop-rest.rest c.lowest-l.result = turn c.requires.lines.0 c.loop-rest.invariant.1 c.loop-rest-test.true c.lowest-l.ensures in
+    omega (arith, here.few)
 
 pub bounds-under-l : goal.bounds-under-l
 bounds-under-l c =
-    omega (arith, (here c.before.before.before.before.before).few, c.requires.lines.2)
+    let here : Turn c.args.active lines_limit c.loop-rest.rest c.lowest-l.result = turn c.requires.lines.0 c.loop-rest.invariant.1 c.loop-rest-test.true c.lowest-l.ensures in
+    omega (arith, here.few, c.requires.lines.2)
 
 pub offset_bounds-breaking-l : goal.offset_bounds-breaking-l
 offset_bounds-breaking-l c =
-    omega (arith, (here c.before.before.before.before).few)
+    let here : Turn c.args.active lines_limit c.loop-rest.rest c.lowest-l.result = turn c.requires.lines.0 c.loop-rest.invariant.1 c.loop-rest-test.true c.lowest-l.ensures in
+    omega (arith, here.few)
 
 pub bounds-breaking-l : goal.bounds-breaking-l
 bounds-breaking-l c =
-    omega (arith, (here c.before.before.before.before.before).few, c.requires.lines.3, c.loop-rest.invariant.0)
+    let here : Turn c.args.active lines_limit c.loop-rest.rest c.lowest-l.result = turn c.requires.lines.0 c.loop-rest.invariant.1 c.loop-rest-test.true c.lowest-l.ensures in
+    omega (arith, here.few, c.requires.lines.3, c.loop-rest.invariant.0)
 
 pub overflow_add-breaking : goal.overflow_add-breaking
 overflow_add-breaking c =
+    let more : c.if-contains.more ≡ cond (has c.args.closed c.lowest-l.result) c.args.full (get_or c.args.under.now c.lowest-l.result 0) = let l : ℕ = c.lowest-l.result in
+    elim c.if-contains.branch [
+      | then-contains w ↦ w.more-is ∙ more-is (has c.args.closed l) c.args.full (get_or c.args.under.now l 0) (sym c.contains.ensures ∙ w.if-contains.true)
+      | else-contains w ↦ w.more-is ∙ more-not (has c.args.closed l) c.args.full (get_or c.args.under.now l 0) (sym c.contains.ensures ∙ w.if-contains.false)
+    ] in
+    let here : Turn c.args.active lines_limit c.loop-rest.rest c.lowest-l.result = turn c.requires.lines.0 c.loop-rest.invariant.1 c.loop-rest-test.true c.lowest-l.ensures in
     let l : ℕ = c.lowest-l.result in
-    let small = c.requires.by_index l (here c.before.before.before.before.before.before).counted in
+    let small = c.requires.by_index l here.counted in
     omega (
       arith,
-      c.loop-rest.invariant.1.ahead l (here c.before.before.before.before.before.before).coming,
+      c.loop-rest.invariant.1.ahead l here.coming,
       small.0,
       small.1,
-      more c.before.before,
+      more,
       cond-le (has c.args.closed l) c.args.full (get_or c.args.under.now l 0) (64 ^ 8) c.requires.lines.1 small.0,
     )
 
 pub bounds-breaking-l-in-loop-rest : goal.bounds-breaking-l-in-loop-rest
 bounds-breaking-l-in-loop-rest c =
-    omega (arith, (here c.before.before.before.before.before.before).few, c.requires.lines.3, c.loop-rest.invariant.0)
+    let here : Turn c.args.active lines_limit c.loop-rest.rest c.lowest-l.result = turn c.requires.lines.0 c.loop-rest.invariant.1 c.loop-rest-test.true c.lowest-l.ensures in
+    omega (arith, here.few, c.requires.lines.3, c.loop-rest.invariant.0)
 
 pub loop-rest-smaller : goal.loop-rest-smaller
 loop-rest-smaller c =
-    rw (c.less-rest.ensures, c.item.ensures) (here c.before.before.before.before.before.before).less
+    let here : Turn c.args.active lines_limit c.loop-rest.rest c.lowest-l.result = turn c.requires.lines.0 c.loop-rest.invariant.1 c.loop-rest-test.true c.lowest-l.ensures in
+    rw (c.less-rest.ensures, c.item.ensures) here.less
 
 pub loop-rest-preserved : goal.loop-rest-preserved
 loop-rest-preserved c =
+    let more : c.if-contains.more ≡ cond (has c.args.closed c.lowest-l.result) c.args.full (get_or c.args.under.now c.lowest-l.result 0) = let l : ℕ = c.lowest-l.result in
+    elim c.if-contains.branch [
+      | then-contains w ↦ w.more-is ∙ more-is (has c.args.closed l) c.args.full (get_or c.args.under.now l 0) (sym c.contains.ensures ∙ w.if-contains.true)
+      | else-contains w ↦ w.more-is ∙ more-not (has c.args.closed l) c.args.full (get_or c.args.under.now l 0) (sym c.contains.ensures ∙ w.if-contains.false)
+    ] in
+    let here : Turn c.args.active lines_limit c.loop-rest.rest c.lowest-l.result = turn c.requires.lines.0 c.loop-rest.invariant.1 c.loop-rest-test.true c.lowest-l.ensures in
     let now : List ℕ = c.loop-rest.breaking in
     let l : ℕ = c.lowest-l.result in
-    let fits : l < length now = omega (arith, (here c.before.before.before.before.before.before).few, c.requires.lines.3, c.loop-rest.invariant.0) in (
+    let fits : l < length now = omega (arith, here.few, c.requires.lines.3, c.loop-rest.invariant.0) in (
       length-set now l (get_or now l 0 + c.if-contains.more) ∙ c.loop-rest.invariant.0,
-      rw (c.less-rest.ensures, c.item.ensures) (added c.args.closed c.args.full c.args.under.now c.args.breaking.now now (here c.before.before.before.before.before.before) fits c.if-contains.more (more c.before.before) c.loop-rest.invariant.1),
+      rw (c.less-rest.ensures, c.item.ensures) (added c.args.closed c.args.full c.args.under.now c.args.breaking.now now here fits c.if-contains.more more c.loop-rest.invariant.1),
     )
 
 pub shape_of-breaking : goal.shape_of-breaking

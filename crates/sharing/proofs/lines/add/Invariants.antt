@@ -3,6 +3,7 @@
 use mathlib.Core.Path.{◌≡◌}
 use lib.ListN.{length}
 use Rattle.sharing.proofs.LineLaws.{Going}
+use Rattle.sharing.proofs.AddedLaws.{Added, Same}
 use Rattle.sharing.proofs.lines.add.Given as goal
 
 abbrev pub invariant-loop-rest : goal.invariant-loop-rest

@@ -2,6 +2,7 @@
 -- Assumes nothing.
 use Prim.Native.Nat.{◌^◌, ◌<◌}
 use Rattle.sharing.proofs.LineLaws.{Going}
+use Rattle.sharing.proofs.FailedLaws.{Told, Untold}
 use Rattle.sharing.proofs.lines.failed.Given as goal
 
 abbrev pub invariant-loop-rest : goal.invariant-loop-rest

@@ -2,60 +2,47 @@
 -- Assumes nothing.
 use Prim.Native.Nat.{ℕ, ◌-◌}
 use native.Mathlib.Omega.{arith}
-use Rattle.sharing.proofs.LineLaws.{going_start, going_on, Turn, turn, key-at, keeps-start, keeps-next}
+use Rattle.sharing.proofs.LineLaws.{Any, going_start, going_on, Turn, turn, key-at, keeps-start, keeps-next}
 use Rattle.sharing.proofs.lines.keep.Goals as goal
-
--- Nothing is said of single lines.
-abbrev Any : ℕ → Type 0
-Any l = Unit {0}
-
-here : (c : goal.After-lowest-l
-    → Turn c.args.at.active c.args.at.many c.loop-rest.rest c.lowest-l.result
-here c = turn c.requires.0 c.loop-rest.invariant.0 c.loop-rest-test.true c.lowest-l.ensures
 
 pub loop-rest-init : goal.loop-rest-init
 loop-rest-init c =
     (going_start Any Any c.requires.0 (λ l. tt), keeps-start c.args.lines.now c.args.at.many (c.args.d - 1) c.args.at.active c.args.at.choice c.args.full c.args.breaking.now c.args.kept.now)
 
-pub lowest-l-requires : goal.lowest-l-requires
-lowest-l-requires c κs = tt
-
-pub item-requires : goal.item-requires
-item-requires c κs = tt
-
-pub less-rest-requires : goal.less-rest-requires
-less-rest-requires c κs = tt
-
 pub overflow_mul-l : goal.overflow_mul-l
 overflow_mul-l c =
-    omega (arith, (here c.before.before).few)
+    let here : Turn c.args.at.active c.args.at.many c.loop-rest.rest c.lowest-l.result = turn c.requires.0 c.loop-rest.invariant.0 c.loop-rest-test.true c.lowest-l.ensures in
+    omega (arith, here.few)
 
 pub overflow_add-l : goal.overflow_add-l
 overflow_add-l c =
-    omega (arith, (here c.before.before).few, c.requires.3)
+    let here : Turn c.args.at.active c.args.at.many c.loop-rest.rest c.lowest-l.result = turn c.requires.0 c.loop-rest.invariant.0 c.loop-rest-test.true c.lowest-l.ensures in
+    omega (arith, here.few, c.requires.3)
 
 pub offset_bounds-lines-l : goal.offset_bounds-lines-l
 offset_bounds-lines-l c =
-    omega (arith, (here c.before.before).few, c.requires.3)
+    let here : Turn c.args.at.active c.args.at.many c.loop-rest.rest c.lowest-l.result = turn c.requires.0 c.loop-rest.invariant.0 c.loop-rest-test.true c.lowest-l.ensures in
+    omega (arith, here.few, c.requires.3)
 
 pub bounds-lines-l : goal.bounds-lines-l
 bounds-lines-l c =
-    omega (arith, (here c.before.before.before).few, c.requires.1, c.requires.3)
-
-pub meet-key-requires : goal.meet-key-requires
-meet-key-requires c κs = tt
+    let here : Turn c.args.at.active c.args.at.many c.loop-rest.rest c.lowest-l.result = turn c.requires.0 c.loop-rest.invariant.0 c.loop-rest-test.true c.lowest-l.ensures in
+    omega (arith, here.few, c.requires.1, c.requires.3)
 
 pub offset_bounds-breaking-l : goal.offset_bounds-breaking-l
 offset_bounds-breaking-l c =
-    omega (arith, (here c.before.before.before.before).few)
+    let here : Turn c.args.at.active c.args.at.many c.loop-rest.rest c.lowest-l.result = turn c.requires.0 c.loop-rest.invariant.0 c.loop-rest-test.true c.lowest-l.ensures in
+    omega (arith, here.few)
 
 pub bounds-breaking-l : goal.bounds-breaking-l
 bounds-breaking-l c =
-    omega (arith, (here c.before.before.before.before.before).few, c.requires.5)
+    let here : Turn c.args.at.active c.args.at.many c.loop-rest.rest c.lowest-l.result = turn c.requires.0 c.loop-rest.invariant.0 c.loop-rest-test.true c.lowest-l.ensures in
+    omega (arith, here.few, c.requires.5)
 
 pub slot-requires : goal.slot-requires
 slot-requires c =
-    (c.requires.0.few, c.requires.2, c.requires.3, (here c.before.before.before.before.before.before).few)
+    let here : Turn c.args.at.active c.args.at.many c.loop-rest.rest c.lowest-l.result = turn c.requires.0 c.loop-rest.invariant.0 c.loop-rest-test.true c.lowest-l.ensures in
+    (c.requires.0.few, c.requires.2, c.requires.3, here.few)
 
 pub keep-requires : goal.keep-requires
 keep-requires c =
@@ -63,12 +50,14 @@ keep-requires c =
 
 pub loop-rest-smaller : goal.loop-rest-smaller
 loop-rest-smaller c =
-    rw (c.less-rest.ensures, c.item.ensures) (here c.before.before.before.before.before.before.before.before.before.before).less
+    let here : Turn c.args.at.active c.args.at.many c.loop-rest.rest c.lowest-l.result = turn c.requires.0 c.loop-rest.invariant.0 c.loop-rest-test.true c.lowest-l.ensures in
+    rw (c.less-rest.ensures, c.item.ensures) here.less
 
 pub loop-rest-preserved : goal.loop-rest-preserved
 loop-rest-preserved c =
+    let here : Turn c.args.at.active c.args.at.many c.loop-rest.rest c.lowest-l.result = turn c.requires.0 c.loop-rest.invariant.0 c.loop-rest-test.true c.lowest-l.ensures in
     let l : ℕ = c.lowest-l.result in
-    let t = here c.before.before.before.before.before.before.before.before.before.before in
+    let t = here in
     let key = key-at c.args.lines.now l c.args.d c.args.at.choice c.meet-key.result c.requires.2 c.meet-key.ensures in (
       rw (c.less-rest.ensures, c.item.ensures) (going_on Any Any Any Any t c.loop-rest.invariant.0 tt (λ j ne p. tt) (λ j ne q. tt)),
       keeps-next l c.meet-key.result c.slot.result t.counted t.within key c.slot.ensures.0 c.keep.ensures c.loop-rest.invariant.1,

@@ -3,6 +3,7 @@
 use Prim.Native.Nat.{◌-◌}
 use Rattle.sharing.specs.Code.Lines.{KeepsFor}
 use Rattle.sharing.proofs.LineLaws.{Going}
+use Rattle.sharing.proofs.LineLaws.{Any}
 use Rattle.sharing.proofs.lines.keep.Given as goal
 
 abbrev pub invariant-loop-rest : goal.invariant-loop-rest

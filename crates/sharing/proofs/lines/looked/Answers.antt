@@ -9,52 +9,41 @@ use lib.Dec.{lit<}
 use lib.ListN.{length, length-set}
 use Rattle.words.proofs.WordsLaws.{has-zero, join-lt}
 use Rattle.sharing.proofs.LineLaws.{going_start, Turn, turn, key-at, hit-is}
+use Rattle.sharing.proofs.LookedLaws.{Seen, Unseen, hit-on, miss-on, seen_all}
 use Rattle.sharing.proofs.lines.looked.Goals as goal
 
-here : (c : goal.After-lowest-l
-    → Turn c.args.at.active c.args.at.many c.loop-rest.rest c.lowest-l.result
-here c = turn c.requires.0 c.loop-rest.invariant.2 c.loop-rest-test.true c.lowest-l.ensures
-
 pub loop-rest-init : goal.loop-rest-init
-loop-rest-init c =
-    (
-      lit< tt,
-      refl,
-      going_start (Seen c.args.lines.now c.args.kept.now c.args.at.many (c.args.d - 1) c.args.at.choice c.args.breaking.now c.args.breaking.now 0)
-          (Unseen c.args.lines.now c.args.kept.now c.args.at.many (c.args.d - 1) c.args.at.choice c.args.breaking.now c.args.breaking.now 0) c.requires.0 (λ l. (has-zero l, refl)),
-    )
-
-pub lowest-l-requires : goal.lowest-l-requires
-lowest-l-requires c κs = tt
-
-pub item-requires : goal.item-requires
-item-requires c κs = tt
-
-pub less-rest-requires : goal.less-rest-requires
-less-rest-requires c κs = tt
+loop-rest-init c = (
+  lit< tt,
+  refl,
+  going_start (Seen c.args.lines.now c.args.kept.now c.args.at.many (c.args.d - 1) c.args.at.choice c.args.breaking.now c.args.breaking.now 0)
+      (Unseen c.args.lines.now c.args.kept.now c.args.at.many (c.args.d - 1) c.args.at.choice c.args.breaking.now c.args.breaking.now 0) c.requires.0 (λ l. (has-zero l, refl)),
+)
 
 pub overflow_mul-l : goal.overflow_mul-l
 overflow_mul-l c =
-    omega (arith, (here c.before.before).few)
+    let here : Turn c.args.at.active c.args.at.many c.loop-rest.rest c.lowest-l.result = turn c.requires.0 c.loop-rest.invariant.2 c.loop-rest-test.true c.lowest-l.ensures in
+    omega (arith, here.few)
 
 pub overflow_add-l : goal.overflow_add-l
 overflow_add-l c =
-    omega (arith, (here c.before.before).few, c.requires.3)
+    let here : Turn c.args.at.active c.args.at.many c.loop-rest.rest c.lowest-l.result = turn c.requires.0 c.loop-rest.invariant.2 c.loop-rest-test.true c.lowest-l.ensures in
+    omega (arith, here.few, c.requires.3)
 
 pub offset_bounds-lines-l : goal.offset_bounds-lines-l
 offset_bounds-lines-l c =
-    omega (arith, (here c.before.before).few, c.requires.3)
+    let here : Turn c.args.at.active c.args.at.many c.loop-rest.rest c.lowest-l.result = turn c.requires.0 c.loop-rest.invariant.2 c.loop-rest-test.true c.lowest-l.ensures in
+    omega (arith, here.few, c.requires.3)
 
 pub bounds-lines-l : goal.bounds-lines-l
 bounds-lines-l c =
-    omega (arith, (here c.before.before.before).few, c.requires.1, c.requires.3)
-
-pub meet-key-requires : goal.meet-key-requires
-meet-key-requires c κs = tt
+    let here : Turn c.args.at.active c.args.at.many c.loop-rest.rest c.lowest-l.result = turn c.requires.0 c.loop-rest.invariant.2 c.loop-rest-test.true c.lowest-l.ensures in
+    omega (arith, here.few, c.requires.1, c.requires.3)
 
 pub slot-place-requires : goal.slot-place-requires
 slot-place-requires c =
-    (c.requires.0.few, c.requires.2, c.requires.3, (here c.before.before.before.before).few)
+    let here : Turn c.args.at.active c.args.at.many c.loop-rest.rest c.lowest-l.result = turn c.requires.0 c.loop-rest.invariant.2 c.loop-rest-test.true c.lowest-l.ensures in
+    (c.requires.0.few, c.requires.2, c.requires.3, here.few)
 
 pub hit-requires : goal.hit-requires
 hit-requires c =
@@ -67,18 +56,22 @@ taken-requires c =
 
 pub offset_bounds-breaking-l : goal.offset_bounds-breaking-l
 offset_bounds-breaking-l c =
-    omega (arith, (here c.before.before.before.before.before.before.before.before).few)
+    let here : Turn c.args.at.active c.args.at.many c.loop-rest.rest c.lowest-l.result = turn c.requires.0 c.loop-rest.invariant.2 c.loop-rest-test.true c.lowest-l.ensures in
+    omega (arith, here.few)
 
 pub bounds-breaking-l : goal.bounds-breaking-l
 bounds-breaking-l c =
-    omega (arith, (here c.before.before.before.before.before.before.before.before).few, c.requires.4, c.loop-rest.invariant.1)
+    let here : Turn c.args.at.active c.args.at.many c.loop-rest.rest c.lowest-l.result = turn c.requires.0 c.loop-rest.invariant.2 c.loop-rest-test.true c.lowest-l.ensures in
+    omega (arith, here.few, c.requires.4, c.loop-rest.invariant.1)
 
 pub loop-rest-smaller-then-hit : goal.loop-rest-smaller-then-hit
 loop-rest-smaller-then-hit c =
-    rw (c.less-rest.ensures, c.item.ensures) (here c.before.before.before.before.before.before.before.before).less
+    let here : Turn c.args.at.active c.args.at.many c.loop-rest.rest c.lowest-l.result = turn c.requires.0 c.loop-rest.invariant.2 c.loop-rest-test.true c.lowest-l.ensures in
+    rw (c.less-rest.ensures, c.item.ensures) here.less
 
 pub loop-rest-preserved-then-hit : goal.loop-rest-preserved-then-hit
 loop-rest-preserved-then-hit c =
+    let here : Turn c.args.at.active c.args.at.many c.loop-rest.rest c.lowest-l.result = turn c.requires.0 c.loop-rest.invariant.2 c.loop-rest-test.true c.lowest-l.ensures in
     let l : ℕ = c.lowest-l.result in
     let now : List ℕ = c.loop-rest.breaking in
     let H = c.hit.ensures c.if-hit.true in
@@ -86,29 +79,25 @@ loop-rest-preserved-then-hit c =
     let key = key-at c.args.lines.now l c.args.d c.args.at.choice c.meet-key.result c.requires.2 c.meet-key.ensures in
     let found = hit-is c.args.lines.now c.args.kept.now c.args.at.many (c.args.d - 1) l c.args.at.choice c.meet-key.result c.slot-place.result count key
     c.slot-place.ensures.0 H.0 H.1 H.2 c.taken.ensures.1 in
-    let fits : l < length now = omega (arith, (here c.before.before.before.before.before.before.before.before).few, c.requires.4, c.loop-rest.invariant.1) in (
+    let fits : l < length now = omega (arith, here.few, c.requires.4, c.loop-rest.invariant.1) in (
       c.loop-rest.invariant.0,
       length-set now l count ∙ c.loop-rest.invariant.1,
       rw (c.less-rest.ensures, c.item.ensures)
-          (hit-on c.args.lines.now c.args.kept.now c.args.at.many (c.args.d - 1) c.args.at.choice c.args.breaking.now now c.loop-rest.missing count (here c.before.before.before.before.before.before.before.before) fits found c.loop-rest.invariant.2),
+          (hit-on c.args.lines.now c.args.kept.now c.args.at.many (c.args.d - 1) c.args.at.choice c.args.breaking.now now c.loop-rest.missing count here fits found c.loop-rest.invariant.2),
     )
-
-pub item-requires-else-hit : goal.item-requires-else-hit
-item-requires-else-hit c κs = tt
-
-pub join-missing-requires : goal.join-missing-requires
-join-missing-requires c κs = tt
 
 pub loop-rest-smaller : goal.loop-rest-smaller
 loop-rest-smaller c =
-    rw (c.less-rest.ensures, c.item.ensures) (here c.before.before.before.before.before.before.before.before.before).less
+    let here : Turn c.args.at.active c.args.at.many c.loop-rest.rest c.lowest-l.result = turn c.requires.0 c.loop-rest.invariant.2 c.loop-rest-test.true c.lowest-l.ensures in
+    rw (c.less-rest.ensures, c.item.ensures) here.less
 
 pub loop-rest-preserved : goal.loop-rest-preserved
 loop-rest-preserved c =
+    let here : Turn c.args.at.active c.args.at.many c.loop-rest.rest c.lowest-l.result = turn c.requires.0 c.loop-rest.invariant.2 c.loop-rest-test.true c.lowest-l.ensures in
     rw (c.join-missing.ensures, c.item-else-hit.ensures, c.less-rest.ensures, c.item.ensures) (
       join-lt c.loop-rest.missing _,
       c.loop-rest.invariant.1,
-      miss-on c.args.lines.now c.args.kept.now c.args.at.many (c.args.d - 1) c.args.at.choice c.args.breaking.now c.loop-rest.breaking c.loop-rest.missing c.loop-rest.invariant.0 (here c.before.before.before.before.before.before.before.before.before) c.loop-rest.invariant.2,
+      miss-on c.args.lines.now c.args.kept.now c.args.at.many (c.args.d - 1) c.args.at.choice c.args.breaking.now c.loop-rest.breaking c.loop-rest.missing c.loop-rest.invariant.0 here c.loop-rest.invariant.2,
     )
 
 pub shape_of-breaking : goal.shape_of-breaking

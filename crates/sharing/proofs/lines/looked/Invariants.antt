@@ -4,6 +4,7 @@ use mathlib.Core.Path.{◌≡◌}
 use Prim.Native.Nat.{◌-◌, ◌^◌, ◌<◌}
 use lib.ListN.{length}
 use Rattle.sharing.proofs.LineLaws.{Going}
+use Rattle.sharing.proofs.LookedLaws.{Seen, Unseen}
 use Rattle.sharing.proofs.lines.looked.Given as goal
 
 abbrev pub invariant-loop-rest : goal.invariant-loop-rest

@@ -12,28 +12,27 @@ use Rattle.sharing.proofs.TogetherLaws.{plotted, starting, counts_all}
 use borrow.Author.Rules.{rules}
 use Rattle.sharing.proofs.together.counts.Goals as goal
 
--- The variables have room by their type.
-vars-room : (c : goal.Start) → length c.args.t2.vars ≡ 8
-vars-room c = search rules
-
 pub slice_bounds-order-end : goal.slice_bounds-order-end
 slice_bounds-order-end c =
     sym (length-take-le _ _ c.requires.lent_by.0.few)
 
 pub slice_bounds-vars-end : goal.slice_bounds-vars-end
 slice_bounds-vars-end c =
-    omega (arith, c.requires.lent_by.0.few, vars-room c.before.before.before.before.before.before.before.before)
+    let vars-room : length c.args.parsed.vars ≡ 8 = search rules in
+    omega (arith, c.requires.lent_by.0.few, vars-room)
 
 pub slice_bounds-names-end-2 : goal.slice_bounds-names-end-2
 slice_bounds-names-end-2 c =
-    sym (vars-long c.requires.lent_by.0 (vars-room c.before.before.before.before.before.before.before.before.before))
+    let vars-room : length c.args.parsed.vars ≡ 8 = search rules in
+    sym (vars-long c.requires.lent_by.0 vars-room)
 
 pub returns-then-not-ordered : goal.returns-then-not-ordered
 returns-then-not-ordered c = no
 
 pub lay_first-many_choices-requires : goal.lay_first-many_choices-requires
 lay_first-many_choices-requires c =
-    (c.requires.lent_by.0, tested c.requires.lent_by.0 c.names-names.result _ c.names-names.ensures (rw (vars-long c.requires.lent_by.0 (vars-room c.before.before.before.before.before.before.before.before.before.before.before.before.before.before)) (sym c.ordered.ensures ∙ c.if-not-ordered.false)), refl)
+    let vars-room : length c.args.parsed.vars ≡ 8 = search rules in
+    (c.requires.lent_by.0, tested c.requires.lent_by.0 c.names-names.result _ c.names-names.ensures (rw (vars-long c.requires.lent_by.0 vars-room) (sym c.ordered.ensures ∙ c.if-not-ordered.false)), refl)
 
 pub returns-then-many_choices-eq0 : goal.returns-then-many_choices-eq0
 returns-then-many_choices-eq0 c = no
@@ -43,11 +42,12 @@ returns-then-many_choices-gt-MOST_CHOICES c = no
 
 pub lay-requires : goal.lay-requires
 lay-requires c =
-    (plotted c.requires.lent_by.0 c.lay_first-many_choices.ensures.lays (vars-long c.requires.lent_by.0 (vars-room c.before.before.before.before.before.before.before.before.before.before.before.before.before.before.before.before.before.before.before.before)), c.requires.lent_by.3, c.requires.lent_by.1, refl)
+    let vars-room : length c.args.parsed.vars ≡ 8 = search rules in
+    (plotted c.requires.lent_by.0 c.lay_first-many_choices.ensures.lays (vars-long c.requires.lent_by.0 vars-room), c.requires.lent_by.3, c.requires.lent_by.1, refl)
 
 pub overflow_mul-many : goal.overflow_mul-many
 overflow_mul-many c =
-    let small : c.args.many * c.args.t2.count ≤ 32 * 8 = mul-le _ _ 32 8 c.requires.lent_by.3 c.requires.lent_by.0.few in
+    let small : c.args.many * c.args.parsed.count ≤ 32 * 8 = mul-le _ _ 32 8 c.requires.lent_by.3 c.requires.lent_by.0.few in
     omega (arith, small)
 
 pub all-requires : goal.all-requires

@@ -12,17 +12,10 @@ use Rattle.verdicts.proofs.RulingLaws.{other_length, no-order, counts-fit, order
 use Rattle.judging.proofs.WalkingLaws.{vars-long, tested}
 use Rattle.verdicts.proofs.ruling.along.Goals as goal
 
--- The variables have room by their type.
-vars-room : (c : goal.Start) → length c.args.parsed.vars ≡ 8
-vars-room c = search rules
-
--- The list that is tried is that of the variables of the order.
-same-list : (c : goal.After-variables-all) → take c.args.parsed.count c.variables-all.result ≡ variables_of c.args.order.now
-same-list c = rw c.if-order-count.false at c.variables-all.ensures
-
 pub returns-then-order-count : goal.returns-then-order-count
 returns-then-order-count c =
-    λ T ρ C. c.refused.ensures ∙ other_length C c.requires.lent.few c.args.order.now (λ e. c.if-order-count.true (e ∙ vars-long c.requires (vars-room c.before.before.before.before)))
+    let vars-room : length c.args.parsed.vars ≡ 8 = search rules in
+    λ T ρ C. c.refused.ensures ∙ other_length C c.requires.lent.few c.args.order.now (λ e. c.if-order-count.true (e ∙ vars-long c.requires vars-room))
 
 pub variables-all-requires : goal.variables-all-requires
 variables-all-requires c =
@@ -30,15 +23,18 @@ variables-all-requires c =
 
 pub slice_bounds-listed-end : goal.slice_bounds-listed-end
 slice_bounds-listed-end c =
-    sym (ap length (same-list c.before) ∙ length-variables-of c.args.order.now ∙ c.if-order-count.false)
+    let same-list : take c.args.parsed.count c.variables-all.result ≡ variables_of c.args.order.now = rw c.if-order-count.false at c.variables-all.ensures in
+    sym (ap length same-list ∙ length-variables-of c.args.order.now ∙ c.if-order-count.false)
 
 pub slice_bounds-vars-end : goal.slice_bounds-vars-end
 slice_bounds-vars-end c =
-    omega (arith, c.requires.few, vars-room c.before.before.before.before.before.before.before.before)
+    let vars-room : length c.args.parsed.vars ≡ 8 = search rules in
+    omega (arith, c.requires.few, vars-room)
 
 pub slice_bounds-names-end-2 : goal.slice_bounds-names-end-2
 slice_bounds-names-end-2 c =
-    sym (vars-long c.requires (vars-room c.before.before.before.before.before.before.before.before.before))
+    let vars-room : length c.args.parsed.vars ≡ 8 = search rules in
+    sym (vars-long c.requires vars-room)
 
 pub ordered-requires : goal.ordered-requires
 ordered-requires c =
@@ -46,16 +42,23 @@ ordered-requires c =
 
 pub whole-requires : goal.whole-requires
 whole-requires c =
-    (c.requires, tested c.requires c.names-names.result (take c.args.parsed.count c.variables-all.result) c.names-names.ensures (rw (vars-long c.requires (vars-room c.before.before.before.before.before.before.before.before.before.before.before.before.before)) (sym c.ordered.ensures ∙ c.if-ordered.true)))
+    let vars-room : length c.args.parsed.vars ≡ 8 = search rules in
+    (c.requires, tested c.requires c.names-names.result (take c.args.parsed.count c.variables-all.result) c.names-names.ensures (rw (vars-long c.requires vars-room) (sym c.ordered.ensures ∙ c.if-ordered.true)))
 
 pub ruled-requires : goal.ruled-requires
 ruled-requires c =
-    counts-fit c.requires.lent.is_case c.requires.lent.few c.names-names.result c.args.order.now _ c.ordered.result (c.names-names.ensures (rule_vars [] c.requires.lent.rule) c.requires.lent.is_case.world.variables) (same-list c.before.before.before.before.before.before.before.before.before.before) (rw (vars-long c.requires (vars-room c.before.before.before.before.before.before.before.before.before.before.before.before.before.before)) c.ordered.ensures) c.if-ordered.true c.whole.result (c.whole.ensures c.requires.lent.tables c.requires.lent.rule c.requires.lent.is_case)
+    let vars-room : length c.args.parsed.vars ≡ 8 = search rules in
+    let same-list : take c.args.parsed.count c.variables-all.result ≡ variables_of c.args.order.now = rw c.if-order-count.false at c.variables-all.ensures in
+    counts-fit c.requires.lent.is_case c.requires.lent.few c.names-names.result c.args.order.now _ c.ordered.result (c.names-names.ensures (rule_vars [] c.requires.lent.rule) c.requires.lent.is_case.world.variables) same-list (rw (vars-long c.requires vars-room) c.ordered.ensures) c.if-ordered.true c.whole.result (c.whole.ensures c.requires.lent.tables c.requires.lent.rule c.requires.lent.is_case)
 
 pub returns-then-ordered : goal.returns-then-ordered
 returns-then-ordered c =
-    λ T ρ C. c.ruled.ensures ∙ order-ruled C c.requires.lent.few c.names-names.result c.args.order.now _ c.ordered.result (c.names-names.ensures (rule_vars [] ρ) C.world.variables) (same-list c.before.before.before.before.before.before.before.before.before.before.before) (rw (vars-long c.requires (vars-room c.before.before.before.before.before.before.before.before.before.before.before.before.before.before.before)) c.ordered.ensures) c.if-ordered.true c.whole.result (c.whole.ensures T ρ C)
+    let vars-room : length c.args.parsed.vars ≡ 8 = search rules in
+    let same-list : take c.args.parsed.count c.variables-all.result ≡ variables_of c.args.order.now = rw c.if-order-count.false at c.variables-all.ensures in
+    λ T ρ C. c.ruled.ensures ∙ order-ruled C c.requires.lent.few c.names-names.result c.args.order.now _ c.ordered.result (c.names-names.ensures (rule_vars [] ρ) C.world.variables) same-list (rw (vars-long c.requires vars-room) c.ordered.ensures) c.if-ordered.true c.whole.result (c.whole.ensures T ρ C)
 
 pub returns : goal.returns
 returns c =
-    λ T ρ C. c.refused-2.ensures ∙ no-order C c.requires.lent.few c.names-names.result c.args.order.now _ c.ordered.result (c.names-names.ensures (rule_vars [] ρ) C.world.variables) (same-list c.before.before.before.before.before.before.before.before.before.before) (rw (vars-long c.requires (vars-room c.before.before.before.before.before.before.before.before.before.before.before.before.before.before)) c.ordered.ensures) c.if-ordered.false
+    let vars-room : length c.args.parsed.vars ≡ 8 = search rules in
+    let same-list : take c.args.parsed.count c.variables-all.result ≡ variables_of c.args.order.now = rw c.if-order-count.false at c.variables-all.ensures in
+    λ T ρ C. c.refused-2.ensures ∙ no-order C c.requires.lent.few c.names-names.result c.args.order.now _ c.ordered.result (c.names-names.ensures (rule_vars [] ρ) C.world.variables) same-list (rw (vars-long c.requires vars-room) c.ordered.ensures) c.if-ordered.false

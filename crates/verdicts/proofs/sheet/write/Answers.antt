@@ -43,10 +43,10 @@ bounds-out-25 c =
     let l = length-set c.args.out.now 0 c.args.word in
     search rules
 
-pub shape_of-out : goal.shape_of-out
-shape_of-out c = written-length (returns c)
-
 pub returns : goal.returns
 returns c =
     let eight : length c.args.verdict.first ≡ 8 = search rules in
     all-written c.args.word c.args.verdict c.requires eight c.word_behind.ensures c.word_behind-2.ensures c.put.ensures
+
+pub shape_of-out : goal.shape_of-out
+shape_of-out c = written-length (returns c)
