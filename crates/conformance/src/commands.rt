@@ -4,8 +4,8 @@ ghost use Rattle.std.specs.Prelude.{◌≤◌, length};
 
 use crate::fields::{is_command, is_named, print_bytes, read_bytes, read_length, room};
 use crate::output::print_decimal;
-use crate::sessions::{Asked, change_in};
-use crate::{calls, reader, sessions};
+use crate::session_calls::{Asked, change_in};
+use crate::{calls, reader, session_calls};
 use answers::Written;
 use rules::Checked;
 use sheets::{LINE_ROOM, RULES_LIMIT};
@@ -184,11 +184,11 @@ fn day(stdout: &mut Stdout, line: &[u8], tables: &[u8]) -> io::Result<()>
 {
     let mut rule = room();
     let r = read_bytes(line, 2, &mut rule);
-    if !r.good || !sessions::well_formed(line) {
+    if !r.good || !session_calls::well_formed(line) {
         return unknown(stdout);
     }
     let n = r.n;
-    sessions::follow(stdout, line, tables, &rule[..n])?;
+    session_calls::follow(stdout, line, tables, &rule[..n])?;
     stdout.write_all(b"\n")
 }
 

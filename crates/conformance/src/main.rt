@@ -8,7 +8,7 @@ mod fields;
 mod output;
 mod page;
 mod reader;
-mod sessions;
+mod session_calls;
 
 ghost use Rattle.std.specs.Prelude.{◌≤◌, length, IfOk};
 

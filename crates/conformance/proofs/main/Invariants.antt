@@ -5,7 +5,7 @@ use lib.ListN.{length}
 use Rattle.conformance.proofs.main.Given as goal
 
 abbrev pub invariant-loop-turns : goal.invariant-loop-turns
-invariant-loop-turns l = (l.initial.turns.from ≤ l.initial.turns.have) × (l.initial.turns.have ≤ length l.initial.w)
+invariant-loop-turns l = (l.w.from ≤ l.w.have) × (l.w.have ≤ length l.buffer)
 
 abbrev pub decreases-loop-turns : goal.decreases-loop-turns
-decreases-loop-turns l = l.stdin
+decreases-loop-turns l = l.turns

@@ -4,7 +4,7 @@ use Prim.Native.Nat.{◌≤◌, ◌-◌}
 use Rattle.conformance.proofs.commands.print_sheet.Given as goal
 
 abbrev pub invariant-loop-place : goal.invariant-loop-place
-invariant-loop-place l = l.initial.place ≤ 32770
+invariant-loop-place l = l.place ≤ 32770
 
 abbrev pub decreases-loop-place : goal.decreases-loop-place
-decreases-loop-place l = 32770 - l.initial.place
+decreases-loop-place l = 32770 - l.place

@@ -1,8 +1,6 @@
 -- `conformance::fields::read_bytes` is safe, and its count lies within the lent bytes.
 -- Assumes nothing.
-use mathlib.Core.Path.{sym}
 use native.Mathlib.Omega.{arith}
-use lib.Seq.{length-take-le}
 use lib.ListN.{length-take, length-drop}
 use Rattle.texts.proofs.SpansLaws.{lies}
 use Rattle.protocol.proofs.HexLaws.{bytes-within}
@@ -22,4 +20,4 @@ read_bytes-requires c =
     simp (length-take, length-drop) (omega (arith, c.requires))
 
 pub returns : goal.returns
-returns c = let h = bytes-within c.read_bytes.ensures c.in-Took.is in (h, sym (length-take-le _ _ h))
+returns c = bytes-within c.read_bytes.ensures c.in-Took.is

@@ -4,7 +4,7 @@ use Prim.Native.Nat.{◌≤◌, ◌-◌}
 use Rattle.conformance.proofs.page.print_page.Given as goal
 
 abbrev pub invariant-loop-k : goal.invariant-loop-k
-invariant-loop-k l = l.stdout ≤ 32
+invariant-loop-k l = l.k ≤ 32
 
 abbrev pub decreases-loop-k : goal.decreases-loop-k
-decreases-loop-k l = 32 - l.stdout
+decreases-loop-k l = 32 - l.k

@@ -1,11 +1,11 @@
--- `conformance::sessions::next` is safe: a number below 65,536 is at most the length of both outputs.
+-- `conformance::session_calls::next` is safe: a number below 65,536 is at most the length of both outputs.
 -- Assumes nothing.
 use mathlib.Core.Path.{◌≡◌, sym}
 use native.Mathlib.Omega.{arith}
 use lib.ListN.{length, length-take}
 use lib.Seq.{length-take-le}
 use borrow.Author.Rules.{rules}
-use Rattle.conformance.proofs.sessions.next.Goals as goal
+use Rattle.conformance.proofs.session_calls.next.Goals as goal
 
 pub slice_bounds-next_state-end-2 : goal.slice_bounds-next_state-end-2
 slice_bounds-next_state-end-2 c =

@@ -1,8 +1,0 @@
--- `conformance::sessions::follow` is safe and ends: the place goes up to the length of the line, and a state has at most 65,536 bytes.
--- Assumes nothing.
-use Prim.Native.Nat.{◌-◌}
-use native.Mathlib.Omega.{arith}
-use Rattle.conformance.proofs.sessions.follow.Goals as goal
-
-pub loop-k-smaller : goal.loop-k-smaller
-loop-k-smaller c = omega arith
