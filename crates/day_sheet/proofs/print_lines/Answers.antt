@@ -1,7 +1,6 @@
 -- `day_sheet::print_lines` goes from line to line and ends. The invariant: the total is that of the lines so far.
 -- Assumes nothing.
 use mathlib.Core.Path.{sym}
-use mathlib.Core.Bool.{true}
 use lib.Seq.{length-take-le}
 use Rattle.sheets.proofs.TurnLaws.{none-sofar, line-within, turn_on, turn-less}
 use borrow.Author.Rules.{rules}

@@ -1,6 +1,5 @@
 -- `conformance::session_calls::well_formed` is safe and ends: the place goes up to the length of the line.
 -- Assumes nothing.
-use Prim.Native.Nat.{◌-◌}
 use native.Mathlib.Omega.{arith}
 use Rattle.conformance.proofs.session_calls.well_formed.Goals as goal
 
