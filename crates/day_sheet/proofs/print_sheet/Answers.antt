@@ -3,7 +3,6 @@
 use Rattle.verdicts.proofs.LoadedLaws.{was-taken, took-loaded}
 use Rattle.day_sheet.proofs.print_sheet.Goals as goal
 
-pub print_lines-requires : goal.print_lines-requires
-print_lines-requires c =
-    let took = was-taken c.args.tables.now c.read-loaded.ensures.outcome_value c.read-loaded.ensures.words_value c.in-Accepted.is in
-    record { loaded = took-loaded took; rules_len_bound = c.if-rules-gt-RULES_LIMIT.false }
+pub print_lines-requires-clause-loaded : goal.print_lines-requires-clause-loaded
+print_lines-requires-clause-loaded c =
+    took-loaded (was-taken c.args.tables.now c.read-loaded.ensures.outcome_value c.read-loaded.ensures.words_value c.in-Accepted.is)
