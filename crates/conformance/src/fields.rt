@@ -1,11 +1,11 @@
 // The fields of a line: reading them, and printing those of an answer.
 // Bytes are in hexadecimal, `-` where there are none.
-ghost use Rattle.io.specs.Counts.{IsPrefixLen};
 ghost use Rattle.std.specs.Prelude.{◌≡◌, ◌≤◌, ◌*◌, length};
 
 use crate::output::word;
-use libc::STDOUT_FILENO;
 use protocol::Taken;
+use std::io;
+use std::io::{Stdout, Write};
 use texts::Span;
 
 // No output is longer.
@@ -22,7 +22,7 @@ pub fn is_named(line: &[u8], name: &[u8]) -> bool {
     let Span::Found { from, to } = texts::field(line, 0) else {
         return false;
     };
-    check::same(&line[from..to], name)
+    &line[from..to] == name
 }
 
 // Whether the line begins with this name and has no more than this many fields.
@@ -53,7 +53,7 @@ pub fn room() -> [u8; 40000]
 
 pub fn read_bytes(line: &[u8], k: usize, out: &mut [u8]) -> Field
     requires { length line.now ≤ 2 * length out.old }
-    ensures { IsPrefixLen result.n out.new }
+    ensures { result.n ≤ length out.new }
 {
     let Span::Found { from, to } = texts::field(line, k) else {
         return Field { good: false, n: 0 };
@@ -79,7 +79,7 @@ pub fn read_number(line: &[u8], k: usize, most: usize) -> Field
 
 // A length, of bytes that `room` has.
 pub fn read_length(line: &[u8], k: usize, room: &[u8]) -> Field
-    ensures { IsPrefixLen result.n room.now }
+    ensures { result.n ≤ length room.now }
 {
     let l = read_number(line, k, LENGTHS);
     if room.len() < l.n {
@@ -110,10 +110,10 @@ pub fn read_word(text: &[u8]) -> Word {
     }
 }
 
-pub fn print_bytes(b: &[u8])
+pub fn print_bytes(stdout: &mut Stdout, b: &[u8]) -> io::Result<()>
     requires { length b.now ≤ 65536 }
 {
     let mut text = [0u8; 131073];
     let n = protocol::write_bytes(b, &mut text);
-    io::write_all(STDOUT_FILENO, &text[..n]);
+    stdout.write_all(&text[..n])
 }

@@ -8,9 +8,12 @@ mod fields;
 mod output;
 mod page;
 mod reader;
-mod sessions;
+mod session_calls;
 
-ghost use Rattle.std.specs.Prelude.{◌≤◌, length};
+ghost use Rattle.std.specs.Prelude.{◌≤◌, length, IfOk};
+
+use std::io;
+use std::io::{Read, Stdin, Stdout};
 
 // What is still to be read of the input lies in a buffer from `from` up to `have`.
 #[derive(Clone, Copy)]
@@ -22,7 +25,9 @@ struct Window {
     open: bool,
 }
 
-fn main() {
+fn main(rt: HostRuntime) -> io::Result<()> {
+    let mut stdin = rt.stdin();
+    let mut stdout = rt.stdout();
     let mut space = [0u8; 80001];
     let buffer: &mut [u8] = &mut space;
     let mut w = Window {
@@ -34,78 +39,84 @@ fn main() {
     // A proved loop has to end, and nothing says that the input does.
     let mut turns = u64::MAX;
     while turns > 0 && w.open {
-        w = turn(buffer, w);
+        w = turn(&mut stdin, &mut stdout, buffer, w)?;
         turns -= 1;
     }
+    Ok(())
 }
 
 // One line is answered, or room is made, or more is read.
-fn turn(buffer: &mut [u8], w: Window) -> Window
+fn turn(stdin: &mut Stdin, stdout: &mut Stdout, buffer: &mut [u8], w: Window) -> io::Result<Window>
     requires { (w.from ≤ w.have) × (w.have ≤ length buffer.old) }
-    ensures { (result.from ≤ result.have) × (result.have ≤ length buffer.new) }
+    ensures { IfOk result (λ w. (w.from ≤ w.have) × (w.have ≤ length buffer.new)) }
 {
     let from = w.from;
     let have = w.have;
     let end = texts::scan::find(buffer, from, have, b'\n');
     if end < have {
-        commands::answer(&buffer[from..end], w.long);
-        return Window {
+        commands::answer(stdout, &buffer[from..end], w.long)?;
+        return Ok(Window {
             from: end + 1,
             have,
             long: false,
             open: true,
-        };
+        });
     }
     if from > 0 {
         move_down(buffer, from, have);
-        return Window {
+        return Ok(Window {
             from: 0,
             have: have - from,
             long: w.long,
             open: true,
-        };
+        });
     }
     if have == buffer.len() {
-        return Window {
+        return Ok(Window {
             from: 0,
             have: 0,
             long: true,
             open: true,
-        };
+        });
     }
-    fill(buffer, have, w.long)
+    fill(stdin, stdout, buffer, have, w.long)
 }
 
 // Reads behind the first `have` bytes. At the input's end they are the last line, if any.
-fn fill(buffer: &mut [u8], have: usize, long: bool) -> Window
+fn fill(
+    stdin: &mut Stdin,
+    stdout: &mut Stdout,
+    buffer: &mut [u8],
+    have: usize,
+    long: bool,
+) -> io::Result<Window>
     requires { have ≤ length buffer.old }
-    ensures { (result.from ≤ result.have) × (result.have ≤ length buffer.new) }
+    ensures { IfOk result (λ w. (w.from ≤ w.have) × (w.have ≤ length buffer.new)) }
 {
-    let more = read_some(&mut buffer[have..]);
+    let more = read_some(stdin, &mut buffer[have..])?;
     if more == 0 {
         if have > 0 || long {
-            commands::answer(&buffer[..have], long);
+            commands::answer(stdout, &buffer[..have], long)?;
         }
-        return Window {
+        return Ok(Window {
             from: 0,
             have: 0,
             long: false,
             open: false,
-        };
+        });
     }
-    Window {
+    Ok(Window {
         from: 0,
         have: have + more,
         long,
         open: true,
-    }
+    })
 }
 
-fn read_some(room: &mut [u8]) -> usize
-    ensures { result ≤ length room.new }
+fn read_some(stdin: &mut Stdin, room: &mut [u8]) -> io::Result<usize>
+    ensures { IfOk result (λ n. n ≤ length room.new) }
 {
-    let got = libc::read(libc::STDIN_FILENO, room);
-    io::count(got, room)
+    stdin.read(room)
 }
 
 // Moves the bytes from `from` up to `have` to the front.

@@ -1,17 +1,18 @@
 // The listing program: prints the day sheet of `tables.bin` and `rules.txt` in the folder that it
 // runs in. Each line is made by crate `sheets`; here are only the files and the printing.
-// A program has no exit status of its own: where the sheet cannot be written whole it stops and says
-// so on standard error, and `bin/day-sheet` makes an exit status of that.
+// Where the sheet cannot be written whole it stops, says so on standard error and ends with status 1.
 #![tactic(auto)]
 
-ghost use Rattle.io.specs.Counts.{IsPrefixLen};
 ghost use Rattle.std.specs.Prelude.{◌≤◌, length};
 ghost use Rattle.verdicts.specs.Code.Judging.{Loaded};
 ghost use Rattle.sheets.specs.Sheet.{rules_limit};
 
 use answers::Written;
-use libc::{STDERR_FILENO, STDOUT_FILENO};
 use sheets::{LINE_ROOM, RULES_LIMIT, total, turns};
+use std::fs::File;
+use std::io;
+use std::io::{ErrorKind, Read, Stdout, Write};
+use std::process::ExitCode;
 use tables::Outcome;
 
 // What was read of a file: its first n bytes, none where it cannot be read.
@@ -21,52 +22,49 @@ struct Contents {
     n: usize,
 }
 
-fn main() {
-    if !print_files() {
-        io::write_all(
-            STDERR_FILENO,
-            b"day_sheet: the sheet could not be written whole\n",
-        );
-    }
+fn main(rt: HostRuntime) -> ExitCode {
+    let Ok(()) = print_files(&rt) else {
+        let _ = eprintln!(rt; "day_sheet: the sheet could not be written whole");
+        return ExitCode::FAILURE;
+    };
+    ExitCode::SUCCESS
 }
 
-// Prints the sheet of the two files; answers whether it is written whole.
-fn print_files() -> bool {
+// Prints the sheet of the two files; an error where it is not written whole.
+fn print_files(rt: &HostRuntime) -> io::Result<()> {
     // The first 4,096 bytes of the tables suffice; rules of more than 32,768 bytes are too long.
     let mut tables = [0u8; 4096];
     let mut rules = [0u8; 32769];
-    let t = read_file(b"tables.bin", &mut tables);
-    let r = read_file(b"rules.txt", &mut rules);
+    let mut stdout = rt.stdout();
+    let t = read_file(rt, "tables.bin", &mut tables);
+    let r = read_file(rt, "rules.txt", &mut rules);
     if !t.good {
-        return io::write_all(STDOUT_FILENO, b"no tables.bin\n");
+        return stdout.write_all(b"no tables.bin\n");
     }
     if !r.good {
-        return io::write_all(STDOUT_FILENO, b"no rules.txt\n");
+        return stdout.write_all(b"no rules.txt\n");
     }
     let n = t.n;
     let m = r.n;
-    print_sheet(&tables[..n], &rules[..m])
+    print_sheet(&mut stdout, &tables[..n], &rules[..m])
 }
 
-fn read_file(path: &[u8], out: &mut [u8]) -> Contents
-    ensures { IsPrefixLen result.n out.new }
+fn read_file(rt: &HostRuntime, path: &str, out: &mut [u8]) -> Contents
+    ensures { result.n ≤ length out.new }
 {
-    let fd = os::open_read(path);
-    if fd < 0 {
-        return Contents { good: false, n: 0 };
+    match File::open(rt, path) {
+        Ok(mut file) => read_to_end(&mut file, out),
+        Err(_) => Contents { good: false, n: 0 },
     }
-    let contents = read_to_end(fd, out);
-    libc::close(fd);
-    contents
 }
 
 // Reads until the file ends or the lent bytes are full.
-fn read_to_end(fd: i32, out: &mut [u8]) -> Contents
-    ensures { IsPrefixLen result.n out.new }
+fn read_to_end(file: &mut File, out: &mut [u8]) -> Contents
+    ensures { result.n ≤ length out.new }
 {
     let mut n = 0;
     while n < out.len() {
-        let more = read_some(fd, &mut out[n..]);
+        let more = read_some(file, &mut out[n..]);
         if !more.good {
             return Contents { good: false, n: 0 };
         }
@@ -78,46 +76,42 @@ fn read_to_end(fd: i32, out: &mut [u8]) -> Contents
     Contents { good: true, n }
 }
 
-fn read_some(fd: i32, out: &mut [u8]) -> Contents
+fn read_some(file: &mut File, out: &mut [u8]) -> Contents
     ensures { result.n ≤ length out.new }
 {
-    let got = libc::read(fd, out);
-    if got < 0 {
-        return Contents { good: false, n: 0 };
-    }
-    Contents {
-        good: true,
-        n: io::count(got, out),
+    match file.read(out) {
+        Ok(n) => Contents { good: true, n },
+        Err(_) => Contents { good: false, n: 0 },
     }
 }
 
-// Prints the sheet; answers whether every line is written. The tables are read once.
-fn print_sheet(tables: &[u8], rules: &[u8]) -> bool {
+// Prints the sheet; an error where a line is not written. The tables are read once.
+fn print_sheet(stdout: &mut Stdout, tables: &[u8], rules: &[u8]) -> io::Result<()> {
     if rules.len() > RULES_LIMIT {
-        return print_only_line(tables, rules);
+        return print_only_line(stdout, tables, rules);
     }
     let loaded = tables::read(tables);
     let outcome = loaded.outcome;
     match outcome {
-        Outcome::Refused(_) => print_only_line(tables, rules),
+        Outcome::Refused(_) => print_only_line(stdout, tables, rules),
         Outcome::Accepted => {
             let words = loaded.words;
-            print_lines(&words, rules)
+            print_lines(stdout, &words, rules)
         }
     }
 }
 
 // The sheet of refused tables, or of rules that are too long, is its first line.
-fn print_only_line(tables: &[u8], rules: &[u8]) -> bool {
+fn print_only_line(stdout: &mut Stdout, tables: &[u8], rules: &[u8]) -> io::Result<()> {
     let mut line = [0u8; LINE_ROOM];
     let Written::Wrote(n) = sheets::line(tables, rules, 1, &mut line) else {
-        return false;
+        return Err(io::Error::from(ErrorKind::InvalidData));
     };
-    print_line(&line[..n])
+    print_line(stdout, &line[..n])
 }
 
 // The line of each rule, which is judged for it and not again, and the total of them.
-fn print_lines(words: &[u64], rules: &[u8]) -> bool
+fn print_lines(stdout: &mut Stdout, words: &[u64], rules: &[u8]) -> io::Result<()>
     requires loaded { Loaded words.now }
     requires rules_len_bound { length rules.now ≤ rules_limit }
 {
@@ -128,17 +122,16 @@ fn print_lines(words: &[u64], rules: &[u8]) -> bool
         let mut line = [0u8; LINE_ROOM];
         let turn = turns::next_line(words, rules, at, total, &mut line);
         let n = turn.n;
-        if !print_line(&line[..n]) {
-            return false;
-        }
+        print_line(stdout, &line[..n])?;
         more = !turn.last;
         at = turn.at;
         total = turn.total;
     }
-    true
+    Ok(())
 }
 
-// Prints a line with its byte 10; answers whether it is written.
-fn print_line(line: &[u8]) -> bool {
-    io::write_all(STDOUT_FILENO, line) && io::write_all(STDOUT_FILENO, b"\n")
+// Prints a line with its byte 10; an error where it is not written.
+fn print_line(stdout: &mut Stdout, line: &[u8]) -> io::Result<()> {
+    stdout.write_all(line)?;
+    stdout.write_all(b"\n")
 }

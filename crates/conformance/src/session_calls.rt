@@ -1,13 +1,14 @@
 // A day of calls: the start, and then each field's open or close on the state before it.
 // `o:USER:WORD` opens, `c:NUMBER` closes; a field prints `FULL:BREAKING`, or `rN` where the call is refused.
-ghost use Rattle.std.specs.Prelude.{◌≡◌, ◌≤◌, length};
+ghost use Rattle.std.specs.Prelude.{◌≡◌, ◌≤◌, length, IfOk};
 
 use crate::calls::{next_state, print_refused, untouched};
 use crate::fields::{MOST, read_word};
-use crate::output::word;
+use crate::output::{print_decimal, word};
 use changes::Change;
-use libc::STDOUT_FILENO;
 use protocol::Taken;
+use std::io;
+use std::io::{Stdout, Write};
 use texts::Span;
 use verdicts::sheet;
 
@@ -89,49 +90,49 @@ pub fn well_formed(line: &[u8]) -> bool {
 }
 
 // Prints what the start and the calls give, with one blank between them.
-pub fn follow(line: &[u8], tables: &[u8], rule: &[u8]) {
+pub fn follow(stdout: &mut Stdout, line: &[u8], tables: &[u8], rule: &[u8]) -> io::Result<()> {
     let mut state = untouched();
     let reply = rcl2000::sessions_start(tables, rule, &mut state);
     if 65536 <= reply {
-        print_refused(reply);
-        return;
+        return print_refused(stdout, reply);
     }
-    print_counts(&state);
+    print_counts(stdout, &state)?;
     let mut n = reply as usize;
     let mut k = FIRST;
     while k <= line.len() {
         let Asked::Asks(change) = change_in(line, k) else {
-            return;
+            return Ok(());
         };
-        n = next(&mut state, n, change);
+        n = next(stdout, &mut state, n, change)?;
         k += 1;
     }
+    Ok(())
 }
 
 // Makes a call on the first n bytes, and prints what it gives; how many bytes the next state has.
-fn next(state: &mut [u8], n: usize, change: Change) -> usize
+fn next(stdout: &mut Stdout, state: &mut [u8], n: usize, change: Change) -> io::Result<usize>
     requires { (n ≤ 65536) × (length state.old ≡ 65536) }
-    ensures { result ≤ 65536 }
+    ensures { IfOk result (λ m. m ≤ 65536) }
 {
     let mut out = untouched();
     let reply = next_state(&state[..n], change, &mut out);
-    io::write_all(STDOUT_FILENO, b" ");
+    stdout.write_all(b" ")?;
     if 65536 <= reply {
-        io::write_all(STDOUT_FILENO, b"r");
-        io::print_decimal(STDOUT_FILENO, (reply / 65536) as u64);
-        return n;
+        stdout.write_all(b"r")?;
+        print_decimal(stdout, (reply / 65536) as u64)?;
+        return Ok(n);
     }
-    print_counts(&out);
+    print_counts(stdout, &out)?;
     let m = reply as usize;
     texts::put(&out[..m], state);
-    m
+    Ok(m)
 }
 
 // `FULL:BREAKING`.
-fn print_counts(state: &[u8])
+fn print_counts(stdout: &mut Stdout, state: &[u8]) -> io::Result<()>
     requires { 26 ≤ length state.now }
 {
-    io::print_decimal(STDOUT_FILENO, word(state, sheet::FULL));
-    io::write_all(STDOUT_FILENO, b":");
-    io::print_decimal(STDOUT_FILENO, word(state, sheet::BREAKING));
+    print_decimal(stdout, word(state, sheet::FULL))?;
+    stdout.write_all(b":")?;
+    print_decimal(stdout, word(state, sheet::BREAKING))
 }
