@@ -35,7 +35,7 @@ use Rattle.pages.specs.declared.parts.Part.{Part}
 use Rattle.pages.specs.declared.parts.Part.TheVariants.{Refused as NoPart, Ends}
 
 through-take : (f : Bytes) → quantifier_part f ≡ take (suc (index_of colon f)) f
-unfolding quantifier_part index_of index_after
+unfolding quantifier_part index_of
 through-take [] = refl
 through-take (x ∷ s) = go (eqb x colon) (through-take s)
   where

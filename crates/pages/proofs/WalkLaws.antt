@@ -31,6 +31,7 @@ among_in p (q ∷ qs) e = go (same p q) refl e (among_in p qs)
 
 in-among : (p : Bytes) (ps : List Bytes) → In p ps → among p ps ≡ true
 unfolding among
+in-among p [] i = elim i [ ]
 in-among p (q ∷ qs) (here e) = rw (← e, same-own p)
 in-among p (q ∷ qs) (there i) = go (same p q) (in-among p qs i)
   where
@@ -49,6 +50,7 @@ in-last p (q ∷ qs) = there (in-last p qs)
 
 in_either : {q : Bytes} (p : Bytes) (ps : List Bytes) → In q (ps ++ (p ∷ [])) → In q ps ⊎ (q ≡ p)
 in_either p [] (here e) = inr e
+in_either p [] (there i) = elim i [ ]
 in_either p (x ∷ ps) (here e) = inl (here e)
 in_either {q} p (x ∷ ps) (there i) = go (in_either p ps i)
   where
@@ -77,6 +79,7 @@ new-length before (p ∷ ps) = go (among p before) (new-length (before ++ (p ∷
 
 new-only : {q : Bytes} (before ps : List Bytes) → In q (new_ones before ps) → In q ps × (In q before → ⊥)
 unfolding new_ones
+new-only before [] i = elim i [ ]
 new-only {q} before (p ∷ ps) i = go (among p before) refl i (new-only (before ++ (p ∷ [])) ps)
   where
     go : (b : Bool) → among p before ≡ b → In q (pick b p (new_ones (before ++ (p ∷ [])) ps)) → (In q (new_ones (before ++ (p ∷ [])) ps) → In q ps × (In q (before ++ (p ∷ [])) → ⊥))
@@ -96,6 +99,7 @@ new_apart before (p ∷ ps) = go (among p before) (new_apart (before ++ (p ∷ [
 
 new-all : {q : Bytes} (before ps : List Bytes) → In q ps → In q before ⊎ In q (new_ones before ps)
 unfolding new_ones
+new-all before [] i = elim i [ ]
 new-all {q} before (p ∷ ps) i = go i (new-all (before ++ (p ∷ [])) ps)
   where
     own : (b : Bool) → among p before ≡ b → q ≡ p → In q before ⊎ In q (pick b p (new_ones (before ++ (p ∷ [])) ps))
@@ -128,6 +132,7 @@ walks-different ws = (
 )
   where
     nothing-before : {p : Bytes} {ds : List Bytes} → In p [] ⊎ In p ds → In p ds
+    nothing-before (inl i) = elim i [ ]
     nothing-before (inr i) = i
 
 -- The page's word by its lines'.

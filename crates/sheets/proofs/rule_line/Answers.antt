@@ -3,4 +3,4 @@
 use Rattle.sheets.proofs.rule_line.Goals as goal
 
 pub returns : goal.returns
-returns c = λ T H. rw (c.in_turn.ensures T H) at c.Line-of.ensures
+returns c = λ T H. rw (c.in_turn.ensures T H) at c.line_of.ensures

@@ -30,10 +30,13 @@ pub first_with-first-requires : goal.first_with-first-requires
 first_with-first-requires c =
     let within : c.loop-k.k < length (lines c.args.page.now) = omega (arith, c.requires.page_len, c.loop-k-test.true) in
     let room : c.loop-k.k < length c.loop-k.lens = omega (arith, c.requires.many_le_page_limit, c.loop-k-test.true, c.loop-k.invariant.1.wide_lens) in
-    let stands = slot-ends c.slot_of.ensures c.in-Ends.is in record { room = record {
+    let stands = slot-ends c.slot_of.ensures c.in-Ends.is in record {
+      room = record {
         all_slots = omega (arith, c.requires.many_le_page_limit, c.loop-k-test.true, c.loop-k.invariant.1.wide_slots, stands.slot.same);
         all_lens = rw length-set (omega arith);
-      }; held = sorting-held c.loop-k.invariant.0 within c.slot_of.ensures c.in-Ends.is room }
+      };
+      held = sorting-held c.loop-k.invariant.0 within c.slot_of.ensures c.in-Ends.is room;
+    }
 
 pub bounds-groups-k : goal.bounds-groups-k
 bounds-groups-k c =
@@ -46,8 +49,7 @@ overflow_add-walks c =
 pub loop-k-preserved : goal.loop-k-preserved
 loop-k-preserved c =
     let within : c.loop-k.k < length (lines c.args.page.now) = omega (arith, c.requires.page_len, c.loop-k-test.true) in
-    let room : c.loop-k.k < length c.loop-k.lens = omega (arith, c.requires.many_le_page_limit, c.loop-k-test.true, c.loop-k.invariant.1.wide_lens) in
-    (
+    let room : c.loop-k.k < length c.loop-k.lens = omega (arith, c.requires.many_le_page_limit, c.loop-k-test.true, c.loop-k.invariant.1.wide_lens) in (
       sorting-next c.loop-k.invariant.0 within c.slot_of.ensures c.in-Ends.is room c.first_with-first.ensures.value c.first_with-first.ensures.upper_bound c.new_walk-walks.ensures
           (omega (arith, c.loop-k.invariant.1.wide_groups, c.requires.many_le_page_limit, c.loop-k-test.true)),
       wide-next _ _ _ _ c.loop-k.invariant.1 (slot-ends c.slot_of.ensures c.in-Ends.is).slot.same,

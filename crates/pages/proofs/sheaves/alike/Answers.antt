@@ -1,12 +1,12 @@
 -- `pages::sheaves::alike` meets its contract. The invariant: what was found are lines.
 -- Assumes nothing.
 use mathlib.Core.Path.{ap, ◌∙◌}
-use mathlib.Core.Logic.{⊎_elim}
 use Prim.Native.Nat.{◌-◌}
 use native.Mathlib.Omega.{arith}
 use Rattle.words.specs.Words.{join_of}
 use Rattle.pages.proofs.SheafLaws.{lines_none, lines-add}
 use Rattle.pages.proofs.sheaves.alike.Goals as goal
+use Rattle.pages.proofs.sheaves.alike.Goals.{then-groups-j+then-not-contains, then-groups-j+else-not-contains, else-groups-j}
 
 pub loop-j-init : goal.loop-j-init
 loop-j-init c = (omega arith, lines_none _)
@@ -43,10 +43,11 @@ pub loop-j-preserved : goal.loop-j-preserved
 loop-j-preserved c =
     let more = lines-add c.loop-j.j c.loop-j.invariant.1 c.requires.0 c.loop-j-test.true in (
       omega (arith, c.loop-j.invariant.0),
-      ⊎_elim
-          (λ w. rw (w.5 ∙ w.4.ensures ∙ ap (join_of c.loop-j.found) w.3.ensures) more)
-          (λ w. ⊎_elim (λ z. rw z.3 c.loop-j.invariant.1) (λ z. rw z.1 c.loop-j.invariant.1) w)
-          c.if-groups-j.branch-raw,
+      elim c.if-groups-j.branch [
+        | then-groups-j+then-not-contains w ↦ rw (w.found-is ∙ w.join-found.ensures ∙ ap (join_of c.loop-j.found) w.item.ensures) more
+        | then-groups-j+else-not-contains w ↦ rw w.found-is c.loop-j.invariant.1
+        | else-groups-j w ↦ rw w.found-is c.loop-j.invariant.1
+      ],
     )
 
 pub returns : goal.returns

@@ -1,11 +1,11 @@
 -- `pages::sheaves::known` meets its contract. The invariant: the lines that were found have their counts.
 -- Assumes nothing.
 use mathlib.Core.Path.{sym, ◌∙◌}
-use mathlib.Core.Logic.{⊎_elim}
 use Prim.Native.Nat.{◌-◌}
 use native.Mathlib.Omega.{arith}
 use Rattle.pages.proofs.SheafLaws.{wanted-lines, known-none}
 use Rattle.pages.proofs.sheaves.known.Goals as goal
+use Rattle.pages.proofs.sheaves.known.Goals.{then-due, else-due}
 
 pub loop-k-init : goal.loop-k-init
 loop-k-init c =
@@ -33,10 +33,10 @@ loop-k-smaller c =
 
 pub loop-k-preserved : goal.loop-k-preserved
 loop-k-preserved c =
-    ⊎_elim
-    (λ w. rw (w.10, w.11, w.12 ∙ w.9.ensures) (w.4.ensures c.loop-k.found c.loop-k.invariant))
-    (λ w. rw (w.1, w.2, w.3) c.loop-k.invariant)
-    c.if-due.branch-raw
+    elim c.if-due.branch [
+      | then-due w ↦ rw (w.fulls-is, w.breakings-is, w.found-is ∙ w.join-found.ensures) (w.sheaf-more.ensures c.loop-k.found c.loop-k.invariant)
+      | else-due w ↦ rw (w.fulls-is, w.breakings-is, w.found-is) c.loop-k.invariant
+    ]
 
 pub shape_of-fulls : goal.shape_of-fulls
 shape_of-fulls c =

@@ -31,18 +31,17 @@ pub slice_bounds-gather-end-5 : goal.slice_bounds-gather-end-5
 slice_bounds-gather-end-5 c = search rules
 
 pub gather-found-requires : goal.gather-found-requires
-gather-found-requires c =
-    (
-      c.requires.loaded.1,
-      record {
-        for_nodes = length-replicate {A = ℕ} 512 0;
-        for_list = length-replicate {A = ℕ} 512 0;
-        for_vars = length-replicate {A = ℕ} 8 0;
-        for_starts = length-replicate {A = ℕ} 33 0;
-        for_members = length-replicate {A = ℕ} 32 0;
-        first = refl;
-      },
-    )
+gather-found-requires c = (
+  c.requires.loaded.1,
+  record {
+    for_nodes = length-replicate {A = ℕ} 512 0;
+    for_list = length-replicate {A = ℕ} 512 0;
+    for_vars = length-replicate {A = ℕ} 8 0;
+    for_starts = length-replicate {A = ℕ} 33 0;
+    for_members = length-replicate {A = ℕ} 32 0;
+    first = refl;
+  },
+)
 
 pub returns-then-found-lt2 : goal.returns-then-found-lt2
 returns-then-found-lt2 c = grows_none _ _ _ _

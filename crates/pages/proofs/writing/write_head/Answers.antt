@@ -21,9 +21,9 @@ bounds-out-17 c =
     let l = length-set c.args.out.now 0 c.args.sums.word in
     search rules
 
-pub shape_of-out : goal.shape_of-out
-shape_of-out c = written-length (returns c)
-
 pub returns : goal.returns
 returns c =
     head-written c.args.sums c.args.walks c.requires c.word_behind.ensures c.word_behind-2.ensures
+
+pub shape_of-out : goal.shape_of-out
+shape_of-out c = written-length (returns c)

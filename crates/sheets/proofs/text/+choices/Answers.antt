@@ -19,15 +19,14 @@ choice-n-requires t c =
     omega (arith, c.requires.0, c.requires.1, c.if-first-k.false)
 
 pub choices-m-requires : goal.choices-m-requires
-choices-m-requires t c =
-    (
-      omega (arith, c.decreases, c.if-first-k.false),
-      (
-        c.requires.0,
-        rest-room (43 * (length c.args.first.now - (c.args.k + 1))) c.choice-n.ensures
-            (omega (arith, c.requires.1, c.if-first-k.false, two-short (ascii " v") (c.args.k + 1) (ascii "=") (get_or c.args.first.now c.args.k 0))),
-      ),
-    )
+choices-m-requires t c = (
+  omega (arith, c.decreases, c.if-first-k.false),
+  (
+    c.requires.0,
+    rest-room (43 * (length c.args.first.now - (c.args.k + 1))) c.choice-n.ensures
+        (omega (arith, c.requires.1, c.if-first-k.false, two-short (ascii " v") (c.args.k + 1) (ascii "=") (get_or c.args.first.now c.args.k 0))),
+  ),
+)
 
 pub returns : goal.returns
 returns t c =

@@ -10,4 +10,4 @@ returns-then-rules-at c =
 
 pub returns : goal.returns
 returns c =
-    record { writes_next = λ T H. rw (c.judge_at-judged.ensures.judges_next T H) at c.Line-of.ensures; turns = not_last _ refl c.judge_at-judged.ensures.onward }
+    record { writes_next = λ T H. rw (c.judge_at-judged.ensures.judges_next T H) at c.line_of-n.ensures; turns = not_last _ refl c.judge_at-judged.ensures.onward }
