@@ -10,7 +10,7 @@ mod page;
 mod reader;
 mod session_calls;
 
-ghost use Rattle.std.specs.Prelude.{◌≤◌, length, IfOk};
+ghost use Rattle.std.specs.Prelude.{◌≡◌, ◌≤◌, length, IfOk};
 
 use std::io;
 use std::io::{Read, Stdin, Stdout};
@@ -48,7 +48,8 @@ fn main(rt: HostRuntime) -> io::Result<()> {
 // One line is answered, or room is made, or more is read.
 fn turn(stdin: &mut Stdin, stdout: &mut Stdout, buffer: &mut [u8], w: Window) -> io::Result<Window>
     requires { (w.from ≤ w.have) × (w.have ≤ length buffer.old) }
-    ensures { IfOk result (λ w. (w.from ≤ w.have) × (w.have ≤ length buffer.new)) }
+    ensures ok { IfOk result (λ w. (w.from ≤ w.have) × (w.have ≤ length buffer.new)) }
+    ensures kept { length buffer.new ≡ length buffer.old }
 {
     let from = w.from;
     let have = w.have;
@@ -91,7 +92,8 @@ fn fill(
     long: bool,
 ) -> io::Result<Window>
     requires { have ≤ length buffer.old }
-    ensures { IfOk result (λ w. (w.from ≤ w.have) × (w.have ≤ length buffer.new)) }
+    ensures ok { IfOk result (λ w. (w.from ≤ w.have) × (w.have ≤ length buffer.new)) }
+    ensures kept { length buffer.new ≡ length buffer.old }
 {
     let more = read_some(stdin, &mut buffer[have..])?;
     if more == 0 {
@@ -114,7 +116,8 @@ fn fill(
 }
 
 fn read_some(stdin: &mut Stdin, room: &mut [u8]) -> io::Result<usize>
-    ensures { IfOk result (λ n. n ≤ length room.new) }
+    ensures ok { IfOk result (λ n. n ≤ length room.new) }
+    ensures kept { length room.new ≡ length room.old }
 {
     stdin.read(room)
 }

@@ -112,7 +112,8 @@ pub fn follow(stdout: &mut Stdout, line: &[u8], tables: &[u8], rule: &[u8]) -> i
 // Makes a call on the first n bytes, and prints what it gives; how many bytes the next state has.
 fn next(stdout: &mut Stdout, state: &mut [u8], n: usize, change: Change) -> io::Result<usize>
     requires { (n ≤ 65536) × (length state.old ≡ 65536) }
-    ensures { IfOk result (λ m. m ≤ 65536) }
+    ensures ok { IfOk result (λ m. m ≤ 65536) }
+    ensures kept { length state.new ≡ length state.old }
 {
     let mut out = untouched();
     let reply = next_state(&state[..n], change, &mut out);
