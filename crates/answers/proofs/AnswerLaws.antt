@@ -10,13 +10,12 @@ use lib.ListN.{length, get_or, drop, length-append}
 use borrow.Author.Tests.{le-leb, lt-leb}
 use Rattle.answers.specs.Refusal.{number_of, last_number}
 use Rattle.answers.specs.Answer.{Answer, refused, wrote, answer_number, answer_length, if_room, lent, output_after}
-use Rattle.answers.specs.Written.{number_in, length_in, Answers}
+use Rattle.answers.specs.Written.{Written, number_in, length_in, Answers}
 use Rattle.answers.specs.declared.Refusal.{Refusal}
 use Rattle.answers.specs.declared.Refusal.TheVariants.{CutShort, Overfull, NotEntered, BadMark, NoSuchItem, Miscounted}
 use Rattle.answers.specs.declared.Refusal.TheVariants.{Rank, Overreach, Twin, LeftOver, RuleLength, Deep, NotARule}
 use Rattle.answers.specs.declared.Refusal.TheVariants.{KindMismatch, Choices, NoRulesFormula, ShortSheet, NotAnOrder, Page, Left, FullHouse, NotOpen, Reader}
-use Rattle.answers.specs.declared.Written.{Written}
-use Rattle.answers.specs.declared.Written.TheVariants.{Refused, Wrote}
+use Rattle.std.specs.declared.result.Result.TheVariants.{Ok, Err}
 
 -- The refusals in the order of their numbers, from 0 on: each number has one refusal, and 0 none (its place is filled by the first).
 listed : List Refusal
@@ -68,14 +67,14 @@ same_number a b e = sym (numbered a).back ∙ ap (λ (n : ℕ). get_or listed n 
 
 -- The number and the length of a call's case say which case it is.
 abbrev pub written_of : Answer → Written
-written_of (refused r) = Refused r
-written_of (wrote b) = Wrote (length b)
+written_of (refused r) = Err r
+written_of (wrote b) = Ok (length b)
 
 pub written-case : (a : Answer) (w : Written) → number_in w ≡ answer_number a → length_in w ≡ answer_length a → w ≡ written_of a
-written-case (refused r) (Refused e) n l = ap Refused (same_number e r n)
-written-case (refused r) (Wrote k) n l = absurd (omega (arith, number-some r))
-written-case (wrote b) (Refused e) n l = absurd (omega (arith, number-some e))
-written-case (wrote b) (Wrote k) n l = ap Wrote l
+written-case (refused r) (Err e) n l = ap Err (same_number e r n)
+written-case (refused r) (Ok k) n l = absurd (omega (arith, number-some r))
+written-case (wrote b) (Err e) n l = absurd (omega (arith, number-some e))
+written-case (wrote b) (Ok k) n l = ap Ok l
 
 pub answered-case : {a : Answer} {old new : List ℕ} {w : Written} → Answers a old new w → w ≡ written_of a
 answered-case {a} {w = w} p = written-case a w p.number p.size
@@ -105,21 +104,21 @@ lent-short n b h = rw (lt-leb _ _ h)
 
 -- A refusal keeps the lent bytes, and so does an output that is too short.
 
-pub kept-refused : (n : ℕ) (old : List ℕ) (e : Refusal) → Answers (lent n (refused e)) old old (Refused e)
+pub kept-refused : (n : ℕ) (old : List ℕ) (e : Refusal) → Answers (lent n (refused e)) old old (Err e)
 unfolding lent output_after
 kept-refused n old e = record { number = refl; size = refl; output = refl }
 
-pub kept-short : (w old : List ℕ) → length old < length w → Answers (lent (length old) (wrote w)) old old (Refused ShortSheet)
+pub kept-short : (w old : List ℕ) → length old < length w → Answers (lent (length old) (wrote w)) old old (Err ShortSheet)
 unfolding output_after
 kept-short w old h = rw (lent-short (length old) w h) (record { number = refl; size = refl; output = refl })
 
 -- What fits is written in front, and the rest is kept.
-pub lent_written : (w old : List ℕ) {new : List ℕ} → length w ≤ length old → new ≡ w ++ drop (length w) old → Answers (lent (length old) (wrote w)) old new (Wrote (length w))
+pub lent_written : (w old : List ℕ) {new : List ℕ} → length w ≤ length old → new ≡ w ++ drop (length w) old → Answers (lent (length old) (wrote w)) old new (Ok (length w))
 unfolding output_after
 lent_written w old h e = rw (lent_fits (length old) w h) (record { number = refl; size = refl; output = e })
 
 -- What was written lies within the lent bytes.
-pub lent-within : (w : List ℕ) {old new : List ℕ} {r : Written} {n : ℕ} → Answers (lent (length old) (wrote w)) old new r → r ≡ Wrote n → n ≤ length new
+pub lent-within : (w : List ℕ) {old new : List ℕ} {r : Written} {n : ℕ} → Answers (lent (length old) (wrote w)) old new r → r ≡ Ok n → n ≤ length new
 unfolding lent output_after
 lent-within w {old} {new} {r} {n} l e = go (leb (length w) (length old)) (answered-case l) l.output
   where

@@ -1,3 +1,2 @@
 -- Laws of answers and lent outputs.
 pub mod AnswerLaws
-pub mod CopyLaws

@@ -2,4 +2,4 @@
 pub mod Refusal
 pub mod Answer
 pub mod Written
-pub mod Code
+pub mod Outcome

@@ -17,7 +17,8 @@ use Rattle.tables.specs.Flat.{room, flat}
 use Rattle.tables.specs.Functions.{juniors_of_users}
 use Rattle.tables.specs.Code.Layout.{role_count_at, user_count_at, present_at, session_count_at}
 use Rattle.tables.specs.Code.Loaded.{TablesAt}
-use Rattle.tables.specs.declared.Outcome.TheVariants.{Refused, Accepted}
+use Rattle.answers.specs.Outcome.{passes}
+use Rattle.std.specs.declared.result.Result.TheVariants.{Err}
 use Rattle.tables.proofs.CheckLaws.{less_zero}
 use Rattle.tables.proofs.PresentLaws.{has-present}
 use Rattle.changes.specs.declared.Change.TheVariants.{Opening, Closing}
@@ -28,11 +29,11 @@ use Rattle.changes.proofs.CountLaws.{counts_of}
 -- ---- closing
 
 module _ {ts : List ℕ} (k : ℕ) where
-  pub due-closed : get_or ts session_count_at 0 ≤ k → DueBy ts (Closing k) (Refused NotOpen)
+  pub due-closed : get_or ts session_count_at 0 ≤ k → DueBy ts (Closing k) (Err NotOpen)
   unfolding change_refusal change_checks first_due
   due-closed l T a = let n = counts_of a in rw (le-ltb k (length T.sessions) (omega (arith, n.sessions)))
 
-  pub due-open : k < get_or ts session_count_at 0 → DueBy ts (Closing k) Accepted
+  pub due-open : k < get_or ts session_count_at 0 → DueBy ts (Closing k) passes
   unfolding change_refusal change_checks first_due
   due-open l T a = let n = counts_of a in rw (lt-ltb k (length T.sessions) (omega (arith, n.sessions)))
 
@@ -46,21 +47,21 @@ unfolding change_refusal change_checks first_due
 tests T u w p q r s t = rw (p, q, r, s, t)
 
 module _ {ts : List ℕ} (u w : ℕ) where
-  pub due-full : room ≤ get_or ts session_count_at 0 → DueBy ts (Opening u w) (Refused FullHouse)
+  pub due-full : room ≤ get_or ts session_count_at 0 → DueBy ts (Opening u w) (Err FullHouse)
   due-full l T a = let k = counts_of a in sym (tests T u w (le-ltb (length T.sessions) 64 (omega (arith, k.sessions))) refl refl refl refl)
 
   module _ (l : get_or ts session_count_at 0 < room) where
     vacant : {T : Tables} → TablesAt ts T → ltb (length T.sessions) 64 ≡ true
     vacant {T} a = let k = counts_of a in lt-ltb (length T.sessions) 64 (omega (arith, k.sessions))
 
-    pub due-user : get_or ts user_count_at 0 ≤ u → DueBy ts (Opening u w) (Refused NoSuchItem)
+    pub due-user : get_or ts user_count_at 0 ≤ u → DueBy ts (Opening u w) (Err NoSuchItem)
     due-user m T a = let k = counts_of a in sym (tests T u w (vacant a) (le-ltb u (length T.users) (omega (arith, k.users))) refl refl refl)
 
     module _ (m : u < get_or ts user_count_at 0) {b : Bool} (e : b ≡ leb (2 ^ get_or ts role_count_at 0) w) where
       user : {T : Tables} → TablesAt ts T → ltb u (length T.users) ≡ true
       user {T} a = let k = counts_of a in lt-ltb u (length T.users) (omega (arith, k.users))
 
-      pub due-word : b ≡ true → DueBy ts (Opening u w) (Refused NoSuchItem)
+      pub due-word : b ≡ true → DueBy ts (Opening u w) (Err NoSuchItem)
       due-word h T a =
           let k = counts_of a in
           let o : 2 ^ length T.role_rows ≤ w = rw k.roles at (leb-true (2 ^ get_or ts role_count_at 0) w (sym e ∙ h)) in
@@ -78,7 +79,7 @@ module _ {ts : List ℕ} (u w : ℕ) where
             let k = counts_of a in
             sym (q ∙ ap (λ (x : ℕ). has x u) k.present ∙ has-present T.users u (omega (arith, k.users, k.few_users)))
 
-        pub due-left : p ≡ false → DueBy ts (Opening u w) (Refused Left)
+        pub due-left : p ≡ false → DueBy ts (Opening u w) (Err Left)
         due-left z T a = sym (tests T u w (vacant a) (user a) (inside a) (present a ∙ z) refl)
 
         -- The last test, on words.
@@ -89,8 +90,8 @@ module _ {ts : List ℕ} (u w : ℕ) where
               let x : v ≡ juniors_of_users T (item_of u) = ev T a.passes.sound.fits a.words ∙ ap (juniors_of_users T) ei in
               sym (ap (λ (y : ℕ). eqb y 0) (er ∙ ap (less_of w) x) ∙ less_zero (length T.role_rows) w (juniors_of_users T (item_of u)) a.passes.sound.fits.roles (word a))
 
-          pub due-reach : (r ≡ 0 → ⊥) → DueBy ts (Opening u w) (Refused Overreach)
+          pub due-reach : (r ≡ 0 → ⊥) → DueBy ts (Opening u w) (Err Overreach)
           due-reach n T a = sym (tests T u w (vacant a) (user a) (inside a) (present a ∙ z) (reached a ∙ ne_eqb r 0 n))
 
-          pub due-none : r ≡ 0 → DueBy ts (Opening u w) Accepted
+          pub due-none : r ≡ 0 → DueBy ts (Opening u w) passes
           due-none n T a = sym (tests T u w (vacant a) (user a) (inside a) (present a ∙ z) (reached a ∙ eq-eqb r 0 n))

@@ -8,7 +8,6 @@ ghost use Rattle.changes.specs.declared.Change.TheVariants.{Opening, Closing};
 ghost use Rattle.changes.specs.Code.Made.{DueBy, Ready, Makes, ClosedUp};
 
 use answers::Refusal;
-use tables::Outcome;
 use tables::layout::{
     PRESENT, ROLE_COUNT, ROOM, SESSION_COUNT, SESSION_ROLES, SESSION_USERS, USER_COUNT,
 };
@@ -21,43 +20,43 @@ pub enum Change {
 }
 
 // What refuses an opening, if anything does: 21, 5, 20, 8.
-fn opening_due(t: &[u64], user: u32, roles: u64) -> Outcome
+fn opening_due(t: &[u64], user: u32, roles: u64) -> Result<(), Refusal>
     requires { Loaded t.now }
     ensures { DueBy t.now (Opening user roles) result }
 {
     let u = user as usize;
     if ROOM as u64 <= t[SESSION_COUNT] {
-        return Outcome::Refused(Refusal::FullHouse);
+        return Err(Refusal::FullHouse);
     }
     if t[USER_COUNT] <= user as u64 {
-        return Outcome::Refused(Refusal::NoSuchItem);
+        return Err(Refusal::NoSuchItem);
     }
     if words::outside(roles, t[ROLE_COUNT]) {
-        return Outcome::Refused(Refusal::NoSuchItem);
+        return Err(Refusal::NoSuchItem);
     }
     if !words::contains(t[PRESENT], u) {
-        return Outcome::Refused(Refusal::Left);
+        return Err(Refusal::Left);
     }
     let reach = functions::juniors_of_users(t, words::item(u));
     if words::less(roles, reach) != 0 {
-        return Outcome::Refused(Refusal::Overreach);
+        return Err(Refusal::Overreach);
     }
-    Outcome::Accepted
+    Ok(())
 }
 
 // What refuses a closing: 22.
-fn closing_due(t: &[u64], number: u32) -> Outcome
+fn closing_due(t: &[u64], number: u32) -> Result<(), Refusal>
     requires { Loaded t.now }
     ensures { DueBy t.now (Closing number) result }
 {
     if t[SESSION_COUNT] <= number as u64 {
-        return Outcome::Refused(Refusal::NotOpen);
+        return Err(Refusal::NotOpen);
     }
-    Outcome::Accepted
+    Ok(())
 }
 
 // What refuses the change of the tables that the words hold, if anything does.
-pub fn due(t: &[u64], change: Change) -> Outcome
+pub fn due(t: &[u64], change: Change) -> Result<(), Refusal>
     requires { Loaded t.now }
     ensures { DueBy t.now change result }
 {

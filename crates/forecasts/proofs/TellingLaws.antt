@@ -8,8 +8,8 @@ use lib.ListN.{length, take, drop_of_length-le}
 use Rattle.answers.specs.Answer.{wrote, lent}
 use Rattle.answers.specs.Written.{Answers}
 use Rattle.answers.specs.declared.Refusal.{Refusal}
-use Rattle.answers.specs.declared.Written.{Written}
-use Rattle.answers.specs.declared.Written.TheVariants.{Refused}
+use Rattle.answers.specs.Written.{Written}
+use Rattle.std.specs.declared.result.Result.TheVariants.{Err}
 use Rattle.answers.proofs.AnswerLaws.{kept-refused}
 use Rattle.tables.specs.Bytes.{lowest_first}
 use Rattle.syntax.specs.Bytes.{Bytes}
@@ -28,7 +28,7 @@ use Rattle.forecasts.specs.Forecast.{forecast_size, two_words}
 use Rattle.forecasts.specs.Code.Telling.{ForecastsOn}
 
 -- 11 to 15.
-pub told-rejected : {ts s ns ks vs : List ℕ} {f : Found} {r : Refusal} (old : Bytes) → Finds s ns ks vs f → f ≡ Rejected r → ForecastsOn ts s old old (Refused r)
+pub told-rejected : {ts s ns ks vs : List ℕ} {f : Found} {r : Refusal} (old : Bytes) → Finds s ns ks vs f → f ≡ Rejected r → ForecastsOn ts s old old (Err r)
 unfolding of_both
 told-rejected {r = r} old p e T t = rw (as-rejected p e) (kept-refused (length old) old r)
 

@@ -28,8 +28,8 @@ use Rattle.syntax.proofs.FormulaLaws.{knows-none}
 use Rattle.rules.proofs.ParseLaws.{as-rejected, as-found, formula-exact}
 use Rattle.printer.specs.Code.Printed.{Puts, Prints, Printable, formula_in}
 use Rattle.printer.proofs.PrintedLaws.{puts-as, puts-front}
-use Rattle.answers.specs.declared.Written.{Written}
-use Rattle.answers.specs.declared.Written.TheVariants.{Refused, Wrote}
+use Rattle.answers.specs.Written.{Written}
+use Rattle.std.specs.declared.result.Result.TheVariants.{Ok, Err}
 use Rattle.formulas.specs.Formulas.{reduced, RuleOf, gives, gives_none, RebuildAnswers}
 use Rattle.answers.specs.Written.{Answers}
 use Rattle.answers.proofs.AnswerLaws.{kept-refused, kept-short, lent_written}
@@ -42,7 +42,7 @@ use Rattle.formulas.proofs.WrittenLaws.{answers-refusal, answers-wrote, answers-
 -- Rule to formula.
 
 -- 11 to 15.
-pub reduce-rejected : {s ns ks vs : List ℕ} {f : Found} {r : Refusal} (m : ℕ) (old : Bytes) → Finds s ns ks vs f → f ≡ Rejected r → Answers (lent m (reduced s)) old old (Refused r)
+pub reduce-rejected : {s ns ks vs : List ℕ} {f : Found} {r : Refusal} (m : ℕ) (old : Bytes) → Finds s ns ks vs f → f ≡ Rejected r → Answers (lent m (reduced s)) old old (Err r)
 unfolding reduced
 reduce-rejected {s} m old p e = answers-refusal (reduced s) m old (rw (as-rejected p e, reduced))
 
@@ -67,10 +67,10 @@ module _ {s ns ks vs : List ℕ} {f : Found} {n root count : ℕ} (p : Finds s n
     long : l ≡ length (formula at.tree)
     long = formula-exact accepted at x
 
-    pub reduce-short : {old : Bytes} → length old < l → Answers (lent (length old) (reduced s)) old old (Refused ShortSheet)
+    pub reduce-short : {old : Bytes} → length old < l → Answers (lent (length old) (reduced s)) old old (Err ShortSheet)
     reduce-short {old} h = rw formula-is (kept-short (formula at.tree) old (omega (arith, long)))
 
-    pub reduce-made : {old new : Bytes} {m : ℕ} → l ≤ length old → Prints ns (take count vs) (HoldsRule ns root) formula_in old new m → Answers (lent (length old) (reduced s)) old new (Wrote m)
+    pub reduce-made : {old new : Bytes} {m : ℕ} → l ≤ length old → Prints ns (take count vs) (HoldsRule ns root) formula_in old new m → Answers (lent (length old) (reduced s)) old new (Ok m)
     unfolding printed
     reduce-made {old} {new} {m} h q =
         let w : Bytes = formula at.tree in
@@ -83,7 +83,7 @@ module _ {s ns ks vs : List ℕ} {f : Found} {n root count : ℕ} (p : Finds s n
 
 module _ (f old : Bytes) where
   abbrev Sixteen : Type 0
-  Sixteen = RebuildAnswers f old old (Refused NoRulesFormula)
+  Sixteen = RebuildAnswers f old old (Err NoRulesFormula)
 
   sixteen : ((s : Bytes) → RuleOf f s → ⊥) → Sixteen
   sixteen h = record { answer = refused NoRulesFormula; rebuilds = gives_none h; answers = kept-refused (length old) old NoRulesFormula }
@@ -117,17 +117,17 @@ module _ (f old : Bytes) where
             let z : c ≡ s = h ∙ ap (take 256) (sym (rule-only p ρ e)) ∙ take_all 256 s (omega (arith, (rule-accepted p).short)) in
             x (rw z (rule-reduced p))
 
-    pub rebuild-refused : {zeros sheet : Bytes} {w : Written} {r : Refusal} → Answers (lent (length zeros) (reduced c)) zeros sheet w → w ≡ Refused r → length f ≤ length zeros → Sixteen
+    pub rebuild-refused : {zeros sheet : Bytes} {w : Written} {r : Refusal} → Answers (lent (length zeros) (reduced c)) zeros sheet w → w ≡ Err r → length f ≤ length zeros → Sixteen
     rebuild-refused p q l = other (λ x. answers-refused (reduced c) _ f p q l x)
 
-    pub rebuild-apart : {zeros sheet : Bytes} {w : Written} {k : ℕ} → Answers (lent (length zeros) (reduced c)) zeros sheet w → w ≡ Wrote k → same (take k sheet) f ≡ false → Sixteen
+    pub rebuild-apart : {zeros sheet : Bytes} {w : Written} {k : ℕ} → Answers (lent (length zeros) (reduced c)) zeros sheet w → w ≡ Ok k → same (take k sheet) f ≡ false → Sixteen
     rebuild-apart {zeros} {sheet} {w} {k} p q d =
         let t = answers-wrote (reduced c) (length zeros) p q in
         other (λ x. let z : t.text ≡ f = cc t.is in let y : ◌≡◌ {A = ℕ} 0 1 = cc (same-own f, t.front) in omega arith)
 
 -- The candidate whose formula is the input is the rule.
 pub rebuild-same : {c : Bytes} (f : Bytes) {zeros sheet : Bytes} {w : Written} {k : ℕ}
-    → Answers (lent (length zeros) (reduced c)) zeros sheet w → w ≡ Wrote k → same (take k sheet) f ≡ true → RuleOf f c
+    → Answers (lent (length zeros) (reduced c)) zeros sheet w → w ≡ Ok k → same (take k sheet) f ≡ true → RuleOf f c
 rebuild-same {c} f {zeros} {sheet} {w} {k} p q d =
     let t = answers-wrote (reduced c) (length zeros) p q in
     let z : t.text ≡ f = sym t.front ∙ same_gives (take k sheet) f d in

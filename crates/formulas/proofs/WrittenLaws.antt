@@ -12,13 +12,13 @@ use Rattle.answers.specs.Answer.{Answer, refused, wrote, if_room, lent, output_a
 use Rattle.answers.specs.declared.Refusal.{Refusal}
 use Rattle.syntax.specs.Bytes.{Bytes, same}
 use Rattle.syntax.proofs.BytesLaws.{same-own}
-use Rattle.answers.specs.declared.Written.{Written}
-use Rattle.answers.specs.declared.Written.TheVariants.{Refused, Wrote}
+use Rattle.answers.specs.Written.{Written}
+use Rattle.std.specs.declared.result.Result.TheVariants.{Ok, Err}
 use Rattle.answers.specs.Written.{Answers}
 use Rattle.answers.proofs.AnswerLaws.{written_of, answered-case, kept-refused}
 
 -- A refusal leaves the output as it is.
-pub answers-refusal : {r : Refusal} (a : Answer) (n : ℕ) (old : Bytes) → a ≡ refused r → Answers (lent n a) old old (Refused r)
+pub answers-refusal : {r : Refusal} (a : Answer) (n : ℕ) (old : Bytes) → a ≡ refused r → Answers (lent n a) old old (Err r)
 answers-refusal {r} a n old e = rw e (kept-refused n old r)
 
 -- What was returned says what the answer is.
@@ -29,7 +29,7 @@ pub record Kept (a : Answer) (new : Bytes) (m : ℕ) : Type 0 where
   pub front : take m new ≡ text
   pub fits : m ≤ length new
 
-pub answers-wrote : (a : Answer) (n : ℕ) {old new : Bytes} {w : Written} {m : ℕ} → Answers (lent n a) old new w → w ≡ Wrote m → Kept a new m
+pub answers-wrote : (a : Answer) (n : ℕ) {old new : Bytes} {w : Written} {m : ℕ} → Answers (lent n a) old new w → w ≡ Ok m → Kept a new m
 unfolding lent output_after
 answers-wrote (refused r) n p e = let z : ◌≡◌ {A = ℕ} 0 1 = cc (answered-case p) in absurd (omega arith)
 answers-wrote (wrote b) n {old} {new} {w} {m} p e = go (leb (length b) n) (answered-case p) p.output
@@ -40,7 +40,7 @@ answers-wrote (wrote b) n {old} {new} {w} {m} p e = go (leb (length b) n) (answe
         record { text = b; is = refl; front = rw (q, o) (take-append_seam b _); fits = rw (q, o, length-append) (omega arith) }
     go false r o = let z : ◌≡◌ {A = ℕ} 0 1 = cc in absurd (omega arith)
 
-pub answers-refused : (a : Answer) (n : ℕ) {old new : Bytes} {w : Written} {r : Refusal} (b : Bytes) → Answers (lent n a) old new w → w ≡ Refused r → length b ≤ n → a ≡ wrote b → ⊥
+pub answers-refused : (a : Answer) (n : ℕ) {old new : Bytes} {w : Written} {r : Refusal} (b : Bytes) → Answers (lent n a) old new w → w ≡ Err r → length b ≤ n → a ≡ wrote b → ⊥
 unfolding lent
 answers-refused a n {old} {new} {w} {r} b p e h q =
     let z : lent n a ≡ wrote b = rw (q, le-leb (length b) n h) in

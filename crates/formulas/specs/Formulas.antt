@@ -6,7 +6,7 @@ use Rattle.answers.specs.Answer.{Answer, refused, wrote, lent}
 use Rattle.answers.specs.Written.{Answers}
 use Rattle.answers.specs.declared.Refusal.{Refusal}
 use Rattle.answers.specs.declared.Refusal.TheVariants.{NotARule, NoRulesFormula}
-use Rattle.answers.specs.declared.Written.{Written}
+use Rattle.answers.specs.Written.{Written}
 use Rattle.syntax.specs.Bytes.{Bytes}
 use Rattle.syntax.specs.Rule.{formula, rule_of}
 use Rattle.rules.specs.Accept.{refusal, accepted}

@@ -13,7 +13,7 @@ use Rattle.answers.specs.Answer.{wrote, if_room, lent, output_after}
 use Rattle.answers.specs.Written.{Answers}
 use Rattle.answers.specs.declared.Refusal.{Refusal}
 use Rattle.answers.specs.declared.Refusal.TheVariants.{Page}
-use Rattle.answers.specs.declared.Written.{Written}
+use Rattle.answers.specs.Written.{Written}
 use Rattle.answers.proofs.AnswerLaws.{written_of, answered-case}
 use Rattle.tables.specs.Tables.{Tables}
 use Rattle.tables.specs.Reading.{rejected, taken, tables_of}

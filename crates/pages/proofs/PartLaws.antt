@@ -15,8 +15,8 @@ use Rattle.texts.specs.Scan.{slice, index_of, index_after}
 use Rattle.answers.specs.Answer.{refused, lent}
 use Rattle.answers.specs.Written.{Answers}
 use Rattle.answers.specs.declared.Refusal.{Refusal}
-use Rattle.answers.specs.declared.Written.{Written}
-use Rattle.answers.specs.declared.Written.TheVariants.{Refused, Wrote}
+use Rattle.answers.specs.Written.{Written}
+use Rattle.std.specs.declared.result.Result.TheVariants.{Ok, Err}
 use Rattle.answers.proofs.AnswerLaws.{written_of, answered-case, lent-refused}
 use Rattle.texts.specs.Code.Overwritten.{Overwritten}
 use Rattle.texts.proofs.OverwrittenLaws.{written-length}
@@ -62,7 +62,7 @@ unfolding reduced
 refused-reduced w d h = rw (h, reduced)
 
 module _ {w old new : Bytes} {r : Written} (room : sheet_room ≤ length old) (a : Answers (lent (length old) (reduced w)) old new r) where
-  pub part-refused : {e : Refusal} → r ≡ Refused e → PartSays w new (NoPart e)
+  pub part-refused : {e : Refusal} → r ≡ Err e → PartSays w new (NoPart e)
   part-refused {e} q = no_part (go (refusal w) refl)
     where
       go : (o : Option Refusal) → refusal w ≡ o → refusal w ≡ some e
@@ -70,11 +70,11 @@ module _ {w old new : Bytes} {r : Written} (room : sheet_room ≤ length old) (a
           let g = accepted-gives w h in
           absurd (answers-refused (reduced w) (length old) (formula g.rule) a q (omega (arith, formula-within g)) (wrote-reduced w _ h (accepted-formula g)))
       go (some d) h =
-          let said : r ≡ Refused d = answered-case a ∙ ap written_of (ap (lent (length old)) (refused-reduced w d h) ∙ lent-refused (length old) d) in
+          let said : r ≡ Err d = answered-case a ∙ ap written_of (ap (lent (length old)) (refused-reduced w d h) ∙ lent-refused (length old) d) in
           let same : d ≡ e = cc in
           h ∙ ap some same
 
-  pub part-found : {n m : ℕ} → r ≡ Wrote n → EndsPart (take n new) m → PartSays w new (Ends m)
+  pub part-found : {n m : ℕ} → r ≡ Ok n → EndsPart (take n new) m → PartSays w new (Ends m)
   part-found {n} {m} q p =
       let k = answers-wrote (reduced w) (length old) a q in
       let f = reduced-wrote w k.text k.is in
@@ -86,7 +86,7 @@ module _ {w old new : Bytes} {r : Written} (room : sheet_room ≤ length old) (a
       let part : take m new ≡ quantifier_part k.text = sym (take-take m n new inner) ∙ p.is ∙ ap quantifier_part k.front in
       some_part {n = m} f.0 (omega (arith, p.within)) (part ∙ rw f.1)
 
-pub within-lent : (w : Bytes) {old new : Bytes} {r : Written} {n : ℕ} → Answers (lent (length old) (reduced w)) old new r → r ≡ Wrote n → n ≤ length new
+pub within-lent : (w : Bytes) {old new : Bytes} {r : Written} {n : ℕ} → Answers (lent (length old) (reduced w)) old new r → r ≡ Ok n → n ≤ length new
 within-lent w {old} a q = (answers-wrote (reduced w) (length old) a q).fits
 
 -- What a line's part said.

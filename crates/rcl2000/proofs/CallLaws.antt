@@ -15,7 +15,7 @@ use Rattle.answers.specs.Answer.{Answer, refused, wrote, if_room, lent, reply, o
 use Rattle.answers.specs.declared.Refusal.{Refusal}
 use Rattle.answers.proofs.AnswerLaws.{number-some, same_number, lent-wrote}
 use Rattle.answers.specs.Written.{Answers}
-use Rattle.answers.specs.declared.Written.{Written}
+use Rattle.answers.specs.Written.{Written}
 use Rattle.syntax.specs.Bytes.{Bytes}
 use Rattle.rcl2000.specs.Code.Reply.{reply_of}
 use Rattle.rcl2000.proofs.ReplyLaws.{reply-fits, reply-is}

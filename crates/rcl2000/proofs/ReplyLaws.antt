@@ -8,7 +8,7 @@ use Rattle.answers.specs.Refusal.{number_of}
 use Rattle.answers.specs.Answer.{Answer, refused, wrote, reply}
 use Rattle.answers.specs.declared.Refusal.{Refusal}
 use Rattle.syntax.specs.Bytes.{Bytes}
-use Rattle.answers.specs.declared.Written.{Written}
+use Rattle.answers.specs.Written.{Written}
 use Rattle.answers.specs.Written.{Answers}
 use Rattle.answers.proofs.AnswerLaws.{written_of, number-few, answered-case}
 use Rattle.rcl2000.specs.Code.Reply.{reply_of}

@@ -11,8 +11,8 @@ use Rattle.answers.specs.Answer.{lent}
 use Rattle.answers.specs.Written.{Answers}
 use Rattle.answers.specs.declared.Refusal.{Refusal}
 use Rattle.answers.specs.declared.Refusal.TheVariants.{Reader}
-use Rattle.answers.specs.declared.Written.{Written}
-use Rattle.answers.specs.declared.Written.TheVariants.{Refused}
+use Rattle.answers.specs.Written.{Written}
+use Rattle.std.specs.declared.result.Result.TheVariants.{Err}
 use Rattle.answers.proofs.AnswerLaws.{kept-refused}
 use Rattle.syntax.specs.Bytes.{Bytes}
 use Rattle.tables.specs.Flat.{counts}
@@ -32,7 +32,7 @@ use Rattle.readers.proofs.BeyondLaws.{beyond-word}
 abbrev Lists : Bytes → ℕ → Bytes → ℕ → List ℕ → List ℕ → Written → Type 0
 Lists a w rules place old new r = Answers (lent (length old) (reader_line a w rules place)) old new r
 
-pub line-rejected : (a : Bytes) {e : Refusal} → tables_of a ≡ rejected e → (w : ℕ) (rules : Bytes) (place : ℕ) (old : List ℕ) → Lists a w rules place old old (Refused e)
+pub line-rejected : (a : Bytes) {e : Refusal} → tables_of a ≡ rejected e → (w : ℕ) (rules : Bytes) (place : ℕ) (old : List ℕ) → Lists a w rules place old old (Err e)
 unfolding reader_line line_by
 line-rejected a {e} q w rules place old = rw q (kept-refused (length old) old e)
 
@@ -64,7 +64,7 @@ module _ {a : Bytes} {ts : List ℕ} (q : Took a ts) where
       test-is : b ≡ is_beyond w q.tables
       test-is = e ∙ ap (λ (n : ℕ). leb (2 ^ n) w) count-is ∙ beyond-word w q.tables h q.holds.passes.sound.fits.users
 
-      pub line-beyond : b ≡ true → (old : List ℕ) → Lists a w rules place old old (Refused Reader)
+      pub line-beyond : b ≡ true → (old : List ℕ) → Lists a w rules place old old (Err Reader)
       unfolding reader_line line_by
       line-beyond k old = let s : is_beyond w q.tables ≡ true = sym test-is ∙ k in rw (q.is, s) (kept-refused (length old) old Reader)
 

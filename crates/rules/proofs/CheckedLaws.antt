@@ -8,8 +8,8 @@ use native.Mathlib.Omega.{arith}
 use Rattle.answers.specs.Answer.{number_or_zero}
 use Rattle.answers.specs.declared.Refusal.{Refusal}
 use Rattle.answers.proofs.AnswerLaws.{number-some, same_number}
-use Rattle.rules.specs.declared.Checked.{Checked}
-use Rattle.rules.specs.declared.Checked.TheVariants.{Refused, Accepted}
+use Rattle.answers.specs.Outcome.{Outcome}
+use Rattle.std.specs.declared.result.Result.TheVariants.{Ok, Err}
 use Rattle.rules.specs.Accept.{refusal}
 use Rattle.rules.specs.Checked.{checked_number}
 use Rattle.rules.specs.Code.Parsed.{checked_of, Parses}
@@ -18,11 +18,11 @@ checked-number : (o : Option Refusal) → checked_number (checked_of o) ≡ numb
 checked-number none = refl
 checked-number (some r) = refl
 
-pub parsed-number : {s ns ks vs : List ℕ} {c : Checked} {n root count : ℕ} → Parses s ns ks vs c n root count → checked_number c ≡ number_or_zero (refusal s)
+pub parsed-number : {s ns ks vs : List ℕ} {c : Outcome} {n root count : ℕ} → Parses s ns ks vs c n root count → checked_number c ≡ number_or_zero (refusal s)
 parsed-number {s} p = ap checked_number p.outcome ∙ checked-number (refusal s)
 
-pub checked-case : (o : Option Refusal) (c : Checked) → checked_number c ≡ number_or_zero o → c ≡ checked_of o
-checked-case none Accepted e = refl
-checked-case none (Refused r) e = absurd (omega (arith, number-some r))
-checked-case (some r) Accepted e = absurd (omega (arith, number-some r))
-checked-case (some r) (Refused q) e = ap Refused (same_number q r e)
+pub checked-case : (o : Option Refusal) (c : Outcome) → checked_number c ≡ number_or_zero o → c ≡ checked_of o
+checked-case none (Ok tt) e = refl
+checked-case none (Err r) e = absurd (omega (arith, number-some r))
+checked-case (some r) (Ok tt) e = absurd (omega (arith, number-some r))
+checked-case (some r) (Err q) e = ap Err (same_number q r e)

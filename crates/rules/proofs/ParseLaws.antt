@@ -15,8 +15,8 @@ use Rattle.syntax.specs.Rule.{Rule, rule_vars, formula, rule_of}
 use Rattle.syntax.specs.Code.Arena.{HoldsRule, Tidy}
 use Rattle.syntax.specs.Code.Reading.{Rooted}
 use Rattle.syntax.proofs.NameLaws.{all-length}
-use Rattle.rules.specs.declared.Checked.{Checked}
-use Rattle.rules.specs.declared.Checked.TheVariants.{Refused, Accepted}
+use Rattle.answers.specs.Outcome.{Outcome, passes}
+use Rattle.std.specs.declared.result.Result.TheVariants.{Err}
 use Rattle.rules.specs.declared.Found.{Found}
 use Rattle.rules.specs.declared.Found.TheVariants.{Rejected, Rule as Tree}
 use Rattle.rules.specs.Kind.{rule_kinds}
@@ -58,11 +58,11 @@ module _ {ns : List ℕ} {n root : ℕ} {ks₀ ks : List ℕ} {r : Bool} (filled
 
 -- What an answer says.
 
-pub as-turned : {s : Bytes} {w : Checked} {r : Refusal} → ChecksText s w → w ≡ Refused r → refusal s ≡ some r
+pub as-turned : {s : Bytes} {w : Outcome} {r : Refusal} → ChecksText s w → w ≡ Err r → refusal s ≡ some r
 as-turned {r = r} (turned {r = r'} e) q = let g : r' ≡ r = cc in e ∙ ap some g
 as-turned (passed f) q = let z : ◌≡◌ {A = ℕ} 0 1 = cc in absurd (omega arith)
 
-pub as_passed : {s : Bytes} {w : Checked} → ChecksText s w → w ≡ Accepted → FitText s
+pub as_passed : {s : Bytes} {w : Outcome} → ChecksText s w → w ≡ passes → FitText s
 as_passed (turned e) q = let z : ◌≡◌ {A = ℕ} 0 1 = cc in absurd (omega arith)
 as_passed (passed f) q = f
 
@@ -111,13 +111,13 @@ module _ {s ns ks vs : List ℕ} {f : Found} {n root count : ℕ} (p : Finds s n
 
 -- A parsed text.
 
-pub parse-rejected : {s ns ks vs ns₀ ks₀ vs₀ : List ℕ} {f : Found} {r : Refusal} {o : Checked} {n root count : ℕ} → Finds s ns₀ ks₀ vs₀ f → f ≡ Rejected r → o ≡ Refused r
+pub parse-rejected : {s ns ks vs ns₀ ks₀ vs₀ : List ℕ} {f : Found} {r : Refusal} {o : Outcome} {n root count : ℕ} → Finds s ns₀ ks₀ vs₀ f → f ≡ Rejected r → o ≡ Err r
     → Blank ns n root ks vs count → Parses s ns ks vs o n root count
 parse-rejected f q h b =
     let e = as-rejected f q in
     record { outcome = h ∙ rw e; accepted = λ z. let y : ◌≡◌ {A = ℕ} 0 1 = cc in absurd (omega arith); refused = λ _ _. b }
 
-pub parse-found : {s ns ks vs : List ℕ} {f : Found} {n root count : ℕ} → Finds s ns ks vs f → f ≡ Tree n root count → Parses s ns ks vs Accepted n root count
+pub parse-found : {s ns ks vs : List ℕ} {f : Found} {n root count : ℕ} → Finds s ns ks vs f → f ≡ Tree n root count → Parses s ns ks vs passes n root count
 parse-found f q =
     let t = as-found f q in
     let e = t.0 in

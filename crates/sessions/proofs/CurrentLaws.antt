@@ -8,7 +8,8 @@ use Prim.Native.Nat.{ℕ}
 use Rattle.syntax.specs.Bytes.{Bytes}
 use Rattle.syntax.specs.Rule.{Rule}
 use Rattle.rules.specs.declared.Parsed.{Parsed}
-use Rattle.rules.specs.declared.Checked.TheVariants.{Accepted}
+use Rattle.answers.specs.Outcome.{passes}
+use Rattle.std.specs.declared.result.Result.TheVariants.{Ok}
 use Rattle.walks.specs.Order.{variables_of}
 use Rattle.texts.specs.Code.Overwritten.{Overwritten}
 use Rattle.verdicts.specs.declared.Verdict.{Verdict}
@@ -21,7 +22,7 @@ use Rattle.sessions.specs.State.{current_bytes, verdict_in, verdict_after}
 use Rattle.sessions.specs.Code.Laying.{rule_of_front, PutsCurrent, PutsVerdict}
 
 -- The verdict in turn, written with its own word, is the current one.
-pub current-written : {ts : List ℕ} {p : Parsed} {r : Verdict} {word : ℕ} {old new : Bytes} {n : ℕ} (rule : Bytes) → ParsedFrom rule p → p.outcome ≡ Accepted → JudgesInTurn ts rule r
+pub current-written : {ts : List ℕ} {p : Parsed} {r : Verdict} {word : ℕ} {old new : Bytes} {n : ℕ} (rule : Bytes) → ParsedFrom rule p → p.outcome ≡ passes → JudgesInTurn ts rule r
     → word ≡ word_number r.outcome → Overwritten (written word r) old new n → PutsCurrent ts rule old new n
 current-written {r = r} rule P h j q o T ρ a t =
     let ok = parsed-accepts P h in

@@ -8,7 +8,7 @@ use lib.ListN.{length, take, drop, length-append, length-drop, take-append-drop}
 use lib.Seq.{take_all, length-take-le}
 use Rattle.answers.specs.Answer.{wrote, lent}
 use Rattle.answers.specs.Written.{Answers}
-use Rattle.answers.specs.declared.Written.TheVariants.{Wrote}
+use Rattle.std.specs.declared.result.Result.TheVariants.{Ok}
 use Rattle.answers.proofs.AnswerLaws.{lent_written}
 use Rattle.tables.specs.Bytes.{lowest_first}
 use Rattle.tables.proofs.BytesLaws.{lowest-length}
@@ -43,12 +43,12 @@ added-length {n} {old = old} l p =
     = record { count = sym many; bytes = sym (take-append-drop n old) ∙ ap (λ (m : ℕ). take n old ++ drop m old) (sym many); fits = omega arith } in
     written-length (p.1 (take n old) old front)
 
-pub written-answer : {w old new : Bytes} {n : ℕ} → Overwritten w old new n → Answers (lent (length old) (wrote w)) old new (Wrote n)
+pub written-answer : {w old new : Bytes} {n : ℕ} → Overwritten w old new n → Answers (lent (length old) (wrote w)) old new (Ok n)
 written-answer {w} {old} o = rw o.count (lent_written w old o.fits o.bytes)
 
 -- The verdict, the rule and the tables make a state.
 pub parts-written : (rule : Bytes) {head tables old a b new : Bytes} {i j r : ℕ} → Overwritten head old a i → Added i (lowest_first 2 (length rule) ++ rule) a b j → Added j tables b new r
-    → Answers (lent (length old) (wrote (parts head rule tables))) old new (Wrote r)
+    → Answers (lent (length old) (wrote (parts head rule tables))) old new (Ok r)
 parts-written rule {head} {tables} p q x =
     let o = add-more (add-more p q) x in
     let e : (head ++ (lowest_first 2 (length rule) ++ rule)) ++ tables ≡ parts head rule tables

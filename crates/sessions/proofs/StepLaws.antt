@@ -14,15 +14,14 @@ use Rattle.answers.specs.Answer.{Answer, wrote, lent}
 use Rattle.answers.specs.Written.{Answers}
 use Rattle.answers.specs.declared.Refusal.{Refusal}
 use Rattle.answers.specs.declared.Refusal.TheVariants.{ShortSheet}
-use Rattle.answers.specs.declared.Written.{Written}
-use Rattle.answers.specs.declared.Written.TheVariants.{Refused, Wrote}
+use Rattle.answers.specs.Written.{Written}
+use Rattle.std.specs.declared.result.Result.TheVariants.{Ok, Err}
 use Rattle.answers.proofs.AnswerLaws.{kept-refused, kept-short}
 use Rattle.tables.specs.Tables.{Tables}
 use Rattle.tables.specs.Bytes.{AreBytes, lowest_first}
 use Rattle.tables.specs.Encode.{encode}
 use Rattle.tables.specs.Reading.{rejected, tables_of}
-use Rattle.tables.specs.declared.Outcome.{Outcome}
-use Rattle.tables.specs.declared.Outcome.TheVariants.{Refused as RefusedChange, Accepted as AcceptedChange}
+use Rattle.answers.specs.Outcome.{Outcome, passes}
 use Rattle.tables.proofs.EncodeLaws.{accepted-bytes, passes-accepted}
 use Rattle.tables.proofs.EncodedLaws.{encode-length}
 use Rattle.tables.proofs.OneLaws.{tables-one}
@@ -30,7 +29,6 @@ use Rattle.tables.proofs.LocalLaws.{accepted-short}
 use Rattle.syntax.specs.Bytes.{Bytes}
 use Rattle.syntax.specs.Rule.{Rule, rule_of}
 use Rattle.rules.specs.declared.Parsed.{Parsed}
-use Rattle.rules.specs.declared.Checked.TheVariants.{Refused as RefusedRule, Accepted as AcceptedRule}
 use Rattle.rules.proofs.AcceptLaws.{accepted-gives}
 use Rattle.texts.specs.Code.Overwritten.{Added}
 use Rattle.texts.proofs.OverwrittenLaws.{written-length, add-more}
@@ -70,36 +68,36 @@ held_bytes h {T} a = h.bytes ∙ ap encode (sym (tables-one T h.tables (sym a.wo
 pub holds-short : {ts : List ℕ} {b : Bytes} → Holds ts b → length b ≤ 3978
 holds-short h = rw h.bytes (accepted-short (encode h.tables) (passes-accepted h.tables h.at.passes))
 
-pub given-at : {ts : List ℕ} {T : Tables} {rule : Bytes} {p : Parsed} → TablesAt ts T → ParsedFrom rule p → p.outcome ≡ AcceptedRule → {ρ : Rule} → rule_of rule ≡ some ρ
+pub given-at : {ts : List ℕ} {T : Tables} {rule : Bytes} {p : Parsed} → TablesAt ts T → ParsedFrom rule p → p.outcome ≡ passes → {ρ : Rule} → rule_of rule ≡ some ρ
     → Given (encode T) rule T ρ
 given-at {T = T} a P h t = record { reads = passes-accepted T a.passes; accepts = parsed-accepts P h; tree = t }
 
-pub parsed-short : {rule : Bytes} {p : Parsed} → ParsedFrom rule p → p.outcome ≡ AcceptedRule → length rule ≤ 256
+pub parsed-short : {rule : Bytes} {p : Parsed} → ParsedFrom rule p → p.outcome ≡ passes → length rule ≤ 256
 parsed-short {rule} P h = (accepted-gives rule (parsed-accepts P h)).short
 
 -- ---- a rule that is refused, and one that is accepted
 
-pub on-refused : {ts : List ℕ} {rule : Bytes} {p : Parsed} {e : Refusal} (f : Tables → Rule → Answer) (old : Bytes) → ParsedFrom rule p → p.outcome ≡ RefusedRule e
-    → AnswersOn ts rule f old old (Refused e)
+pub on-refused : {ts : List ℕ} {rule : Bytes} {p : Parsed} {e : Refusal} (f : Tables → Rule → Answer) (old : Bytes) → ParsedFrom rule p → p.outcome ≡ Err e
+    → AnswersOn ts rule f old old (Err e)
 unfolding of_both
 on-refused {e = e} f old P h T a = rw (parsed-rejects P h) (kept-refused (length old) old e)
 
-on-accepted : {ts : List ℕ} {rule : Bytes} {p : Parsed} (f : Tables → Rule → Answer) {old new : Bytes} {w : Written} → ParsedFrom rule p → p.outcome ≡ AcceptedRule
+on-accepted : {ts : List ℕ} {rule : Bytes} {p : Parsed} (f : Tables → Rule → Answer) {old new : Bytes} {w : Written} → ParsedFrom rule p → p.outcome ≡ passes
     → ((T : Tables) (ρ : Rule) → TablesAt ts T → rule_of rule ≡ some ρ → Answers (lent (length old) (f T ρ)) old new w) → AnswersOn ts rule f old new w
 unfolding of_both
 on-accepted f P h g T a = let t = (parsed-rule P h).reads in rw (parsed-accepts P h, t) (g T (parsed-rule P h).tree a t)
 
 -- ---- the start
 
-module _ {ts : List ℕ} {tables rule : Bytes} {p : Parsed} (H : Holds ts tables) (P : ParsedFrom rule p) (h : p.outcome ≡ AcceptedRule) where
+module _ {ts : List ℕ} {tables rule : Bytes} {p : Parsed} (H : Holds ts tables) (P : ParsedFrom rule p) (h : p.outcome ≡ passes) where
   pub start-short : (old : Bytes) → length old < 28 + length rule + length tables
-      → AnswersOn ts rule (λ T ρ. wrote (state_bytes T ρ rule)) old old (Refused ShortSheet)
+      → AnswersOn ts rule (λ T ρ. wrote (state_bytes T ρ rule)) old old (Err ShortSheet)
   start-short old l =
       on-accepted _ P h (λ T ρ a t.
       kept-short (state_bytes T ρ rule) old (omega (arith, made-length (given-at a P h t), ap length (held_bytes H a))))
 
   pub start-written : {old a b new : Bytes} {i j r : ℕ} → PutsCurrent ts rule old a i → Added i (lowest_first 2 (length rule) ++ rule) a b j → Added j tables b new r
-      → AnswersOn ts rule (λ T ρ. wrote (state_bytes T ρ rule)) old new (Wrote r)
+      → AnswersOn ts rule (λ T ρ. wrote (state_bytes T ρ rule)) old new (Ok r)
   start-written x y z = on-accepted _ P h (λ T ρ a t. parts-written rule (x T ρ a t) y (rw (held_bytes H a) at z))
 
 -- ---- a change that nothing refuses
@@ -137,11 +135,11 @@ module _ {ts : List ℕ} {front tables : Bytes} {p : Parsed} (H : Holds ts table
           parts-length (verdict_after (verdict_in front) rule (changed T c) ρ) rule (encode (changed T c))
           ∙ omega (arith, after-length, e, front_length.0, next-room)
 
-    pub change-short : (old : Bytes) {n : ℕ} → n ≡ next_length c (length front + length tables) → length old < n → ChangesOn ts front c old old (Refused ShortSheet)
+    pub change-short : (old : Bytes) {n : ℕ} → n ≡ next_length c (length front + length tables) → length old < n → ChangesOn ts front c old old (Err ShortSheet)
     change-short old q l T ρ a free t = kept-short _ old (omega (arith, next-state a free t))
 
     pub change-written : {ts' : List ℕ} {old x y new : Bytes} {i j r : ℕ} → Makes ts c ts' → PutsVerdict ts' front old x i
-        → Added i (lowest_first 2 (length rule) ++ rule) x y j → AddsChanged ts' tables c j y new r → ChangesOn ts front c old new (Wrote r)
+        → Added i (lowest_first 2 (length rule) ++ rule) x y j → AddsChanged ts' tables c j y new r → ChangesOn ts front c old new (Ok r)
     change-written m v q z T ρ a free t =
         let b = m T a free in
         parts-written rule (v (changed T c) ρ b t) q (z T free b (held_bytes H a))
@@ -165,28 +163,28 @@ module _ {ts : List ℕ} {front tables : Bytes} {p : Parsed} (H : Holds ts table
 
 -- ---- any change
 
-module _ (ts front : Bytes) {p : Parsed} (c : Change) (o : Outcome) (P : ParsedFrom (rule_of_front front) p) (h : p.outcome ≡ AcceptedRule) (d : DueBy ts c o) where
-  pub step-refused : {e : Refusal} (old : Bytes) → o ≡ RefusedChange e → StepsOn ts front c old old (Refused e)
+module _ (ts front : Bytes) {p : Parsed} (c : Change) (o : Outcome) (P : ParsedFrom (rule_of_front front) p) (h : p.outcome ≡ passes) (d : DueBy ts c o) where
+  pub step-refused : {e : Refusal} (old : Bytes) → o ≡ Err e → StepsOn ts front c old old (Err e)
   unfolding changed_state
   step-refused {e} old q =
       on-accepted _ P h (λ T ρ a t.
       let r : change_refusal T c ≡ some e = sym (d T a) ∙ ap due_in q in
       rw r (kept-refused (length old) old e))
 
-  pub step-changed : o ≡ AcceptedChange → {old new : Bytes} {w : Written} → ChangesOn ts front c old new w → StepsOn ts front c old new w
+  pub step-changed : o ≡ passes → {old new : Bytes} {w : Written} → ChangesOn ts front c old new w → StepsOn ts front c old new w
   unfolding changed_state
   step-changed q x =
       on-accepted _ P h (λ T ρ a t.
       let r : change_refusal T c ≡ none = sym (d T a) ∙ ap due_in q in
       rw r (x T ρ a r t))
 
-  pub step-ready : o ≡ AcceptedChange → {tables : Bytes} → Holds ts tables → Ready ts c
+  pub step-ready : o ≡ passes → {tables : Bytes} → Holds ts tables → Ready ts c
   step-ready q H = record { tables = H.tables; holds = H.at; free = sym (d H.tables H.at) ∙ ap due_in q }
 
 -- ---- a state that is not cut short
 
 module _ (s : Bytes) {r : ℕ} (q : r ≡ cond (is_cut s) 0 (28 + rule_length s)) (n : r ≡ 0 → ⊥) (c : Change) where
-  pub whole-refused : {e : Refusal} (old : Bytes) → tables_of (take (length s - r) (drop r s)) ≡ rejected e → Answers (lent (length old) (stepped s c)) old old (Refused e)
+  pub whole-refused : {e : Refusal} (old : Bytes) → tables_of (take (length s - r) (drop r s)) ≡ rejected e → Answers (lent (length old) (stepped s c)) old old (Err e)
   whole-refused old t =
       rw (step-whole s (not-cut s q n) c)
       (both-refused (tables_in s) (rule_in s) (λ T ρ. changed_state (verdict_in s) (rule_in s) c T ρ) old (rw (tables-part s q n) at t))

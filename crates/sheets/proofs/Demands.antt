@@ -14,7 +14,7 @@ use borrow.Author.Tests.{le-leb, lt-leb, leb-false}
 use Rattle.answers.specs.Refusal.{number_of}
 use Rattle.answers.specs.Answer.{Answer, wrote, if_room, lent, output_after, answer_number, answer_length}
 use Rattle.answers.specs.Written.{number_in, length_in}
-use Rattle.answers.specs.declared.Written.{Written}
+use Rattle.answers.specs.Written.{Written}
 use Rattle.answers.specs.declared.Refusal.{Refusal}
 use Rattle.syntax.specs.Bytes.{Bytes, ascii}
 use Rattle.syntax.specs.Rule.{Rule, rule_text, rule_of}

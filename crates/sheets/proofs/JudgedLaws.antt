@@ -11,8 +11,8 @@ use lib.ListN.{length, take, drop, get_elem?}
 use Rattle.answers.specs.Refusal.{number_of}
 use Rattle.answers.specs.declared.Refusal.{Refusal}
 use Rattle.syntax.specs.Bytes.{Bytes, ascii}
-use Rattle.tables.specs.declared.Outcome.{Outcome}
-use Rattle.tables.specs.declared.Outcome.TheVariants.{Refused, Accepted}
+use Rattle.answers.specs.Outcome.{Outcome, passes}
+use Rattle.std.specs.declared.result.Result.TheVariants.{Err}
 use Rattle.tables.specs.Tables.{Tables}
 use Rattle.tables.specs.Reading.{tables_of, outcome_number, reading_number, words_of}
 use Rattle.texts.specs.Code.Overwritten.{Overwritten}
@@ -66,12 +66,12 @@ no-line-at rules place f q n = omega (arith, past (lines rules) (place - 1) (mis
 -- The line at a place of any tables
 
 module _ (tables rules : Bytes) (place : ℕ) {o : Outcome} (r : outcome_number o ≡ reading_number (tables_of tables)) {old new : List ℕ} {n : ℕ} where
-  pub rejected-made : {e : Refusal} → o ≡ Refused e
+  pub rejected-made : {e : Refusal} → o ≡ Err e
       → Overwritten (sheet_line (only (labelled (ascii "tables refused ") (number_of e))) place) old new n → Overwritten (sheet_line (sheet_of tables rules) place) old new n
   unfolding sheet_of sheet_by
   rejected-made q w = rw (was-rejected tables r q) w
 
-  pub taken_made : {ts : List ℕ} → ts ≡ words_of (tables_of tables) → o ≡ Accepted → LinesOn ts rules place old new n
+  pub taken_made : {ts : List ℕ} → ts ≡ words_of (tables_of tables) → o ≡ passes → LinesOn ts rules place old new n
       → Overwritten (sheet_line (sheet_of tables rules) place) old new n
   unfolding sheet_of sheet_by
   taken_made w q f = let t = was-taken tables r w q in rw t.is (f t.tables t.holds)

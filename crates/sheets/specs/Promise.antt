@@ -5,7 +5,7 @@ use Rattle.std.proofs.Math.Option.{some}
 use Rattle.std.proofs.Math.ListN.{get_elem?}
 use Rattle.answers.specs.Answer.{wrote, lent}
 use Rattle.answers.specs.Written.{number_in, length_in, Answers}
-use Rattle.answers.specs.declared.Written.{Written}
+use Rattle.answers.specs.Written.{Written}
 use Rattle.syntax.specs.Bytes.{Bytes, ascii}
 use Rattle.syntax.specs.Rule.{Rule, rule_vars}
 use Rattle.tables.specs.Tables.{Tables}

@@ -12,8 +12,8 @@ use borrow.Author.Tests.{ltb-false, leb-false, eqb-true, not-false}
 use Rattle.answers.specs.declared.Refusal.{Refusal}
 use Rattle.answers.specs.declared.Refusal.TheVariants.{NoSuchItem}
 use Rattle.tables.specs.Tables.{User, Session, Deed, Tables}
-use Rattle.tables.specs.declared.Outcome.{Outcome}
-use Rattle.tables.specs.declared.Outcome.TheVariants.{Refused, Accepted}
+use Rattle.answers.specs.Outcome.{Outcome, passes}
+use Rattle.std.specs.declared.result.Result.TheVariants.{Ok, Err}
 use Rattle.tables.specs.Checks.{late}
 use Rattle.tables.specs.Accepted.{Below, Known, KnownDeed, Every, Sound, Passes}
 use Rattle.tables.specs.Reading.{Bytes, Taken, Reader, stop, took, next, refuse, front, byte, count, word_from, word_within}
@@ -36,10 +36,10 @@ module _ {B : Type 0} {C : Type 0} where
   refuse-case false e s f q k = k refl q
 
   settle-case : (o : Outcome) (s : Bytes) (f : Bytes → Taken B) {b : B} {t : Bytes} → next (settle o s) (λ _. f) ≡ took b t
-      → (o ≡ Accepted → f s ≡ took b t → C) → C
+      → (o ≡ passes → f s ≡ took b t → C) → C
   unfolding next settle
-  settle-case (Refused e) s f q k = let z : ◌≡◌ {A = ℕ} 0 1 = cc in absurd (omega arith)
-  settle-case Accepted s f q k = k refl q
+  settle-case (Err e) s f q k = let z : ◌≡◌ {A = ℕ} 0 1 = cc in absurd (omega arith)
+  settle-case (Ok tt) s f q k = k refl q
 
 pub count-few : (limit : ℕ) (s : Bytes) {n : ℕ} {t : Bytes} → count limit s ≡ took n t → n ≤ limit
 unfolding count

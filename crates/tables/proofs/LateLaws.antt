@@ -9,8 +9,8 @@ use borrow.Author.Tests.{eq-eqb, eqb-true}
 use Rattle.words.specs.Words.{has}
 use Rattle.words.proofs.WordsLaws.{and-true, and_both}
 use Rattle.answers.specs.declared.Refusal.{Refusal}
-use Rattle.tables.specs.declared.Outcome.{Outcome}
-use Rattle.tables.specs.declared.Outcome.TheVariants.{Refused, Accepted}
+use Rattle.answers.specs.Outcome.{Outcome, passes, refuses}
+use Rattle.std.specs.declared.result.Result.TheVariants.{Err}
 use Rattle.tables.specs.Tables.{Tables, user_rows, session_users}
 use Rattle.tables.specs.Checks.{all_to, withdrawn, leavers_gone, ranked, in_reach, no_twin, late_checks, first_failing, late}
 use Rattle.tables.specs.Accepted.{Every}
@@ -51,11 +51,11 @@ pub record Late (T : Tables) : Type 0 where
   pub reach : in_reach T ≡ true
   pub twin : no_twin T ≡ true
 
-held : (b : Bool) (o : Outcome) (e : Refusal) → cond b o (Refused e) ≡ Accepted → (b ≡ true) × (o ≡ Accepted)
+held : (b : Bool) (o : Outcome) (e : Refusal) → cond b o (refuses e) ≡ passes → (b ≡ true) × (o ≡ passes)
 held true o e q = (refl, q)
 held false o e q = never q
 
-pub late-each : (T : Tables) → late T ≡ Accepted → Late T
+pub late-each : (T : Tables) → late T ≡ passes → Late T
 unfolding late_checks first_failing
 late-each T e =
     let a = held (leavers_gone T) _ _ e in
@@ -64,6 +64,6 @@ late-each T e =
     let d = held (no_twin T) _ _ c.1 in
     record { gone = a.0; rank = b.0; reach = c.0; twin = d.0 }
 
-pub each-late : (T : Tables) → Late T → late T ≡ Accepted
+pub each-late : (T : Tables) → Late T → late T ≡ passes
 unfolding late_checks first_failing
 each-late T l = rw (l.gone, l.rank, l.reach, l.twin)

@@ -18,8 +18,8 @@ use Rattle.tables.specs.Checks.{leavers_gone, rank_step, ranked, in_reach, no_tw
 use Rattle.tables.specs.Reading.{Bytes, Taken, stop, took, Reader, next, refuse, front, byte, count, word_within, word_row, marked_row, user_row, permission_row, session_row, done_row, rows, section}
 use Rattle.tables.specs.Reading.{roles, permissions, rights, collections, sections, nothing_left, settle, whole, Reading, rejected, taken, tables_of}
 use Rattle.tables.specs.Reading.{assembled, reading_number, rows_read, rank_step_of}
-use Rattle.tables.specs.declared.Outcome.{Outcome}
-use Rattle.tables.specs.declared.Outcome.TheVariants.{Refused, Accepted}
+use Rattle.answers.specs.Outcome.{Outcome, passes, refuses}
+use Rattle.std.specs.declared.result.Result.TheVariants.{Ok, Err}
 use Rattle.tables.proofs.FitsLaws.{next-case}
 use Rattle.tables.proofs.LoadLaws.{OfTables, load-stop, left_over, late-refusal}
 
@@ -136,11 +136,11 @@ pub record RankRefused (b : Bytes) : Type 0 where
   pub reads : sections b ≡ took tables []
   pub fails : rank_step tables.role_rows ≡ 0 → ⊥
 
-late-rank : (T : Tables) → late T ≡ Refused Rank → rank_step T.role_rows ≡ 0 → ⊥
+late-rank : (T : Tables) → late T ≡ refuses Rank → rank_step T.role_rows ≡ 0 → ⊥
 unfolding late_checks first_failing ranked
 late-rank T q z = go (leavers_gone T) (in_reach T) (no_twin T) (rw (eq-eqb (rank_step T.role_rows) 0 z) at q)
   where
-    go : (a b c : Bool) → cond a (cond b (cond c Accepted (Refused Twin)) (Refused Overreach)) (Refused Left) ≡ Refused Rank → ⊥
+    go : (a b c : Bool) → cond a (cond b (cond c passes (refuses Twin)) (refuses Overreach)) (refuses Left) ≡ refuses Rank → ⊥
     go false b c q = let x : Left ≡ Rank = cc in absurd (omega (arith, ap number_of x))
     go true false c q = let x : Overreach ≡ Rank = cc in absurd (omega (arith, ap number_of x))
     go true true false q = let x : Twin ≡ Rank = cc in absurd (omega (arith, ap number_of x))
@@ -148,15 +148,15 @@ late-rank T q z = go (leavers_gone T) (in_reach T) (no_twin T) (rw (eq-eqb (rank
 
 -- A refusal above 6 that is not 10 is that of a late check, on tables with all their sections and nothing behind them.
 late-refused : (b : Bytes) (e : Refusal) → 6 < number_of e → (LeftOver ≡ e → ⊥) → tables_of b ≡ rejected e
-    → (T : Tables) × (sections b ≡ took T []) × (late T ≡ Refused e)
+    → (T : Tables) × (sections b ≡ took T []) × (late T ≡ refuses e)
 unfolding tables_of whole next nothing_left refuse settle
 late-refused b e l other q = go (sections b) refl
   where
-    outcome : (T : Tables) → sections b ≡ took T [] → (o : Outcome) → late T ≡ o → late T ≡ Refused e
-    outcome T i (Refused d) k = let x : d ≡ e = cc (rw (i, k) at q) in k ∙ ap Refused x
-    outcome T i Accepted k = let x : ◌≡◌ {A = ℕ} 0 1 = cc (rw (i, k) at q) in absurd (omega arith)
+    outcome : (T : Tables) → sections b ≡ took T [] → (o : Outcome) → late T ≡ o → late T ≡ refuses e
+    outcome T i (Err d) k = let x : d ≡ e = cc (rw (i, k) at q) in k ∙ ap Err x
+    outcome T i (Ok tt) k = let x : ◌≡◌ {A = ℕ} 0 1 = cc (rw (i, k) at q) in absurd (omega arith)
 
-    go : (t : Taken Tables) → sections b ≡ t → (T : Tables) × (sections b ≡ took T []) × (late T ≡ Refused e)
+    go : (t : Taken Tables) → sections b ≡ t → (T : Tables) × (sections b ≡ took T []) × (late T ≡ refuses e)
     go (stop d) i = let x : d ≡ e = cc (q, load-stop b i) in absurd (omega (arith, low-sections b d i, ap number_of x))
     go (took T []) i = (T, i, outcome T i (late T) refl)
     go (took T (x ∷ s)) i = let y : LeftOver ≡ e = cc (q, left_over b i (omega arith)) in absurd (other y)
@@ -172,11 +172,11 @@ pub record LeftRefused (b : Bytes) : Type 0 where
   pub reads : sections b ≡ took tables []
   pub fails : leavers_gone tables ≡ false
 
-late-left : (T : Tables) → late T ≡ Refused Left → leavers_gone T ≡ false
+late-left : (T : Tables) → late T ≡ refuses Left → leavers_gone T ≡ false
 unfolding late_checks first_failing
 late-left T q = go (leavers_gone T) (ranked T.role_rows) (in_reach T) (no_twin T) q
   where
-    go : (g a b c : Bool) → cond g (cond a (cond b (cond c Accepted (Refused Twin)) (Refused Overreach)) (Refused Rank)) (Refused Left) ≡ Refused Left → g ≡ false
+    go : (g a b c : Bool) → cond g (cond a (cond b (cond c passes (refuses Twin)) (refuses Overreach)) (refuses Rank)) (refuses Left) ≡ refuses Left → g ≡ false
     go false a b c q = refl
     go true false b c q = let x : Rank ≡ Left = cc in absurd (omega (arith, ap number_of x))
     go true true false c q = let x : Overreach ≡ Left = cc in absurd (omega (arith, ap number_of x))

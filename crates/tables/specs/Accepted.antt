@@ -2,7 +2,8 @@
 -- Assumes nothing.
 use Rattle.std.specs.Prelude.{◌≡◌, List, [], ◌∷◌, ℕ, ◌*◌, ◌^◌, ◌≤◌, ◌<◌, length, get_or}
 use Rattle.tables.specs.Tables.{Session, Deed, Tables, user_rows}
-use Rattle.tables.specs.declared.Outcome.TheVariants.{Accepted}
+use Rattle.answers.specs.Outcome.{passes}
+use Rattle.std.specs.declared.result.Result.TheVariants.{Ok}
 use Rattle.tables.specs.Checks.{late}
 
 -- The counts: "Roles, at most 64", "Users, at most 64", "Sessions, at most 64", "Operations, at most 8", "Objects, at most 8",
@@ -58,4 +59,4 @@ pub record Sound (T : Tables) : Type 0 where
 -- "Tables are accepted when no check on them refuses": those, and "After the last section" left, rank, overreach and twin.
 pub record Passes (T : Tables) : Type 0 where
   pub sound : Sound T
-  pub late : late T ≡ Accepted
+  pub late : late T ≡ passes

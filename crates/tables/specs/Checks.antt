@@ -4,8 +4,8 @@ use Rattle.std.specs.Prelude.{Bool, true, ◌&&◌, ◌||◌, not, cond, List, [
 use Rattle.words.specs.Words.{has, item_of}
 use Rattle.answers.specs.declared.Refusal.{Refusal}
 use Rattle.answers.specs.declared.Refusal.TheVariants.{Left, Rank, Overreach, Twin}
-use Rattle.tables.specs.declared.Outcome.{Outcome}
-use Rattle.tables.specs.declared.Outcome.TheVariants.{Refused, Accepted}
+use Rattle.answers.specs.Outcome.{Outcome, passes}
+use Rattle.std.specs.declared.result.Result.TheVariants.{Err}
 use Rattle.tables.specs.Tables.{Tables, user_rows, is_present, session_users}
 use Rattle.tables.specs.Functions.{dominates, active, juniors_of_users}
 
@@ -86,8 +86,8 @@ late_checks T =
     ∷ []
 
 unfoldable pub first_failing : List Check → Outcome
-first_failing [] = Accepted
-first_failing (c ∷ cs) = cond c.holds (first_failing cs) (Refused c.refusal)
+first_failing [] = passes
+first_failing (c ∷ cs) = cond c.holds (first_failing cs) (Err c.refusal)
 
 abbrev pub late : Tables → Outcome
 late T = first_failing (late_checks T)

@@ -1,11 +1,11 @@
 -- Document 01, "Tables" and "Turned back" 1 to 10, document 02, N6: from bytes to a refusal or the tables, front to back; document 02, N4: to a step of the rank test.
 -- Assumes nothing.
-use Rattle.std.specs.Prelude.{Bool, true, false, not, cond, List, [], ◌∷◌, ℕ, zero, suc, ◌*◌, ◌^◌, eqb, ltb, leb, length, get_or, take, drop, replicate}
+use Rattle.std.specs.Prelude.{Bool, true, false, not, cond, List, [], ◌∷◌, ℕ, zero, suc, ◌*◌, ◌^◌, eqb, ltb, leb, length, get_or, take, drop, replicate, Result}
 use Rattle.answers.specs.Refusal.{number_of}
 use Rattle.answers.specs.declared.Refusal.{Refusal}
 use Rattle.answers.specs.declared.Refusal.TheVariants.{CutShort, Overfull, NotEntered, BadMark, NoSuchItem, Miscounted, Rank, LeftOver}
-use Rattle.tables.specs.declared.Outcome.{Outcome}
-use Rattle.tables.specs.declared.Outcome.TheVariants.{Refused, Accepted}
+use Rattle.answers.specs.Outcome.{Outcome}
+use Rattle.std.specs.declared.result.Result.TheVariants.{Ok, Err}
 use Rattle.tables.specs.Tables.{User, Session, Deed, Tables}
 use Rattle.tables.specs.Checks.{rank_step, late}
 use Rattle.tables.specs.Flat.{whole_length, flat}
@@ -194,8 +194,8 @@ nothing_left s = refuse (ltb 0 (length s)) LeftOver s
 
 -- "After the last section come 10, 7, 8, 9 in that order", 20 between 10 and 7: 10 here, the others in `late`.
 unfoldable pub settle : Outcome → Reader (Unit {0})
-settle (Refused e) s = stop e
-settle Accepted s = took tt s
+settle (Err e) s = stop e
+settle (Ok tt) s = took tt s
 
 unfoldable pub whole : Reader Tables
 whole = do
@@ -216,20 +216,20 @@ reading_of (took T s) = taken T
 unfoldable pub tables_of : Bytes → Reading
 tables_of s = reading_of (whole s)
 
--- "When an answer is an enum, a definition gives this paper's number and values for each of its cases": "A refusal gives its number";
--- "An accepted input has number 0."
-abbrev pub outcome_number : Outcome → ℕ
-outcome_number (Refused e) = number_of e
-outcome_number Accepted = 0
-
--- What `read` answers: the refusal's number, or 0 with the flat tables; the words of refused tables are all 0.
+-- "A refusal gives its number"; "An accepted input has number 0."
 abbrev pub reading_number : Reading → ℕ
 reading_number (rejected e) = number_of e
 reading_number (taken T) = 0
 
+-- The words of refused tables are all 0.
 abbrev pub words_of : Reading → List ℕ
 words_of (rejected e) = replicate whole_length 0
 words_of (taken T) = flat T
+
+-- What `read` answers: the refusal, or the flat tables.
+abbrev pub loaded_of : Reading → Result (List ℕ) Refusal
+loaded_of (rejected e) = Err e
+loaded_of (taken T) = Ok (flat T)
 
 -- Document 02, N4: "takes tables' bytes and gives the first step that fails, 1, 2 or 3, where they are refused 7, and 0 for all others."
 abbrev pub rows_read : Taken (List ℕ) → List ℕ

@@ -10,7 +10,7 @@ ghost use Rattle.tables.specs.Flat.{flat};
 use crate::hierarchy::first_failing;
 use crate::layout::part;
 use crate::twins::apart;
-use crate::{Outcome, layout};
+use crate::layout;
 use answers::Refusal;
 use words::{all, image, item, join, less, lowest, preimage, row};
 
@@ -115,21 +115,21 @@ pub fn collections_apart(words: &[u64]) -> bool
 }
 
 // The checks 20, 7, 8 and 9, in that order.
-pub fn checked(words: &[u64]) -> Outcome
+pub fn checked(words: &[u64]) -> Result<(), Refusal>
     requires { CountsFit words.now }
     ensures { (T : Tables) → Fits T → Bounded T → words.now ≡ flat T → result ≡ late T }
 {
     if !leavers_gone(words) {
-        return Outcome::Refused(Refusal::Left);
+        return Err(Refusal::Left);
     }
     if failing_step(words) != 0 {
-        return Outcome::Refused(Refusal::Rank);
+        return Err(Refusal::Rank);
     }
     if !reaches(words) {
-        return Outcome::Refused(Refusal::Overreach);
+        return Err(Refusal::Overreach);
     }
     if !collections_apart(words) {
-        return Outcome::Refused(Refusal::Twin);
+        return Err(Refusal::Twin);
     }
-    Outcome::Accepted
+    Ok(())
 }

@@ -2,11 +2,10 @@
 // The entry points are `read` and `rank_step`; counts and rows are in rows, the sections in sections, the checks of the whole in checks.
 #![tactic(auto)]
 
-ghost use Rattle.std.specs.Prelude.{◌≡◌, [], replicate};
-ghost use Rattle.tables.specs.declared.Outcome.TheVariants.{Accepted as AcceptedOutcome};
+ghost use Rattle.std.specs.Prelude.{◌≡◌, [], replicate, OnOk};
 ghost use Rattle.tables.specs.Flat.{whole_length, flat};
 ghost use Rattle.tables.specs.Tables.{Tables};
-ghost use Rattle.tables.specs.Reading.{took, sections as sections_of, tables_of, outcome_number, reading_number, words_of, rank_step_of};
+ghost use Rattle.tables.specs.Reading.{took, sections as sections_of, tables_of, words_of, loaded_of, rank_step_of};
 ghost use Rattle.tables.specs.Code.Reads.{reading_outcome};
 
 use crate::checks::{checked, failing_step};
@@ -20,18 +19,6 @@ pub mod layout;
 mod rows;
 mod sections;
 mod twins;
-
-#[derive(Clone, Copy)]
-pub enum Outcome {
-    Refused(Refusal),
-    Accepted,
-}
-
-#[derive(Clone, Copy)]
-pub struct Loaded {
-    pub outcome: Outcome,
-    pub words: [u64; WHOLE],
-}
 
 // A row of one word, with the count that its items are below: the word alone, or behind the mark of what was entered.
 #[derive(Clone, Copy)]
@@ -49,38 +36,31 @@ pub enum Step {
 
 // Reads the tables into words that are all 0. Once the sections are read and nothing is left over, the words have them, accepted or not;
 // where reading stopped before, what the words then have means nothing.
-pub fn load(bytes: &[u8], words: &mut [u64]) -> Outcome
+pub fn load(bytes: &[u8], words: &mut [u64]) -> Result<(), Refusal>
     requires { words.old ≡ replicate whole_length 0 }
     ensures value { result ≡ reading_outcome (tables_of bytes.now) }
-    ensures words_after { result ≡ AcceptedOutcome → words.new ≡ words_of (tables_of bytes.now) }
+    ensures words_after { OnOk result (words.new ≡ words_of (tables_of bytes.now)) }
     ensures words_after_2 { (T : Tables) → sections_of bytes.now ≡ took T [] → words.new ≡ flat T }
 {
     let read = sections(bytes, words);
     match read {
-        Step::Stopped(e) => Outcome::Refused(e),
+        Step::Stopped(e) => Err(e),
         Step::Took { value: _, next } => {
             if next < bytes.len() {
-                return Outcome::Refused(Refusal::LeftOver);
+                return Err(Refusal::LeftOver);
             }
             checked(words)
         }
     }
 }
 
-// Document 01, "Tables": the outcome of reading, and the flat tables where they are accepted.
-pub fn read(bytes: &[u8]) -> Loaded
-    ensures outcome_value { outcome_number result.outcome ≡ reading_number (tables_of bytes.now) }
-    ensures words_value { result.words ≡ words_of (tables_of bytes.now) }
+// Document 01, "Tables": the flat tables, or the refusal.
+pub fn read(bytes: &[u8]) -> Result<[u64; WHOLE], Refusal>
+    ensures { result ≡ loaded_of (tables_of bytes.now) }
 {
     let mut words = [0u64; WHOLE];
-    let outcome = load(bytes, &mut words);
-    let Outcome::Accepted = outcome else {
-        return Loaded {
-            outcome,
-            words: [0u64; WHOLE],
-        };
-    };
-    Loaded { outcome, words }
+    load(bytes, &mut words)?;
+    Ok(words)
 }
 
 // Document 02, N4: the first step of the hierarchy test that fails, where the tables are refused for it; 0 for all others.
@@ -88,11 +68,11 @@ pub fn rank_step(bytes: &[u8]) -> u32
     ensures { result ≡ rank_step_of bytes.now }
 {
     let mut words = [0u64; WHOLE];
-    let Outcome::Refused(refusal) = load(bytes, &mut words) else {
+    let Err(refusal) = load(bytes, &mut words) else {
         return 0;
     };
-    let Refusal::Rank = refusal else {
-        return 0;
-    };
-    failing_step(&words)
+    match refusal {
+        Refusal::Rank => failing_step(&words),
+        _ => 0,
+    }
 }

@@ -8,8 +8,8 @@ use Prim.Native.Nat.{ℕ}
 use Rattle.answers.specs.Answer.{Answer, refused, lent}
 use Rattle.answers.specs.Written.{Answers}
 use Rattle.answers.specs.declared.Refusal.{Refusal}
-use Rattle.answers.specs.declared.Written.{Written}
-use Rattle.answers.specs.declared.Written.TheVariants.{Refused}
+use Rattle.answers.specs.Written.{Written}
+use Rattle.std.specs.declared.result.Result.TheVariants.{Err}
 use Rattle.answers.proofs.AnswerLaws.{kept-refused}
 use Rattle.tables.specs.Tables.{Tables}
 use Rattle.tables.specs.Reading.{Reading, rejected, taken, tables_of}
@@ -43,7 +43,7 @@ module _ (tables rule : Bytes) (f : Tables → Rule → Answer) where
   given-answers g = rw (g.reads, g.accepts, g.tree)
 
   -- The same of what is said and written: of tables that are refused, and of those that the words hold.
-  pub both-refused : {e : Refusal} (old : Bytes) → tables_of tables ≡ rejected e → Answers (lent (length old) (of_texts tables rule f)) old old (Refused e)
+  pub both-refused : {e : Refusal} (old : Bytes) → tables_of tables ≡ rejected e → Answers (lent (length old) (of_texts tables rule f)) old old (Err e)
   both-refused {e} old t = rw (tables-refused t) (kept-refused (length old) old e)
 
   pub both-taken : {ts : List ℕ} {old new : Bytes} {w : Written} (q : Took tables ts) → AnswersOn ts rule f old new w

@@ -13,7 +13,8 @@ use Rattle.syntax.specs.Bytes.{Bytes}
 use Rattle.syntax.specs.Term.{Choices}
 use Rattle.syntax.specs.Rule.{Rule, rule_vars, rule_of}
 use Rattle.syntax.proofs.ArenaLaws.{all_one}
-use Rattle.rules.specs.declared.Checked.TheVariants.{Refused, Accepted}
+use Rattle.answers.specs.Outcome.{passes}
+use Rattle.std.specs.declared.result.Result.TheVariants.{Err}
 use Rattle.rules.specs.declared.Parsed.{Parsed}
 use Rattle.walks.specs.Choices.{nothing_chosen, each, if_breaks}
 use Rattle.walks.specs.Meaning.{Once, After, Admissible}
@@ -45,11 +46,11 @@ up-numbers = refl
 
 module _ {p : Parsed} {s : Bytes} (P : ParsedFrom s p) where
   -- A refused rule has its refusal.
-  pub turn-refused : {e : Refusal} → p.outcome ≡ Refused e → (T : Tables) → refused_by e ≡ turn_verdict T s
+  pub turn-refused : {e : Refusal} → p.outcome ≡ Err e → (T : Tables) → refused_by e ≡ turn_verdict T s
   unfolding turn_verdict
   turn-refused h T = parsed-refused P h T (turn_order (rule_of s))
 
-  module _ (h : p.outcome ≡ Accepted) where
+  module _ (h : p.outcome ≡ passes) where
     abbrev ρ : Rule
     ρ = (parsed-rule P h).tree
 

@@ -12,8 +12,8 @@ use Rattle.tables.specs.Flat.{flat}
 use Rattle.tables.specs.Code.Layout.{Whole}
 use Rattle.tables.specs.Reading.{Reading, rejected, taken, tables_of, outcome_number, reading_number, words_of}
 use Rattle.tables.specs.Code.Reads.{reading_outcome}
-use Rattle.tables.specs.declared.Outcome.{Outcome}
-use Rattle.tables.specs.declared.Outcome.TheVariants.{Refused, Accepted}
+use Rattle.answers.specs.Outcome.{Outcome, passes}
+use Rattle.std.specs.declared.result.Result.TheVariants.{Err}
 use Rattle.tables.proofs.FlatLaws.{length-flat}
 use Rattle.tables.proofs.LoadLaws.{refused_as, outcome-case}
 use Rattle.tables.proofs.OneLaws.{tables-one}
@@ -41,22 +41,22 @@ all_pass T L F w = rw (tables-one T L.tables (sym w ∙ L.holds.words) F L.holds
 
 -- What `tables::load` says, by its case.
 module _ (b : Bytes) {o : Outcome} (said : o ≡ reading_outcome (tables_of b)) where
-  pub load-rejected : {e : Refusal} → o ≡ Refused e → tables_of b ≡ rejected e
+  pub load-rejected : {e : Refusal} → o ≡ Err e → tables_of b ≡ rejected e
   load-rejected h = refused_as (tables_of b) said h
 
-  pub load-taken : {ts : List ℕ} → (o ≡ Accepted → ts ≡ words_of (tables_of b)) → o ≡ Accepted → Took b ts
+  pub load-taken : {ts : List ℕ} → (o ≡ passes → ts ≡ words_of (tables_of b)) → o ≡ passes → Took b ts
   load-taken {ts} w h = go (tables_of b) refl (sym said ∙ h)
     where
-      go : (q : Reading) → tables_of b ≡ q → reading_outcome q ≡ Accepted → Took b ts
+      go : (q : Reading) → tables_of b ≡ q → reading_outcome q ≡ passes → Took b ts
       go (rejected p) e k = let z : ◌≡◌ {A = ℕ} 0 1 = cc in absurd (omega arith)
       go (taken T) e k = record { tables = T; is = e; holds = record { passes = accepted-passes b e; words = w h ∙ ap words_of e } }
 
 -- What `tables::read` says, by its number.
 module _ (b : Bytes) {o : Outcome} (n : outcome_number o ≡ reading_number (tables_of b)) where
-  pub was-rejected : {e : Refusal} → o ≡ Refused e → tables_of b ≡ rejected e
+  pub was-rejected : {e : Refusal} → o ≡ Err e → tables_of b ≡ rejected e
   was-rejected h = load-rejected b (outcome-case (tables_of b) o n) h
 
-  pub was-taken : {ts : List ℕ} → ts ≡ words_of (tables_of b) → o ≡ Accepted → Took b ts
+  pub was-taken : {ts : List ℕ} → ts ≡ words_of (tables_of b) → o ≡ passes → Took b ts
   was-taken w h = load-taken b (outcome-case (tables_of b) o n) (λ _. w) h
 
 -- On tables that are taken the verdict is that of the rule and the order.

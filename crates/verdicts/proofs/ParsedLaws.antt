@@ -11,8 +11,8 @@ use Rattle.answers.specs.declared.Refusal.{Refusal}
 use Rattle.tables.specs.Tables.{Tables}
 use Rattle.syntax.specs.Bytes.{Bytes}
 use Rattle.syntax.specs.Rule.{Rule}
-use Rattle.rules.specs.declared.Checked.{Checked}
-use Rattle.rules.specs.declared.Checked.TheVariants.{Refused, Accepted}
+use Rattle.answers.specs.Outcome.{Outcome, passes}
+use Rattle.std.specs.declared.result.Result.TheVariants.{Err}
 use Rattle.rules.specs.Accept.{refusal}
 use Rattle.rules.specs.Code.Parsed.{checked_of, RuleAt, Parses}
 use Rattle.values.proofs.BoundLaws.{accepted-within}
@@ -22,20 +22,20 @@ use Rattle.judging.specs.Code.Lent.{Case, Lent}
 use Rattle.verdicts.specs.Code.Judging.{TablesAt, Loaded}
 use Rattle.verdicts.proofs.LoadedLaws.{loaded-whole}
 
-checked-none : (q : Option Refusal) → checked_of q ≡ Accepted → q ≡ none
+checked-none : (q : Option Refusal) → checked_of q ≡ passes → q ≡ none
 checked-none none e = refl
 checked-none (some r) e = let z : ◌≡◌ {A = ℕ} 0 1 = cc in absurd (omega arith)
 
-checked-some : (q : Option Refusal) {e : Refusal} → checked_of q ≡ Refused e → q ≡ some e
+checked-some : (q : Option Refusal) {e : Refusal} → checked_of q ≡ Err e → q ≡ some e
 checked-some none h = let z : ◌≡◌ {A = ℕ} 0 1 = cc in absurd (omega arith)
 checked-some (some p) h = cc
 
-module _ {s : Bytes} {ns ks vs : List ℕ} {o : Checked} {n root count : ℕ} (p : Parses s ns ks vs o n root count) where
+module _ {s : Bytes} {ns ks vs : List ℕ} {o : Outcome} {n root count : ℕ} (p : Parses s ns ks vs o n root count) where
   -- A refused rule has its refusal;
-  pub parsed-rejects : {e : Refusal} → o ≡ Refused e → refusal s ≡ some e
+  pub parsed-rejects : {e : Refusal} → o ≡ Err e → refusal s ≡ some e
   parsed-rejects h = checked-some (refusal s) (sym p.outcome ∙ h)
 
-  pub parsed-refused : {e : Refusal} → o ≡ Refused e → (T : Tables) (order : Bytes) → refused_by e ≡ accepted_verdict T (refusal s) s order
+  pub parsed-refused : {e : Refusal} → o ≡ Err e → (T : Tables) (order : Bytes) → refused_by e ≡ accepted_verdict T (refusal s) s order
   unfolding accepted_verdict
   parsed-refused h T order = rw (parsed-rejects h)
 
@@ -48,7 +48,7 @@ module _ {s : Bytes} {ns ks vs : List ℕ} {o : Checked} {n root count : ℕ} (p
       go (some r) e = omega (arith, (p.refused r e).no_variable)
 
   -- The slices of an accepted one hold it, and the verdict along the order is its verdict.
-  module _ (h : o ≡ Accepted) where
+  module _ (h : o ≡ passes) where
     pub parsed-accepts : refusal s ≡ none
     parsed-accepts = checked-none (refusal s) (sym p.outcome ∙ h)
 

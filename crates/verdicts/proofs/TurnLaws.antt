@@ -10,7 +10,7 @@ use Rattle.answers.specs.declared.Refusal.{Refusal}
 use Rattle.answers.specs.declared.Refusal.TheVariants.{NotAnOrder}
 use Rattle.syntax.specs.Bytes.{Bytes}
 use Rattle.syntax.specs.Rule.{Rule, rule_of}
-use Rattle.rules.specs.declared.Checked.{Checked}
+use Rattle.answers.specs.Outcome.{Outcome}
 use Rattle.rules.specs.Accept.{refusal}
 use Rattle.rules.specs.Code.Parsed.{Parses}
 use Rattle.rules.proofs.AcceptLaws.{accepted-rule, refused-early}
@@ -39,7 +39,7 @@ unfolding up_from
 up-eight = refl
 
 -- Along as many numbers as a parsed rule has variables it is judged in turn.
-pub judged-turn : {s : Bytes} {ns ks vs : List ℕ} {o : Checked} {n root count : ℕ} → Parses s ns ks vs o n root count → (T : Tables) {r : Verdict}
+pub judged-turn : {s : Bytes} {ns ks vs : List ℕ} {o : Outcome} {n root count : ℕ} → Parses s ns ks vs o n root count → (T : Tables) {r : Verdict}
     → r ≡ accepted_verdict T (refusal s) s (take count eight) → r ≡ turn_verdict T s
 unfolding turn_verdict turn_order accepted_verdict
 judged-turn {s} {count = count} p T e = e ∙ rw (← up-eight, take-up count 8 1 (parsed-few p)) (go (refusal s) refl)

@@ -5,15 +5,15 @@ use Rattle.std.proofs.Math.Option.{Option, none, some}
 use Rattle.answers.specs.declared.Refusal.{Refusal}
 use Rattle.tables.specs.Tables.{Tables}
 use Rattle.tables.specs.Code.Loaded.{TablesAt}
-use Rattle.tables.specs.declared.Outcome.{Outcome}
-use Rattle.tables.specs.declared.Outcome.TheVariants.{Refused, Accepted}
+use Rattle.answers.specs.Outcome.{Outcome}
+use Rattle.std.specs.declared.result.Result.TheVariants.{Ok, Err}
 use Rattle.changes.specs.declared.Change.{Change}
 use Rattle.changes.specs.Change.{changed, change_refusal}
 
 -- What refuses the change of the tables that the words hold.
 abbrev pub due_in : Outcome → Option Refusal
-due_in (Refused e) = some e
-due_in Accepted = none
+due_in (Err e) = some e
+due_in (Ok tt) = none
 
 abbrev pub DueBy : List ℕ → Change → Outcome → Type 0
 DueBy ts c r = (T : Tables) → TablesAt ts T → due_in r ≡ change_refusal T c

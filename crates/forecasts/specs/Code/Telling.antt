@@ -2,7 +2,7 @@
 -- Internal: contracts of entry points do not speak of it. Assumes nothing.
 use Rattle.std.specs.Prelude.{List, ℕ}
 use Rattle.answers.specs.Answer.{wrote}
-use Rattle.answers.specs.declared.Written.{Written}
+use Rattle.answers.specs.Written.{Written}
 use Rattle.syntax.specs.Bytes.{Bytes}
 use Rattle.verdicts.specs.Code.Judging.{AnswersOn}
 use Rattle.forecasts.specs.Forecast.{forecast_bytes}

@@ -5,8 +5,8 @@ use Rattle.std.proofs.Math.Option.{some}
 use Rattle.std.proofs.Math.ListN.{get_elem?}
 use Rattle.answers.specs.Answer.{wrote, lent}
 use Rattle.answers.specs.Written.{Answers}
-use Rattle.answers.specs.declared.Written.{Written}
-use Rattle.answers.specs.declared.Written.TheVariants.{Refused, Wrote}
+use Rattle.answers.specs.Written.{Written}
+use Rattle.std.specs.declared.result.Result.TheVariants.{Ok, Err}
 use Rattle.tables.specs.Tables.{Tables}
 use Rattle.tables.specs.Bytes.{lowest_first}
 use Rattle.texts.specs.Pieces.{lines}
@@ -89,8 +89,8 @@ JudgesPageOn ts page old new r = (T : Tables) → TablesAt ts T → PageAnswers 
 
 -- What a call that writes says, as the page's answer does.
 abbrev pub placed_as : Written → Answered
-placed_as (Refused e) = RefusedPage e 0
-placed_as (Wrote n) = WrotePage n
+placed_as (Err e) = RefusedPage e 0
+placed_as (Ok n) = WrotePage n
 
 abbrev pub Placed : Written → Answered → Type 0
 Placed w r = r ≡ placed_as w

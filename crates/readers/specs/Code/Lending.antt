@@ -3,7 +3,7 @@
 use Rattle.std.specs.Prelude.{List, ℕ, length}
 use Rattle.answers.specs.Answer.{wrote, lent}
 use Rattle.answers.specs.Written.{Answers}
-use Rattle.answers.specs.declared.Written.{Written}
+use Rattle.answers.specs.Written.{Written}
 use Rattle.syntax.specs.Bytes.{Bytes}
 use Rattle.tables.specs.Tables.{Tables}
 use Rattle.tables.specs.Reading.{taken}

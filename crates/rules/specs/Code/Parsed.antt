@@ -7,8 +7,8 @@ use Rattle.syntax.specs.Bytes.{Bytes}
 use Rattle.syntax.specs.Rule.{Rule, rule_vars, rule_of}
 use Rattle.syntax.specs.Code.Arena.{HoldsRule, Tidy}
 use Rattle.syntax.specs.Code.Reading.{mk, Knows}
-use Rattle.rules.specs.declared.Checked.{Checked}
-use Rattle.rules.specs.declared.Checked.TheVariants.{Refused, Accepted}
+use Rattle.answers.specs.Outcome.{Outcome, passes}
+use Rattle.std.specs.declared.result.Result.TheVariants.{Err}
 use Rattle.rules.specs.declared.Found.{Found}
 use Rattle.rules.specs.declared.Found.TheVariants.{Rejected, Rule as Tree}
 use Rattle.rules.specs.Accept.{rule_limit, choices_limit, deep, tree_refusal, refusal}
@@ -20,9 +20,9 @@ pub record FitText (s : Bytes) : Type 0 where
   pub short : length s ≤ rule_limit
   pub shallow : deep 0 0 s ≡ false
 
-pub data ChecksText (s : Bytes) : Checked → Type 0 where
-  turned : {r : Refusal} → refusal s ≡ some r → ChecksText s (Refused r)
-  passed : FitText s → ChecksText s Accepted
+pub data ChecksText (s : Bytes) : Outcome → Type 0 where
+  turned : {r : Refusal} → refusal s ≡ some r → ChecksText s (Err r)
+  passed : FitText s → ChecksText s passes
 
 -- The tree of an accepted text s, at root in the first n nodes; the kinds ks of the nodes; the nodes of its variables, the first of vs.
 pub record RuleAt (s : Bytes) (ns : List ℕ) (n root : ℕ) (ks vs : List ℕ) (count : ℕ) : Type 0 where
@@ -63,12 +63,12 @@ pub record Blank (ns : List ℕ) (n root : ℕ) (ks vs : List ℕ) (count : ℕ)
   pub no_variable : count ≡ 0
 
 -- The case of an answer: the first refusal of 11 to 15, or that none refuses.
-abbrev pub checked_of : Option Refusal → Checked
-checked_of none = Accepted
-checked_of (some r) = Refused r
+abbrev pub checked_of : Option Refusal → Outcome
+checked_of none = passes
+checked_of (some r) = Err r
 
 -- The answer to a text; where it is accepted its tree, and where it is refused nothing.
-pub record Parses (s : Bytes) (ns ks vs : List ℕ) (o : Checked) (n root count : ℕ) : Type 0 where
+pub record Parses (s : Bytes) (ns ks vs : List ℕ) (o : Outcome) (n root count : ℕ) : Type 0 where
   pub outcome : o ≡ checked_of (refusal s)
   pub accepted : refusal s ≡ none → RuleAt s ns n root ks vs count
   pub refused : (r : Refusal) → refusal s ≡ some r → Blank ns n root ks vs count

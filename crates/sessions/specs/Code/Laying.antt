@@ -4,14 +4,15 @@ use Rattle.std.specs.Prelude.{◌≡◌, List, ℕ, ◌+◌, ◌*◌, ◌-◌, �
 use Rattle.std.proofs.Math.Option.{none, some}
 use Rattle.answers.specs.Answer.{wrote, lent}
 use Rattle.answers.specs.Written.{Answers}
-use Rattle.answers.specs.declared.Written.{Written}
+use Rattle.answers.specs.Written.{Written}
 use Rattle.tables.specs.Tables.{Tables}
 use Rattle.tables.specs.Encode.{encode}
 use Rattle.tables.specs.Code.Layout.{role_count_at, user_count_at}
 use Rattle.syntax.specs.Bytes.{Bytes}
 use Rattle.syntax.specs.Rule.{Rule, rule_of}
 use Rattle.rules.specs.declared.Parsed.{Parsed}
-use Rattle.rules.specs.declared.Checked.TheVariants.{Accepted}
+use Rattle.answers.specs.Outcome.{passes}
+use Rattle.std.specs.declared.result.Result.TheVariants.{Ok}
 use Rattle.texts.specs.Code.Overwritten.{Overwritten, Added}
 use Rattle.verdicts.specs.Code.Judging.{TablesAt, ParsedFrom, AnswersOn}
 use Rattle.changes.specs.declared.Change.{Change}
@@ -38,7 +39,7 @@ rule_of_front front = drop 28 front
 pub record Front (front : Bytes) (p : Parsed) : Type 0 where
   pub long : 28 ≤ length front
   pub parses : ParsedFrom (rule_of_front front) p
-  pub accepts : p.outcome ≡ Accepted
+  pub accepts : p.outcome ≡ passes
 
 -- The words and the bytes hold the same tables.
 pub record Holds (ts : List ℕ) (b : Bytes) : Type 0 where

@@ -4,13 +4,13 @@ use mathlib.Core.Path.{sym, ap, ◌∙◌}
 use Rattle.tables.specs.Flat.{flat}
 use Rattle.tables.proofs.ReadLaws.{as-took, as-stop}
 use Rattle.tables.proofs.PartLaws.{counts-fit}
-use Rattle.tables.proofs.LoadLaws.{load-stop, load-left, late-outcome, late-taken, whole_of, never, read-stopped, read_left, read-once}
+use Rattle.tables.proofs.LoadLaws.{load-stop, load-left, late-outcome, late-taken, whole_of, on-ok, read-stopped, read_left, read-once}
 use Rattle.tables.proofs.load.Goals as goal
 
 pub returns-then-next-bytes : goal.returns-then-next-bytes
 returns-then-next-bytes c =
     let w = whole_of c.requires (as-took c.sections-read.ensures c.in-Took.is) in
-    record { value = rw (load-left c.args.bytes.now w.reads c.if-next-bytes.true); words_after = λ z. never z; words_after_2 = λ T q. read_left c.args.bytes.now q w.reads c.if-next-bytes.true }
+    record { value = rw (load-left c.args.bytes.now w.reads c.if-next-bytes.true); words_after = tt; words_after_2 = λ T q. read_left c.args.bytes.now q w.reads c.if-next-bytes.true }
 
 pub checked-requires : goal.checked-requires
 checked-requires c =
@@ -20,9 +20,9 @@ checked-requires c =
 pub returns-in-Stopped : goal.returns-in-Stopped
 returns-in-Stopped c =
     let stops = as-stop c.sections-read.ensures c.in-Stopped.is in
-    record { value = rw (load-stop c.args.bytes.now stops); words_after = λ z. never z; words_after_2 = λ T q. read-stopped c.args.bytes.now q stops }
+    record { value = rw (load-stop c.args.bytes.now stops); words_after = tt; words_after_2 = λ T q. read-stopped c.args.bytes.now q stops }
 
 pub returns-else-next-bytes : goal.returns-else-next-bytes
 returns-else-next-bytes c =
     let w = whole_of c.requires (as-took c.sections-read.ensures c.in-Took.is) in
-    let o = c.checked.ensures w.tables w.sound.fits w.sound.bounded w.flatly in record { value = o ∙ late-outcome c.args.bytes.now w.reads c.if-next-bytes.false; words_after = λ z. rw (late-taken c.args.bytes.now w.reads c.if-next-bytes.false (sym o ∙ z)) w.flatly; words_after_2 = λ T q. w.flatly ∙ ap flat (read-once c.args.bytes.now q w.reads) }
+    let o = c.checked.ensures w.tables w.sound.fits w.sound.bounded w.flatly in record { value = o ∙ late-outcome c.args.bytes.now w.reads c.if-next-bytes.false; words_after = on-ok _ (λ z. rw (late-taken c.args.bytes.now w.reads c.if-next-bytes.false (sym o ∙ z)) w.flatly); words_after_2 = λ T q. w.flatly ∙ ap flat (read-once c.args.bytes.now q w.reads) }

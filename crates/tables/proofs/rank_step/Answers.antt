@@ -1,7 +1,7 @@
 -- `tables::rank_step`: the hierarchy test again, on the words that `load` left, where it refused by rank.
 -- Assumes nothing.
 use mathlib.Core.Path.{sym, ap, ◌∙◌}
-use Rattle.tables.specs.declared.Outcome.TheVariants.{Refused}
+use Rattle.answers.specs.Outcome.{refuses}
 use Rattle.tables.specs.Code.Reads.{reading_outcome}
 use Rattle.tables.proofs.FitsLaws.{sections-sound}
 use Rattle.tables.proofs.LoadLaws.{never, refused-one, refused_as}
@@ -14,17 +14,17 @@ returns-in_default c = sym (rank-other c.args.bytes.now (λ q. never (sym (ap re
 
 pub returns-in_default-refusal : goal.returns-in_default-refusal
 returns-in_default-refusal c =
-    sym (rank-other c.args.bytes.now (λ q. c.in_default-refusal.not-Rank (refused-one (sym c.in-Refused.is ∙ c.load.ensures.value ∙ ap reading_outcome q))))
+    sym (rank-other c.args.bytes.now (λ q. c.in_default-refusal.not-Rank (refused-one (sym c.in-Err.is ∙ c.load.ensures.value ∙ ap reading_outcome q))))
 
 pub failing_step-requires : goal.failing_step-requires
 failing_step-requires c =
-    let q = refused_as _ c.load.ensures.value (c.in-Refused.is ∙ ap Refused c.in-Rank.is) in
+    let q = refused_as _ c.load.ensures.value (c.in-Err.is ∙ ap refuses c.in-Rank.is) in
     let w = rank-refused c.args.bytes.now q in
     counts-fit w.tables (sections-sound c.args.bytes.now w.reads).fits (c.load.ensures.words_after_2 w.tables w.reads)
 
-pub returns : goal.returns
-returns c =
-    let q = refused_as _ c.load.ensures.value (c.in-Refused.is ∙ ap Refused c.in-Rank.is) in
+pub returns-in-Rank : goal.returns-in-Rank
+returns-in-Rank c =
+    let q = refused_as _ c.load.ensures.value (c.in-Err.is ∙ ap refuses c.in-Rank.is) in
     let w = rank-refused c.args.bytes.now q in
     let s = sections-sound c.args.bytes.now w.reads in
     c.failing_step.ensures w.tables s.fits s.bounded (c.load.ensures.words_after_2 w.tables w.reads)

@@ -7,8 +7,8 @@ use Rattle.tables.specs.declared.Row.{Row}
 use Rattle.tables.specs.declared.Row.TheVariants.{Plain, Marked}
 use Rattle.tables.specs.declared.Step.{Step}
 use Rattle.tables.specs.declared.Step.TheVariants.{Stopped, Took}
-use Rattle.tables.specs.declared.Outcome.{Outcome}
-use Rattle.tables.specs.declared.Outcome.TheVariants.{Refused, Accepted}
+use Rattle.answers.specs.Outcome.{Outcome, passes}
+use Rattle.std.specs.declared.result.Result.TheVariants.{Err}
 use Rattle.tables.specs.Tables.{User, Session, Deed, Tables, present_in}
 use Rattle.tables.specs.Reading.{Bytes, Taken, Reader, stop, took, word_row, MarkedRow, permission_row, Rights, Collections, Reading, rejected, taken}
 use Rattle.tables.specs.Checks.{all_to}
@@ -25,8 +25,8 @@ pub data Reads {A : Type 0} (s : Bytes) (Holds : A → ℕ → Type 0) : Step �
 
 -- The case of the outcome that a reading has.
 abbrev pub reading_outcome : Reading → Outcome
-reading_outcome (rejected e) = Refused e
-reading_outcome (taken T) = Accepted
+reading_outcome (rejected e) = Err e
+reading_outcome (taken T) = passes
 
 -- A count within its limit.
 pub record IsCount (limit a v : ℕ) : Type 0 where

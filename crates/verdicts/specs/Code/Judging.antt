@@ -4,7 +4,7 @@ use Rattle.std.specs.Prelude.{◌≡◌, List, ℕ, length}
 use Rattle.std.proofs.Math.Option.{some}
 use Rattle.answers.specs.Answer.{Answer, lent}
 use Rattle.answers.specs.Written.{Answers}
-use Rattle.answers.specs.declared.Written.{Written}
+use Rattle.answers.specs.Written.{Written}
 use Rattle.tables.specs.Tables.{Tables}
 use Rattle.tables.specs.Reading.{taken}
 pub use Rattle.tables.specs.Code.Loaded.{TablesAt, Loaded}

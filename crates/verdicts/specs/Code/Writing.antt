@@ -3,7 +3,7 @@
 use Rattle.std.specs.Prelude.{◌≡◌, List, ◌++◌, ℕ, ◌-◌, ◌≤◌, length}
 use Rattle.answers.specs.Answer.{wrote, lent}
 use Rattle.answers.specs.Written.{Answers}
-use Rattle.answers.specs.declared.Written.{Written}
+use Rattle.answers.specs.Written.{Written}
 use Rattle.tables.specs.Bytes.{lowest_first}
 use Rattle.texts.specs.Code.Overwritten.{Behind}
 use Rattle.verdicts.specs.declared.Verdict.{Verdict}
