@@ -16,15 +16,16 @@ use Rattle.syntax.specs.Code.Arena.{HoldsRule, Tidy}
 use Rattle.syntax.specs.Code.Reading.{Rooted}
 use Rattle.syntax.proofs.NameLaws.{all-length}
 use Rattle.answers.specs.Outcome.{Outcome, passes}
-use Rattle.std.specs.declared.result.Result.TheVariants.{Err}
-use Rattle.rules.specs.declared.Found.{Found}
-use Rattle.rules.specs.declared.Found.TheVariants.{Rejected, Rule as Tree}
+use Rattle.std.specs.declared.result.Result.{Result}
+use Rattle.std.specs.declared.result.Result.TheVariants.{Ok, Err}
+use Rattle.rules.specs.declared.Tree.{Tree}
+use Rattle.rules.specs.declared.Parsed.{Parsed}
 use Rattle.rules.specs.Kind.{rule_kinds}
 use Rattle.rules.specs.Accept.{choices_limit, refusal}
 use Rattle.rules.specs.Code.Numbers.{Fills}
 use Rattle.rules.specs.Code.Variables.{VarsOf}
 use Rattle.rules.specs.Code.Lengths.{FormulaIn}
-use Rattle.rules.specs.Code.Parsed.{FitText, ChecksText, turned, passed, RuleAt, Fitted, ChecksTree, unfit, fit, Finds, rejected, found, Blank, Parses}
+use Rattle.rules.specs.Code.Parsed.{FitText, ChecksText, turned, passed, RuleAt, Fitted, ChecksTree, unfit, fit, Finds, rejected, found, ParsedFrom, Parses, refused, parsed}
 use Rattle.rules.proofs.AcceptLaws.{refuse-tree, tree-mismatch, tree-choices, tree-fits, accepted-gives, formula-within}
 use Rattle.rules.proofs.VariableLaws.{listed-count}
 
@@ -33,14 +34,14 @@ module _ {ns : List ℕ} {n root : ℕ} {ks₀ ks : List ℕ} {r : Bool} (filled
   rule-kinds : (ρ : Rule) → HoldsRule ns root ρ → rule_kinds ρ ≡ r
   rule-kinds ρ h = sym ((filled.kinded.at root within).rule ρ h) ∙ sym filled.fits
 
-  pub check-tree-mismatch : {vs : List ℕ} → r ≡ false → ChecksTree ns n root ks vs (Rejected KindMismatch)
+  pub check-tree-mismatch : {vs : List ℕ} → r ≡ false → ChecksTree ns n root ks vs (Err KindMismatch)
   check-tree-mismatch e = unfit (λ ρ h. tree-mismatch ρ (rule-kinds ρ h ∙ e))
 
   module _ {vs : List ℕ} {c : ℕ} (e : r ≡ true) (vars : VarsOf ns n root vs c) where
-    pub check-tree-choices : choices_limit < c → ChecksTree ns n root ks vs (Rejected Choices)
+    pub check-tree-choices : choices_limit < c → ChecksTree ns n root ks vs (Err Choices)
     check-tree-choices many = unfit (λ ρ h. tree-choices ρ (rule-kinds ρ h ∙ e) ((vars.listed ρ h).more many))
 
-    pub check-tree-fit : c ≤ choices_limit → ChecksTree ns n root ks vs (Tree n root c)
+    pub check-tree-fit : c ≤ choices_limit → ChecksTree ns n root ks vs (Ok (record { n = n; root = root; count = c }))
     check-tree-fit few = fit go
       where
         go : (ρ : Rule) → HoldsRule ns root ρ → Fitted ns n ks vs c ρ
@@ -67,7 +68,7 @@ as_passed (turned e) q = let z : ◌≡◌ {A = ℕ} 0 1 = cc in absurd (omega a
 as_passed (passed f) q = f
 
 -- The checks on a text whose tree was read.
-pub find-tree : {s ns : List ℕ} {n root : ℕ} {ks vs : List ℕ} {w : Found} → FitText s → Rooted s ns root n (rule_of s) → ChecksTree ns n root ks vs w → Finds s ns ks vs w
+pub find-tree : {s ns : List ℕ} {n root : ℕ} {ks vs : List ℕ} {w : Result Tree Refusal} → FitText s → Rooted s ns root n (rule_of s) → ChecksTree ns n root ks vs w → Finds s ns ks vs w
 find-tree {s} fits t (unfit f) = rejected (refuse-tree s fits t.is ∙ f t.rule t.holds)
 find-tree {s} fits t (fit f) =
     let g = f t.rule t.holds in
@@ -86,42 +87,41 @@ find-tree {s} fits t (fit f) =
 
 -- What was found of a text.
 
-pub as-rejected : {s ns ks vs : List ℕ} {f : Found} {r : Refusal} → Finds s ns ks vs f → f ≡ Rejected r → refusal s ≡ some r
+pub as-rejected : {s ns ks vs : List ℕ} {f : Result Tree Refusal} {r : Refusal} → Finds s ns ks vs f → f ≡ Err r → refusal s ≡ some r
 as-rejected {r = r} (rejected {r = r'} e) q = let g : r' ≡ r = cc in e ∙ ap some g
 as-rejected (found e a) q = let z : ◌≡◌ {A = ℕ} 0 1 = cc in absurd (omega arith)
 
-pub as-found : {s ns ks vs : List ℕ} {f : Found} {n root count : ℕ} → Finds s ns ks vs f → f ≡ Tree n root count → (refusal s ≡ none) × RuleAt s ns n root ks vs count
+pub as-found : {s ns ks vs : List ℕ} {f : Result Tree Refusal} {t : Tree} → Finds s ns ks vs f → f ≡ Ok t → (refusal s ≡ none) × RuleAt s ns t.n t.root ks vs t.count
 as-found (rejected e) q = let z : ◌≡◌ {A = ℕ} 0 1 = cc in absurd (omega arith)
-as-found {n = n} {root = root} {count = count} (found {n = n'} {root = root'} {count = count'} e a) q =
-    let g : n' ≡ n = cc in
-    let h : root' ≡ root = cc in
-    let i : count' ≡ count = cc in
-    (e, rw g at (rw h at (rw i at a)))
+as-found {t = t} (found {t = t'} e a) q = let g : t' ≡ t = cc in (e, rw g at a)
 
 -- The nodes of its variables are among those lent, and it may be measured.
-module _ {s ns ks vs : List ℕ} {f : Found} {n root count : ℕ} (p : Finds s ns ks vs f) (e : f ≡ Tree n root count) where
-  abbrev at : RuleAt s ns n root ks vs count
+module _ {s ns ks vs : List ℕ} {f : Result Tree Refusal} {t : Tree} (p : Finds s ns ks vs f) (e : f ≡ Ok t) where
+  abbrev at : RuleAt s ns t.n t.root ks vs t.count
   at = (as-found p e).1
 
-  pub found-few : count ≤ length vs
-  found-few = omega (arith, at.counted, all-length ns (take count vs) (rule_vars [] at.tree) at.knows.holds, length-take count vs)
+  pub found-few : t.count ≤ length vs
+  found-few = omega (arith, at.counted, all-length ns (take t.count vs) (rule_vars [] at.tree) at.knows.holds, length-take t.count vs)
 
-  pub found-tidy : Tidy ns n × (root < n)
+  pub found-tidy : Tidy ns t.n × (t.root < t.n)
   found-tidy = (at.tidy, at.within)
 
 -- A parsed text.
 
-pub parse-rejected : {s ns ks vs ns₀ ks₀ vs₀ : List ℕ} {f : Found} {r : Refusal} {o : Outcome} {n root count : ℕ} → Finds s ns₀ ks₀ vs₀ f → f ≡ Rejected r → o ≡ Err r
-    → Blank ns n root ks vs count → Parses s ns ks vs o n root count
-parse-rejected f q h b =
-    let e = as-rejected f q in
-    record { outcome = h ∙ rw e; accepted = λ z. let y : ◌≡◌ {A = ℕ} 0 1 = cc in absurd (omega arith); refused = λ _ _. b }
+pub parse-rejected : {s ns ks vs : List ℕ} {f : Result Tree Refusal} {r : Refusal} → Finds s ns ks vs f → f ≡ Err r → Parses s (Err r)
+parse-rejected f q = refused (as-rejected f q)
 
-pub parse-found : {s ns ks vs : List ℕ} {f : Found} {n root count : ℕ} → Finds s ns ks vs f → f ≡ Tree n root count → Parses s ns ks vs passes n root count
-parse-found f q =
-    let t = as-found f q in
-    let e = t.0 in
-    record { outcome = rw e; accepted = λ _. t.1; refused = λ r y. let z : ◌≡◌ {A = ℕ} 0 1 = cc in absurd (omega arith) }
+pub parse-found : {s : List ℕ} {p : Parsed} {f : Result Tree Refusal} → Finds s p.nodes p.kinds p.vars f → f ≡ Ok (record { n = p.n; root = p.root; count = p.count })
+    → Parses s (Ok p)
+parse-found f q = let t = as-found f q in parsed (record { accepts = t.0; rule = t.1 })
+
+pub as-parsed : {s : Bytes} {w : Result Parsed Refusal} {p : Parsed} → Parses s w → w ≡ Ok p → ParsedFrom s p
+as-parsed (refused e) q = let z : ◌≡◌ {A = ℕ} 0 1 = cc in absurd (omega arith)
+as-parsed {p = p} (parsed {p = p'} h) q = let g : p' ≡ p = cc in rw g at h
+
+pub as-refused : {s : Bytes} {w : Result Parsed Refusal} {r : Refusal} → Parses s w → w ≡ Err r → refusal s ≡ some r
+as-refused {r = r} (refused {r = r'} e) q = let g : r' ≡ r = cc in e ∙ ap some g
+as-refused (parsed h) q = let z : ◌≡◌ {A = ℕ} 0 1 = cc in absurd (omega arith)
 
 -- The formula of an accepted text is so short that its length is told exactly.
 pub formula-exact : {s ns : List ℕ} {n root : ℕ} {ks vs : List ℕ} {c r : ℕ} → refusal s ≡ none → (a : RuleAt s ns n root ks vs c) → FormulaIn ns n (take c vs) root r

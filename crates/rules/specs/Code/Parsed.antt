@@ -1,6 +1,6 @@
 -- What a parsed rule is made of: its tree, the kinds of the nodes and its variables; and what the checks on the way find.
 -- Internal: contracts of entry points that answer with bytes do not speak of it. Assumes nothing.
-use Rattle.std.specs.Prelude.{◌≡◌, List, [], false, ℕ, ◌<◌, ◌≤◌, length, take, replicate}
+use Rattle.std.specs.Prelude.{◌≡◌, List, [], false, ℕ, ◌<◌, ◌≤◌, length, take, Result, Ok, Err}
 use Rattle.std.proofs.Math.Option.{Option, none, some}
 use Rattle.answers.specs.declared.Refusal.{Refusal}
 use Rattle.syntax.specs.Bytes.{Bytes}
@@ -8,11 +8,10 @@ use Rattle.syntax.specs.Rule.{Rule, rule_vars, rule_of}
 use Rattle.syntax.specs.Code.Arena.{HoldsRule, Tidy}
 use Rattle.syntax.specs.Code.Reading.{mk, Knows}
 use Rattle.answers.specs.Outcome.{Outcome, passes}
-use Rattle.std.specs.declared.result.Result.TheVariants.{Err}
-use Rattle.rules.specs.declared.Found.{Found}
-use Rattle.rules.specs.declared.Found.TheVariants.{Rejected, Rule as Tree}
+use Rattle.rules.specs.declared.Tree.{Tree}
+use Rattle.rules.specs.declared.Parsed.{Parsed}
 use Rattle.rules.specs.Accept.{rule_limit, choices_limit, deep, tree_refusal, refusal}
-use Rattle.rules.specs.Code.Numbers.{no_kind, Kinded}
+use Rattle.rules.specs.Code.Numbers.{Kinded}
 
 -- What the checks on the bytes alone find, 11, 12, or that they pass.
 pub record FitText (s : Bytes) : Type 0 where
@@ -44,31 +43,26 @@ pub record Fitted (ns : List ℕ) (n : ℕ) (ks vs : List ℕ) (count : ℕ) (ρ
   pub counted : count ≡ length (rule_vars [] ρ)
   pub few : count ≤ choices_limit
 
-pub data ChecksTree (ns : List ℕ) (n root : ℕ) (ks vs : List ℕ) : Found → Type 0 where
-  unfit : {r : Refusal} → ((ρ : Rule) → HoldsRule ns root ρ → tree_refusal ρ ≡ some r) → ChecksTree ns n root ks vs (Rejected r)
-  fit : {count : ℕ} → ((ρ : Rule) → HoldsRule ns root ρ → Fitted ns n ks vs count ρ) → ChecksTree ns n root ks vs (Tree n root count)
+pub data ChecksTree (ns : List ℕ) (n root : ℕ) (ks vs : List ℕ) : Result Tree Refusal → Type 0 where
+  unfit : {r : Refusal} → ((ρ : Rule) → HoldsRule ns root ρ → tree_refusal ρ ≡ some r) → ChecksTree ns n root ks vs (Err r)
+  fit : {count : ℕ} → ((ρ : Rule) → HoldsRule ns root ρ → Fitted ns n ks vs count ρ) → ChecksTree ns n root ks vs (Ok (record { n = n; root = root; count = count }))
 
 -- What the checks on a text find.
-pub data Finds (s : Bytes) (ns ks vs : List ℕ) : Found → Type 0 where
-  rejected : {r : Refusal} → refusal s ≡ some r → Finds s ns ks vs (Rejected r)
-  found : {n root count : ℕ} → refusal s ≡ none → RuleAt s ns n root ks vs count → Finds s ns ks vs (Tree n root count)
+pub data Finds (s : Bytes) (ns ks vs : List ℕ) : Result Tree Refusal → Type 0 where
+  rejected : {r : Refusal} → refusal s ≡ some r → Finds s ns ks vs (Err r)
+  found : {t : Tree} → refusal s ≡ none → RuleAt s ns t.n t.root ks vs t.count → Finds s ns ks vs (Ok t)
 
--- Nothing of a tree: no node has a kind, and there is no variable.
-pub record Blank (ns : List ℕ) (n root : ℕ) (ks vs : List ℕ) (count : ℕ) : Type 0 where
-  pub nodes : ns ≡ replicate rule_limit 0
-  pub no_node : n ≡ 0
-  pub no_root : root ≡ 0
-  pub kinds : ks ≡ replicate rule_limit no_kind
-  pub vars : vs ≡ replicate choices_limit 0
-  pub no_variable : count ≡ 0
+-- The tree of an accepted text.
+pub record ParsedFrom (s : Bytes) (p : Parsed) : Type 0 where
+  pub accepts : refusal s ≡ none
+  pub rule : RuleAt s p.nodes p.n p.root p.kinds p.vars p.count
 
--- The case of an answer: the first refusal of 11 to 15, or that none refuses.
+-- The case of a check: the first refusal of 11 to 15, or that none refuses.
 abbrev pub checked_of : Option Refusal → Outcome
 checked_of none = passes
 checked_of (some r) = Err r
 
--- The answer to a text; where it is accepted its tree, and where it is refused nothing.
-pub record Parses (s : Bytes) (ns ks vs : List ℕ) (o : Outcome) (n root count : ℕ) : Type 0 where
-  pub outcome : o ≡ checked_of (refusal s)
-  pub accepted : refusal s ≡ none → RuleAt s ns n root ks vs count
-  pub refused : (r : Refusal) → refusal s ≡ some r → Blank ns n root ks vs count
+-- The answer to a text: the first refusal of 11 to 15, or its tree.
+pub data Parses (s : Bytes) : Result Parsed Refusal → Type 0 where
+  refused : {r : Refusal} → refusal s ≡ some r → Parses s (Err r)
+  parsed : {p : Parsed} → ParsedFrom s p → Parses s (Ok p)
