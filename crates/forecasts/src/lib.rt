@@ -9,11 +9,10 @@ ghost use Rattle.verdicts.specs.Code.Judging.{Loaded};
 ghost use Rattle.forecasts.specs.Forecast.{two_words, forecast_of};
 ghost use Rattle.forecasts.specs.Code.Telling.{ForecastsOn};
 
-use answers::Written;
+use answers::Refusal;
 use rules::kinds::NO_KIND;
 use rules::lengths::formula_length;
-use rules::{CHOICES_LIMIT, Found, RULE_LIMIT};
-use tables::Outcome as Read;
+use rules::{CHOICES_LIMIT, RULE_LIMIT, Tree};
 use tables::layout::WHOLE;
 use values::ceiling::ceiling;
 use verdicts::sheet::word_behind;
@@ -24,7 +23,7 @@ const WORD: usize = 8;
 pub const FORECAST: usize = 2 * WORD;
 
 // Writes the two words, or says that the lent output is too short for them.
-fn put(size: u64, most: u64, out: &mut [u8]) -> Written
+fn put(size: u64, most: u64, out: &mut [u8]) -> Result<usize, Refusal>
     ensures { Answers (lent (length out.old) (wrote (two_words size most))) out.old out.new result }
 {
     let mut words = [0u8; FORECAST];
@@ -34,30 +33,24 @@ fn put(size: u64, most: u64, out: &mut [u8]) -> Written
 }
 
 // The forecast of a rule's text on accepted tables, held as words.
-fn on_tables(words: &[u64], rule: &[u8], out: &mut [u8]) -> Written
+fn on_tables(words: &[u64], rule: &[u8], out: &mut [u8]) -> Result<usize, Refusal>
     requires { Loaded words.now }
     ensures { ForecastsOn words.now rule.now out.old out.new result }
 {
     let mut nodes = [0u32; RULE_LIMIT];
     let mut kinds = [NO_KIND; RULE_LIMIT];
     let mut vars = [0u32; CHOICES_LIMIT];
-    match rules::find(rule, &mut nodes, &mut kinds, &mut vars) {
-        Found::Rejected(r) => Written::Refused(r),
-        Found::Rule { n, root, count } => {
-            let known = &vars[..count];
-            let size = formula_length(&nodes, n, known, root) as u64;
-            put(size, ceiling(words, &kinds, known), out)
-        }
-    }
+    let Tree { n, root, count } = rules::find(rule, &mut nodes, &mut kinds, &mut vars)?;
+    let known = &vars[..count];
+    let size = formula_length(&nodes, n, known, root) as u64;
+    put(size, ceiling(words, &kinds, known), out)
 }
 
 // Tables are checked, then the rule; 17 comes last, and a refusal writes nothing.
-pub fn forecast(tables: &[u8], rule: &[u8], out: &mut [u8]) -> Written
+pub fn forecast(tables: &[u8], rule: &[u8], out: &mut [u8]) -> Result<usize, Refusal>
     ensures { Answers (lent (length out.old) (forecast_of tables.now rule.now)) out.old out.new result }
 {
     let mut words = [0u64; WHOLE];
-    match tables::load(tables, &mut words) {
-        Read::Refused(e) => Written::Refused(e),
-        Read::Accepted => on_tables(&words, rule, out),
-    }
+    tables::load(tables, &mut words)?;
+    on_tables(&words, rule, out)
 }

@@ -18,8 +18,8 @@ use Rattle.syntax.specs.Code.Printing.{printed}
 use Rattle.syntax.proofs.Closed.{formula-in}
 use Rattle.syntax.specs.Code.Reading.{clause_room, Rooted}
 use Rattle.syntax.proofs.BytesLaws.{same-own, same_gives}
-use Rattle.rules.specs.declared.Found.{Found}
-use Rattle.rules.specs.declared.Found.TheVariants.{Rejected, Rule as Tree}
+use Rattle.std.specs.declared.result.Result.{Result}
+use Rattle.rules.specs.declared.Tree.{Tree}
 use Rattle.rules.specs.Accept.{deep, refusal}
 use Rattle.rules.specs.Code.Parsed.{RuleAt, Finds}
 use Rattle.rules.specs.Code.Lengths.{capped, LengthsOf, FormulaIn}
@@ -42,20 +42,20 @@ use Rattle.formulas.proofs.WrittenLaws.{answers-refusal, answers-wrote, answers-
 -- Rule to formula.
 
 -- 11 to 15.
-pub reduce-rejected : {s ns ks vs : List ℕ} {f : Found} {r : Refusal} (m : ℕ) (old : Bytes) → Finds s ns ks vs f → f ≡ Rejected r → Answers (lent m (reduced s)) old old (Err r)
+pub reduce-rejected : {s ns ks vs : List ℕ} {f : Result Tree Refusal} {r : Refusal} (m : ℕ) (old : Bytes) → Finds s ns ks vs f → f ≡ Err r → Answers (lent m (reduced s)) old old (Err r)
 unfolding reduced
 reduce-rejected {s} m old p e = answers-refusal (reduced s) m old (rw (as-rejected p e, reduced))
 
-module _ {s ns ks vs : List ℕ} {f : Found} {n root count : ℕ} (p : Finds s ns ks vs f) (e : f ≡ Tree n root count) where
+module _ {s ns ks vs : List ℕ} {f : Result Tree Refusal} {t : Tree} (p : Finds s ns ks vs f) (e : f ≡ Ok t) where
   accepted : refusal s ≡ none
   accepted = (as-found p e).0
 
-  abbrev at : RuleAt s ns n root ks vs count
+  abbrev at : RuleAt s ns t.n t.root ks vs t.count
   at = (as-found p e).1
 
   -- Where it is accepted its tree may be written.
-  pub reduce-ready : Printable ns root (take count vs)
-  reduce-ready = record { n = n; tidy = at.tidy; node = at.within; below = at.knows.below; few = simp length-take (omega (arith, at.few)) }
+  pub reduce-ready : Printable ns t.root (take t.count vs)
+  reduce-ready = record { n = t.n; tidy = at.tidy; node = at.within; below = at.knows.below; few = simp length-take (omega (arith, at.few)) }
 
   formula-is : reduced s ≡ wrote (formula at.tree)
   formula-is =
@@ -63,14 +63,14 @@ module _ {s ns ks vs : List ℕ} {f : Found} {n root count : ℕ} (p : Finds s n
       let i : a.rule ≡ at.tree = cc (a.reads, at.reads) in
       wrote-reduced s (formula at.tree) accepted (accepted-formula a ∙ ap (λ (ρ : Rule). some (formula ρ)) i)
 
-  module _ {l : ℕ} (x : FormulaIn ns n (take count vs) root l) where
+  module _ {l : ℕ} (x : FormulaIn ns t.n (take t.count vs) t.root l) where
     long : l ≡ length (formula at.tree)
     long = formula-exact accepted at x
 
     pub reduce-short : {old : Bytes} → length old < l → Answers (lent (length old) (reduced s)) old old (Err ShortSheet)
     reduce-short {old} h = rw formula-is (kept-short (formula at.tree) old (omega (arith, long)))
 
-    pub reduce-made : {old new : Bytes} {m : ℕ} → l ≤ length old → Prints ns (take count vs) (HoldsRule ns root) formula_in old new m → Answers (lent (length old) (reduced s)) old new (Ok m)
+    pub reduce-made : {old new : Bytes} {m : ℕ} → l ≤ length old → Prints ns (take t.count vs) (HoldsRule ns t.root) formula_in old new m → Answers (lent (length old) (reduced s)) old new (Ok m)
     unfolding printed
     reduce-made {old} {new} {m} h q =
         let w : Bytes = formula at.tree in

@@ -1,17 +1,18 @@
 -- Answers of calls that write: how they are made, and what they say of the answer and of the bytes.
 -- Assumes nothing.
-use mathlib.Core.Path.{◌≡◌, refl, ap}
-use mathlib.Core.Bool.{Bool, true, false}
+use mathlib.Core.Path.{◌≡◌, refl, ap, sym, ◌∙◌}
+use mathlib.Core.Bool.{Bool, true, false, not, ◌&&◌}
+use mathlib.Core.List.{[], ◌∷◌}
 use Prim.Native.Nat.{ℕ, ◌≤◌}
 use native.Mathlib.Omega.{arith}
-use lib.Dec.{leb}
+use lib.Dec.{leb, eqb}
+use lib.Pointwise.{pointwise}
 use lib.ListN.{length, take, length-append}
 use lib.Seq.{take-append_seam}
 use borrow.Author.Tests.{le-leb}
 use Rattle.answers.specs.Answer.{Answer, refused, wrote, if_room, lent, output_after}
 use Rattle.answers.specs.declared.Refusal.{Refusal}
 use Rattle.syntax.specs.Bytes.{Bytes, same}
-use Rattle.syntax.proofs.BytesLaws.{same-own}
 use Rattle.answers.specs.Written.{Written}
 use Rattle.std.specs.declared.result.Result.TheVariants.{Ok, Err}
 use Rattle.answers.specs.Written.{Answers}
@@ -47,7 +48,18 @@ answers-refused a n {old} {new} {w} {r} b p e h q =
     let y : ◌≡◌ {A = ℕ} 0 1 = cc (ap written_of z, answered-case p) in
     omega arith
 
--- Texts that are equal at every byte.
+-- The library's test of bytes.
 
-pub is_same : (s t : Bytes) → s ≡ t → same s t ≡ true
-is_same s t e = rw e (same-own t)
+same-pointwise : (s t : Bytes) → same s t ≡ pointwise eqb s t
+unfolding same
+same-pointwise [] [] = refl
+same-pointwise [] (y ∷ t) = refl
+same-pointwise (x ∷ s) [] = refl
+same-pointwise (x ∷ s) (y ∷ t) = ap (λ (b : Bool). eqb x y && b) (same-pointwise s t)
+
+pub same_tested : (s t : Bytes) {b : Bool} → b ≡ not (pointwise eqb s t) → same s t ≡ not b
+same_tested s t {b} e = same-pointwise s t ∙ sym (ap not e ∙ not-not (pointwise eqb s t))
+  where
+    not-not : (x : Bool) → not (not x) ≡ x
+    not-not true = refl
+    not-not false = refl

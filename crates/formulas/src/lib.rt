@@ -4,18 +4,17 @@
 
 ghost use Rattle.std.specs.Prelude.{◌≡◌, [], ◌<◌, length};
 ghost use Rattle.answers.specs.Answer.{lent};
-ghost use Rattle.syntax.specs.Bytes.{same};
 ghost use Rattle.syntax.specs.Rule.{Rule, rule_text};
 ghost use Rattle.syntax.specs.Code.Arena.{HoldsRule, Tidy};
 ghost use Rattle.rules.specs.Code.Lengths.{capped};
 ghost use Rattle.formulas.specs.Formulas.{reduced, RebuildAnswers};
 ghost use Rattle.answers.specs.Written.{Answers};
 
-use answers::{Refusal, Written};
+use answers::Refusal;
 use printer::rules::{write_formula, write_rule};
 use rules::kinds::NO_KIND;
 use rules::lengths::{formula_length, length_at, lengths};
-use rules::{CHOICES_LIMIT, Found, RULE_LIMIT};
+use rules::{CHOICES_LIMIT, RULE_LIMIT, Tree};
 use syntax::Whole;
 
 // No formula has more bytes, so that its tree has no more nodes.
@@ -24,41 +23,20 @@ const FORMULA_LIMIT: usize = 4096;
 // No rule has more, as `lengths` measures.
 const LENGTH_LIMIT: u32 = RULE_LIMIT as u32;
 
-// Whether two texts are equal byte for byte.
-pub fn alike(a: &[u8], b: &[u8]) -> bool
-    ensures { result ≡ same a.now b.now }
-{
-    if a.len() != b.len() {
-        return false;
-    }
-    let mut i = 0;
-    while i < a.len() {
-        if a[i] != b[i] {
-            return false;
-        }
-        i += 1;
-    }
-    true
-}
-
 // Rule to formula: 11 to 15, then 17. The formula's length is known before it is written, and it is written straight into the output.
-pub fn reduce(rule: &[u8], out: &mut [u8]) -> Written
+pub fn reduce(rule: &[u8], out: &mut [u8]) -> Result<usize, Refusal>
     ensures { Answers (lent (length out.old) (reduced rule.now)) out.old out.new result }
 {
     let mut nodes = [0u32; RULE_LIMIT];
     let mut kinds = [NO_KIND; RULE_LIMIT];
     let mut vars = [0u32; CHOICES_LIMIT];
-    match rules::find(rule, &mut nodes, &mut kinds, &mut vars) {
-        Found::Rejected(r) => Written::Refused(r),
-        Found::Rule { n, root, count } => {
-            let known = &vars[..count];
-            let l = formula_length(&nodes, n, known, root) as usize;
-            if out.len() < l {
-                return Written::Refused(Refusal::ShortSheet);
-            }
-            Written::Wrote(write_formula(&nodes, root, known, out))
-        }
+    let Tree { n, root, count } = rules::find(rule, &mut nodes, &mut kinds, &mut vars)?;
+    let known = &vars[..count];
+    let l = formula_length(&nodes, n, known, root) as usize;
+    if out.len() < l {
+        return Err(Refusal::ShortSheet);
     }
+    Ok(write_formula(&nodes, root, known, out))
 }
 
 // How long the rule at a node is where it is written. It is measured and not written, however deep the tree is.
@@ -76,31 +54,31 @@ fn rule_length(nodes: &[u32], n: usize, root: usize) -> u32
 // Formula to rule: 16, then 17. The candidate is the tree's own text, kept where its formula is the input byte for byte.
 // The stack stays small: no accepted rule's formula is deeper than check 12 lets a rule be, so deeper ones are turned away before anything is read;
 // and no rule has more than 256 bytes, so that a tree whose text would be longer, which may be deep, is not written.
-pub fn rebuild(formula: &[u8], out: &mut [u8]) -> Written
+pub fn rebuild(formula: &[u8], out: &mut [u8]) -> Result<usize, Refusal>
     ensures { RebuildAnswers formula.now out.old out.new result }
 {
     if formula.len() > FORMULA_LIMIT {
-        return Written::Refused(Refusal::NoRulesFormula);
+        return Err(Refusal::NoRulesFormula);
     }
     if rules::depth::too_deep(formula) {
-        return Written::Refused(Refusal::NoRulesFormula);
+        return Err(Refusal::NoRulesFormula);
     }
     let mut nodes = [0u32; FORMULA_LIMIT];
     let Whole::Root { node, n } = syntax::formula(formula, &mut nodes) else {
-        return Written::Refused(Refusal::NoRulesFormula);
+        return Err(Refusal::NoRulesFormula);
     };
     if rule_length(&nodes, n, node) > LENGTH_LIMIT {
-        return Written::Refused(Refusal::NoRulesFormula);
+        return Err(Refusal::NoRulesFormula);
     }
     let none = [0u32; 1];
     let mut text = [0u8; RULE_LIMIT];
     let l = write_rule(&nodes, node, &none[..0], &mut text);
     let mut sheet = [0u8; FORMULA_LIMIT];
-    let Written::Wrote(m) = reduce(&text[..l], &mut sheet) else {
-        return Written::Refused(Refusal::NoRulesFormula);
+    let Ok(m) = reduce(&text[..l], &mut sheet) else {
+        return Err(Refusal::NoRulesFormula);
     };
-    if !alike(&sheet[..m], formula) {
-        return Written::Refused(Refusal::NoRulesFormula);
+    if &sheet[..m] != formula {
+        return Err(Refusal::NoRulesFormula);
     }
     answers::lend(&text[..l], out)
 }

@@ -9,12 +9,11 @@ ghost use Rattle.tables.specs.Code.Loaded.{Loaded};
 ghost use Rattle.readers.specs.Reader.{reader_line};
 ghost use Rattle.readers.specs.Code.Lending.{LendsOn};
 
-use answers::{Refusal, Written};
-use tables::Outcome;
+use answers::Refusal;
 use tables::layout::{USER_COUNT, WHOLE};
 
 // Lends the line at a place of accepted tables, held as words.
-fn lend_line(words: &[u64], rules: &[u8], place: usize, out: &mut [u8]) -> Written
+fn lend_line(words: &[u64], rules: &[u8], place: usize, out: &mut [u8]) -> Result<usize, Refusal>
     requires { Loaded words.now }
     ensures { LendsOn words.now rules.now place out.old out.new result }
 {
@@ -24,18 +23,14 @@ fn lend_line(words: &[u64], rules: &[u8], place: usize, out: &mut [u8]) -> Writt
 }
 
 // The line at a place, from 1, of the day sheet for this reader; no bytes at any other place.
-pub fn line(tables: &[u8], reader: u64, rules: &[u8], place: usize, out: &mut [u8]) -> Written
+pub fn line(tables: &[u8], reader: u64, rules: &[u8], place: usize, out: &mut [u8]) -> Result<usize, Refusal>
     ensures { Answers (lent (length out.old) (reader_line tables.now reader rules.now place)) out.old out.new result }
 {
     let mut words = [0u64; WHOLE];
-    match tables::load(tables, &mut words) {
-        Outcome::Refused(e) => Written::Refused(e),
-        Outcome::Accepted => {
-            if words::outside(reader, words[USER_COUNT]) {
-                return Written::Refused(Refusal::Reader);
-            }
-            cuts::cut(&mut words, reader);
-            lend_line(&words, rules, place, out)
-        }
+    tables::load(tables, &mut words)?;
+    if words::outside(reader, words[USER_COUNT]) {
+        return Err(Refusal::Reader);
     }
+    cuts::cut(&mut words, reader);
+    lend_line(&words, rules, place, out)
 }

@@ -29,7 +29,7 @@ pub const RULES_LIMIT: usize = 32768;
 
 // The line at a place, from 1, without byte 10; no bytes at any other place. Behind the lines of the rules stands their
 // total: every rule is judged for it. Whoever wants the whole sheet goes by `turns::next_line`.
-pub fn line(tables: &[u8], rules: &[u8], place: usize, out: &mut [u8]) -> Written
+pub fn line(tables: &[u8], rules: &[u8], place: usize, out: &mut [u8]) -> Result<usize, Refusal>
     ensures { Lines tables.now rules.now place out.old out.new result }
 {
     let mut text = [0u8; LINE_ROOM];
@@ -45,7 +45,7 @@ fn refused_tables(e: Refusal, place: usize, out: &mut [u8]) -> usize
     if place != 1 {
         return 0;
     }
-    text::labelled(b"tables refused ", answers::number(e) as u64, out)
+    text::labelled(b"tables refused ", u64::from(u32::from(e)), out)
 }
 
 // The sheet of rules that are too long.
@@ -64,14 +64,9 @@ fn write_line(tables: &[u8], rules: &[u8], place: usize, out: &mut [u8]) -> usiz
     requires { line_room ≤ length out.old }
     ensures { Overwritten (sheet_line (sheet_of tables.now rules.now) place) out.old out.new result }
 {
-    let loaded = tables::read(tables);
-    let outcome = loaded.outcome;
-    match outcome {
-        Outcome::Refused(e) => refused_tables(e, place, out),
-        Outcome::Accepted => {
-            let words = loaded.words;
-            judged_line(&words, rules, place, out)
-        }
+    match tables::read(tables) {
+        Err(e) => refused_tables(e, place, out),
+        Ok(words) => judged_line(&words, rules, place, out),
     }
 }
 

@@ -1,11 +1,12 @@
 -- `rebuild`: 16 unless the tree's own text has the input as its formula; that text is the only candidate.
 -- Assumes nothing.
-use mathlib.Core.Path.{sym, ◌∙◌}
+use mathlib.Core.Path.{sym, ap, ◌∙◌}
+use mathlib.Core.Bool.{not}
 use native.Mathlib.Omega.{arith}
 use lib.Seq.{length-take-le}
 use borrow.Author.Rules.{rules}
 use Rattle.syntax.proofs.FormulaLaws.{as-nothing, as-root}
-use Rattle.formulas.proofs.WrittenLaws.{answers-wrote}
+use Rattle.formulas.proofs.WrittenLaws.{answers-wrote, same_tested}
 use Rattle.formulas.proofs.ReduceLaws.{rebuild-gives, rebuild-long, rebuild-deep, rebuild-unread, rebuild-wide, rebuild-refused, rebuild-apart, rebuild-same, rebuild-ready, rebuild-text}
 use Rattle.formulas.proofs.rebuild.Goals as goal
 
@@ -38,19 +39,19 @@ returns-in_default-reduce c =
     rebuild-refused _ _ t.is (rebuild-text t c.write_rule-l.ensures) c.reduce.ensures c.in_default-reduce.is (omega (arith, c.if-formula-gt-FORMULA_LIMIT.false))
 
 pub slice_bounds-sheet-end : goal.slice_bounds-sheet-end
-slice_bounds-sheet-end c = (answers-wrote _ _ c.reduce.ensures c.in-Wrote.is).fits
+slice_bounds-sheet-end c = (answers-wrote _ _ c.reduce.ensures c.in-Ok.is).fits
 
-pub slice_bounds-alike-end : goal.slice_bounds-alike-end
-slice_bounds-alike-end c = sym (length-take-le _ _ (answers-wrote _ _ c.reduce.ensures c.in-Wrote.is).fits)
+pub slice_bounds-ne-end : goal.slice_bounds-ne-end
+slice_bounds-ne-end c = sym (length-take-le _ _ (answers-wrote _ _ c.reduce.ensures c.in-Ok.is).fits)
 
-pub returns-then-not-alike : goal.returns-then-not-alike
-returns-then-not-alike c =
+pub returns-then-ne : goal.returns-then-ne
+returns-then-ne c =
     let t = as-root c.formula.ensures c.in-Root.is in
-    rebuild-apart _ _ t.is (rebuild-text t c.write_rule-l.ensures) c.reduce.ensures c.in-Wrote.is (sym c.alike.ensures ∙ c.if-not-alike.true)
+    rebuild-apart _ _ t.is (rebuild-text t c.write_rule-l.ensures) c.reduce.ensures c.in-Ok.is (same_tested _ _ c.ne.ensures ∙ ap not c.if-ne.true)
 
 pub slice_bounds-lend-end : goal.slice_bounds-lend-end
 slice_bounds-lend-end c = sym (length-take-le _ _ (search rules))
 
 pub returns : goal.returns
 returns c =
-    rebuild-gives (rebuild-same _ c.reduce.ensures c.in-Wrote.is (sym c.alike.ensures ∙ c.if-not-alike.false)) c.lend.ensures
+    rebuild-gives (rebuild-same _ c.reduce.ensures c.in-Ok.is (same_tested _ _ c.ne.ensures ∙ ap not c.if-ne.false)) c.lend.ensures
