@@ -10,10 +10,12 @@ use Rattle.tables.specs.Tables.{Tables}
 use Rattle.tables.specs.Accepted.{Fits}
 use Rattle.tables.specs.Flat.{flat}
 use Rattle.tables.specs.Code.Layout.{Whole}
-use Rattle.tables.specs.Reading.{Reading, rejected, taken, tables_of, outcome_number, reading_number, words_of}
+use Rattle.tables.specs.Reading.{Reading, rejected, taken, tables_of, words_of, loaded_of}
 use Rattle.tables.specs.Code.Reads.{reading_outcome}
 use Rattle.answers.specs.Outcome.{Outcome, passes}
-use Rattle.std.specs.declared.result.Result.TheVariants.{Err}
+use Rattle.std.specs.Result.{OnOk}
+use Rattle.std.specs.declared.result.Result.{Result}
+use Rattle.std.specs.declared.result.Result.TheVariants.{Ok, Err}
 use Rattle.tables.proofs.FlatLaws.{length-flat}
 use Rattle.tables.proofs.LoadLaws.{refused_as, outcome-case}
 use Rattle.tables.proofs.OneLaws.{tables-one}
@@ -44,20 +46,28 @@ module _ (b : Bytes) {o : Outcome} (said : o ≡ reading_outcome (tables_of b)) 
   pub load-rejected : {e : Refusal} → o ≡ Err e → tables_of b ≡ rejected e
   load-rejected h = refused_as (tables_of b) said h
 
-  pub load-taken : {ts : List ℕ} → (o ≡ passes → ts ≡ words_of (tables_of b)) → o ≡ passes → Took b ts
+  pub load-taken : {ts : List ℕ} → OnOk o (ts ≡ words_of (tables_of b)) → o ≡ passes → Took b ts
   load-taken {ts} w h = go (tables_of b) refl (sym said ∙ h)
     where
       go : (q : Reading) → tables_of b ≡ q → reading_outcome q ≡ passes → Took b ts
       go (rejected p) e k = let z : ◌≡◌ {A = ℕ} 0 1 = cc in absurd (omega arith)
-      go (taken T) e k = record { tables = T; is = e; holds = record { passes = accepted-passes b e; words = w h ∙ ap words_of e } }
+      go (taken T) e k = record { tables = T; is = e; holds = record { passes = accepted-passes b e; words = (rw h at w) ∙ ap words_of e } }
 
--- What `tables::read` says, by its number.
-module _ (b : Bytes) {o : Outcome} (n : outcome_number o ≡ reading_number (tables_of b)) where
-  pub was-rejected : {e : Refusal} → o ≡ Err e → tables_of b ≡ rejected e
-  was-rejected h = load-rejected b (outcome-case (tables_of b) o n) h
+-- What `tables::read` says, by its case.
+module _ (b : Bytes) {o : Result (List ℕ) Refusal} (said : o ≡ loaded_of (tables_of b)) where
+  pub read-rejected : {e : Refusal} → o ≡ Err e → tables_of b ≡ rejected e
+  read-rejected {e} h = go (tables_of b) refl (sym said ∙ h)
+    where
+      go : (q : Reading) → tables_of b ≡ q → loaded_of q ≡ Err e → tables_of b ≡ rejected e
+      go (rejected p) i k = let z : p ≡ e = cc in i ∙ ap rejected z
+      go (taken T) i k = let z : ◌≡◌ {A = ℕ} 0 1 = cc in absurd (omega arith)
 
-  pub was-taken : {ts : List ℕ} → ts ≡ words_of (tables_of b) → o ≡ passes → Took b ts
-  was-taken w h = load-taken b (outcome-case (tables_of b) o n) (λ _. w) h
+  pub read-taken : {ts : List ℕ} → o ≡ Ok ts → Took b ts
+  read-taken {ts} h = go (tables_of b) refl (sym said ∙ h)
+    where
+      go : (q : Reading) → tables_of b ≡ q → loaded_of q ≡ Ok ts → Took b ts
+      go (rejected p) i k = let z : ◌≡◌ {A = ℕ} 0 1 = cc in absurd (omega arith)
+      go (taken T) i k = let z : flat T ≡ ts = cc in record { tables = T; is = i; holds = record { passes = accepted-passes b i; words = sym z } }
 
 -- On tables that are taken the verdict is that of the rule and the order.
 pub took-judged : {b : Bytes} {ts : List ℕ} (q : Took b ts) (s order : Bytes) {r : Verdict} → r ≡ accepted_verdict q.tables (refusal s) s order → r ≡ verdict_of b s order

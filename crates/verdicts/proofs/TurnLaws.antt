@@ -10,9 +10,7 @@ use Rattle.answers.specs.declared.Refusal.{Refusal}
 use Rattle.answers.specs.declared.Refusal.TheVariants.{NotAnOrder}
 use Rattle.syntax.specs.Bytes.{Bytes}
 use Rattle.syntax.specs.Rule.{Rule, rule_of}
-use Rattle.answers.specs.Outcome.{Outcome}
 use Rattle.rules.specs.Accept.{refusal}
-use Rattle.rules.specs.Code.Parsed.{Parses}
 use Rattle.rules.proofs.AcceptLaws.{accepted-rule, refused-early}
 use Rattle.tables.specs.Tables.{Tables}
 use Rattle.walks.specs.Order.{variables_of, up_from}
@@ -22,31 +20,12 @@ use Rattle.verdicts.specs.Verdict.{refusal_in, outcome_of, full_count, breaking_
 use Rattle.verdicts.specs.Verdict.{turn_order, turn_verdict}
 use Rattle.verdicts.proofs.OutcomeLaws.{word-accepted}
 use Rattle.verdicts.proofs.VerdictLaws.{turn-order}
-use Rattle.verdicts.proofs.ParsedLaws.{parsed-few}
-
--- The first n of 1, 2, ..
-abbrev eight : List ℕ
-eight = 1 ∷ 2 ∷ 3 ∷ 4 ∷ 5 ∷ 6 ∷ 7 ∷ 8 ∷ []
 
 pub take-up : (n m i : ℕ) → n ≤ m → take n (up_from i m) ≡ up_from i n
 unfolding up_from
 take-up zero m i h = refl
 take-up (suc n) zero i h = absurd (omega arith)
 take-up (suc n) (suc m) i h = ap (λ (l : List ℕ). i ∷ l) (take-up n m (suc i) (omega arith))
-
-up-eight : up_from 1 8 ≡ eight
-unfolding up_from
-up-eight = refl
-
--- Along as many numbers as a parsed rule has variables it is judged in turn.
-pub judged-turn : {s : Bytes} {ns ks vs : List ℕ} {o : Outcome} {n root count : ℕ} → Parses s ns ks vs o n root count → (T : Tables) {r : Verdict}
-    → r ≡ accepted_verdict T (refusal s) s (take count eight) → r ≡ turn_verdict T s
-unfolding turn_verdict turn_order accepted_verdict
-judged-turn {s} {count = count} p T e = e ∙ rw (← up-eight, take-up count 8 1 (parsed-few p)) (go (refusal s) refl)
-  where
-    go : (q : Option Refusal) → refusal s ≡ q → accepted_verdict T q s (up_from 1 count) ≡ accepted_verdict T q s (turn_order (rule_of s))
-    go none h = let a = p.accepted h in rw (a.reads, a.counted)
-    go (some e) h = refl
 
 module _ (T : Tables) (rule : Bytes) (ok : refusal rule ≡ none) where
   -- An accepted rule is judged along 1, 2, ..:

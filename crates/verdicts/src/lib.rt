@@ -3,7 +3,6 @@
 #![tactic(auto)]
 
 ghost use Rattle.std.specs.Prelude.{◌≡◌, length};
-ghost use Rattle.rules.specs.declared.Checked.TheVariants.{Accepted as AcceptedRule};
 ghost use Rattle.answers.specs.Answer.{lent};
 ghost use Rattle.verdicts.specs.Verdict.{Gives, verdict_of, judged};
 ghost use Rattle.verdicts.specs.Code.Judging.{Loaded, SomeRule, ParsedFrom, KnownCounts, JudgesOn, JudgesInTurn, JudgesParsed};
@@ -11,14 +10,16 @@ ghost use Rattle.syntax.specs.Bytes.{Bytes};
 ghost use Rattle.answers.specs.Written.{Answers};
 ghost use Rattle.verdicts.specs.Code.Writing.{PutsVerdict};
 
-use answers::{Refusal, Written};
+use answers::Refusal;
 use judging::walking;
-use rules::{Checked, Parsed};
-use tables::Outcome as Read;
+use rules::{CHOICES_LIMIT, Parsed};
 use tables::layout::WHOLE;
 
 pub mod ruling;
 pub mod sheet;
+
+// The variables in turn: v1 is the variable 0.
+const IN_TURN: [u8; CHOICES_LIMIT] = [0, 1, 2, 3, 4, 5, 6, 7];
 
 // What judging says: a refusal, or the verdict's word.
 #[derive(Clone, Copy)]
@@ -38,27 +39,13 @@ pub struct Verdict {
     pub share: u8,
 }
 
-// The verdict of a parsed rule that is accepted.
-fn of_accepted(words: &[u64], parsed: Parsed, order: &[u8]) -> Verdict
-    requires loaded { Loaded words.now }
-    requires some_rule { SomeRule parsed }
-    requires outcome_value { parsed.outcome ≡ AcceptedRule }
-    ensures { JudgesParsed words.now parsed order.now result }
-{
-    ruling::along(words, parsed, order)
-}
-
 // The verdict of a parsed rule on accepted tables, held as words, along an order.
 pub fn of_parsed(words: &[u64], parsed: Parsed, order: &[u8]) -> Verdict
     requires loaded { Loaded words.now }
     requires some_rule { SomeRule parsed }
     ensures { JudgesParsed words.now parsed order.now result }
 {
-    let outcome = parsed.outcome;
-    match outcome {
-        Checked::Refused(e) => ruling::refused(e),
-        Checked::Accepted => of_accepted(words, parsed, order),
-    }
+    ruling::along(words, parsed, order)
 }
 
 // The verdict of a rule's text on such tables.
@@ -66,7 +53,10 @@ pub fn on_tables(words: &[u64], rule: &[u8], order: &[u8]) -> Verdict
     requires { Loaded words.now }
     ensures { JudgesOn words.now rule.now order.now result }
 {
-    of_parsed(words, rules::parse(rule), order)
+    match rules::parse(rule) {
+        Err(e) => ruling::refused(e),
+        Ok(parsed) => of_parsed(words, parsed, order),
+    }
 }
 
 // The verdict of a parsed rule along 1, 2, .. That is always an order, so nothing tests it.
@@ -76,13 +66,7 @@ pub fn parsed_in_turn(words: &[u64], parsed: Parsed) -> Verdict
     ensures { (rule : Bytes) → ParsedFrom rule parsed → JudgesInTurn words.now rule result }
 {
     let count = parsed.count;
-    let variables = [0u8, 1, 2, 3, 4, 5, 6, 7];
-    let listed = &variables[..count];
-    let outcome = parsed.outcome;
-    match outcome {
-        Checked::Refused(e) => ruling::refused(e),
-        Checked::Accepted => ruling::ruled(walking::whole(words, parsed, listed)),
-    }
+    ruling::ruled(walking::whole(words, parsed, &IN_TURN[..count]))
 }
 
 // The same of a rule's text.
@@ -90,7 +74,10 @@ pub fn in_turn(words: &[u64], rule: &[u8]) -> Verdict
     requires { Loaded words.now }
     ensures { JudgesInTurn words.now rule.now result }
 {
-    parsed_in_turn(words, rules::parse(rule))
+    match rules::parse(rule) {
+        Err(e) => ruling::refused(e),
+        Ok(parsed) => parsed_in_turn(words, parsed),
+    }
 }
 
 // The verdict along 1, 2, .. of a rule whose counts are known already.
@@ -99,14 +86,13 @@ pub fn counted_in_turn(words: &[u64], rule: &[u8], full: u64, breaking: u64) -> 
     requires known_counts { KnownCounts words.now rule.now full breaking }
     ensures { JudgesInTurn words.now rule.now result }
 {
-    let parsed = rules::parse(rule);
-    let count = parsed.count;
-    let variables = [0u8, 1, 2, 3, 4, 5, 6, 7];
-    let listed = &variables[..count];
-    let outcome = parsed.outcome;
-    match outcome {
-        Checked::Refused(e) => ruling::refused(e),
-        Checked::Accepted => ruling::ruled(walking::known(words, parsed, listed, full, breaking)),
+    match rules::parse(rule) {
+        Err(e) => ruling::refused(e),
+        Ok(parsed) => {
+            let count = parsed.count;
+            let listed = &IN_TURN[..count];
+            ruling::ruled(walking::known(words, parsed, listed, full, breaking))
+        }
     }
 }
 
@@ -116,13 +102,13 @@ pub fn decide(tables: &[u8], rule: &[u8], order: &[u8]) -> Verdict
 {
     let mut words = [0u64; WHOLE];
     match tables::load(tables, &mut words) {
-        Read::Refused(e) => ruling::refused(e),
-        Read::Accepted => on_tables(&words, rule, order),
+        Err(e) => ruling::refused(e),
+        Ok(()) => on_tables(&words, rule, order),
     }
 }
 
 // Writes the verdict with that word, or says that the lent output is too short for it.
-fn put(out: &mut [u8], word: u8, verdict: Verdict) -> Written
+fn put(out: &mut [u8], word: u8, verdict: Verdict) -> Result<usize, Refusal>
     ensures { PutsVerdict out.old out.new word verdict result }
 {
     let mut sheet = [0u8; sheet::VERDICT];
@@ -131,13 +117,13 @@ fn put(out: &mut [u8], word: u8, verdict: Verdict) -> Written
 }
 
 // Judges the rule and writes the verdict to the lent output. 17 follows 18, and a refusal writes nothing.
-pub fn judge(tables: &[u8], rule: &[u8], order: &[u8], out: &mut [u8]) -> Written
+pub fn judge(tables: &[u8], rule: &[u8], order: &[u8], out: &mut [u8]) -> Result<usize, Refusal>
     ensures { Answers (lent (length out.old) (judged tables.now rule.now order.now)) out.old out.new result }
 {
     let found = decide(tables, rule, order);
     let outcome = found.outcome;
     match outcome {
-        Outcome::Refused(e) => Written::Refused(e),
+        Outcome::Refused(e) => Err(e),
         Outcome::Held => put(out, 0, found),
         Outcome::Idle => put(out, 1, found),
         Outcome::Broken => put(out, 2, found),

@@ -1,5 +1,6 @@
 -- `forecasts::forecast` meets its contract: refused tables give their refusal, accepted ones go on to the rule.
 -- Assumes nothing.
+use Rattle.std.proofs.lemmas.Result.{err_from_is_err_and}
 use Rattle.verdicts.proofs.LoadedLaws.{load-rejected, load-taken, took-loaded}
 use Rattle.verdicts.proofs.BothLaws.{both-refused, both-taken}
 use Rattle.forecasts.specs.Forecast.{forecast_of}
@@ -7,16 +8,17 @@ use Rattle.forecasts.proofs.forecast.Goals as goal
 
 pub on_tables-requires : goal.on_tables-requires
 on_tables-requires c =
-    took-loaded (load-taken c.args.tables.now c.load.ensures.value c.load.ensures.words_after c.in-Accepted.is)
+    took-loaded (load-taken c.args.tables.now c.load.ensures.value c.load.ensures.words_after c.in_ok-load.was)
 
-pub returns-in-Refused : goal.returns-in-Refused
+pub returns-in_err-load : goal.returns-in_err-load
 unfolding forecast_of
-returns-in-Refused c =
-    both-refused c.args.tables.now c.args.rule.now _ _ (load-rejected c.args.tables.now c.load.ensures.value c.in-Refused.is)
+returns-in_err-load c =
+    let p = err_from_is_err_and c.from_residual.result c.from_residual.ensures.1 in
+    rw (p.1, p.2) (both-refused c.args.tables.now c.args.rule.now _ _ (load-rejected c.args.tables.now c.load.ensures.value c.in_err-load.was))
 
-pub returns-in-Accepted : goal.returns-in-Accepted
+pub returns : goal.returns
 unfolding forecast_of
-returns-in-Accepted c =
+returns c =
     both-taken c.args.tables.now c.args.rule.now _
-    (load-taken c.args.tables.now c.load.ensures.value c.load.ensures.words_after c.in-Accepted.is)
+    (load-taken c.args.tables.now c.load.ensures.value c.load.ensures.words_after c.in_ok-load.was)
     c.on_tables.ensures

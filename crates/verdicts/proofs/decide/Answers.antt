@@ -8,14 +8,14 @@ use Rattle.verdicts.proofs.decide.Goals as goal
 
 pub on_tables-requires : goal.on_tables-requires
 on_tables-requires c =
-    took-loaded (load-taken c.args.tables.now c.load.ensures.value c.load.ensures.words_after c.in-Accepted.is)
+    took-loaded (load-taken c.args.tables.now c.load.ensures.value c.load.ensures.words_after c.in-Ok.is)
 
-pub returns-in-Refused : goal.returns-in-Refused
-returns-in-Refused c =
-    let said = load-rejected c.args.tables.now c.load.ensures.value c.in-Refused.is in
-    same_gives (c.refused.ensures ∙ sym (tables-rejected c.args.tables.now c.args.rule.now c.args.order.now c.in-Refused.e said))
+pub returns-in-Err : goal.returns-in-Err
+returns-in-Err c =
+    let said = load-rejected c.args.tables.now c.load.ensures.value c.in-Err.is in
+    same_gives (c.refused.ensures ∙ sym (tables-rejected c.args.tables.now c.args.rule.now c.args.order.now c.in-Err.e said))
 
-pub returns-in-Accepted : goal.returns-in-Accepted
-returns-in-Accepted c =
-    let q = load-taken c.args.tables.now c.load.ensures.value c.load.ensures.words_after c.in-Accepted.is in
+pub returns-in-Ok : goal.returns-in-Ok
+returns-in-Ok c =
+    let q = load-taken c.args.tables.now c.load.ensures.value c.load.ensures.words_after c.in-Ok.is in
     same_gives (took-judged q c.args.rule.now c.args.order.now (c.on_tables.ensures q.tables q.holds))

@@ -1,15 +1,17 @@
--- `verdicts::of_parsed` meets its contract: a refused rule gives its refusal, an accepted one its verdict along the order.
+-- `verdicts::of_parsed` meets its contract: the slices of an accepted rule hold it, and its verdict is that along the order.
 -- Assumes nothing.
-use mathlib.Core.Path.{◌∙◌}
-use Rattle.verdicts.proofs.ParsedLaws.{parsed-refused}
+use mathlib.Core.Path.{◌≡◌}
+use lib.ListN.{length}
+use Rattle.verdicts.proofs.ParsedLaws.{parsed-lent, parsed-judged}
+use borrow.Author.Rules.{rules}
 use Rattle.verdicts.proofs.of_parsed.Goals as goal
 
-pub of_accepted-requires : goal.of_accepted-requires
-of_accepted-requires c = record { loaded = c.requires.loaded; some_rule = c.requires.some_rule; outcome_value = c.in-Accepted.is }
+pub along-requires : goal.along-requires
+along-requires c =
+    let ln : length c.args.parsed.nodes ≡ 256 = search rules in
+    let lk : length c.args.parsed.kinds ≡ 256 = search rules in
+    let lv : length c.args.parsed.vars ≡ 8 = search rules in
+    parsed-lent c.requires.some_rule.parses c.requires.loaded ln lk lv
 
-pub returns-in-Refused : goal.returns-in-Refused
-returns-in-Refused c =
-    λ s p T H. c.refused.ensures ∙ parsed-refused p c.in-Refused.is T c.args.order.now
-
-pub returns-in-Accepted : goal.returns-in-Accepted
-returns-in-Accepted c = c.of_accepted.ensures
+pub returns : goal.returns
+returns c = λ s p T H. parsed-judged p c.args.order.now c.along.ensures H

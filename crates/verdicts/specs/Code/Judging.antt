@@ -12,7 +12,7 @@ use Rattle.syntax.specs.Bytes.{Bytes}
 use Rattle.syntax.specs.Rule.{Rule, rule_of}
 use Rattle.rules.specs.Accept.{refusal}
 use Rattle.rules.specs.declared.Parsed.{Parsed}
-use Rattle.rules.specs.Code.Parsed.{Parses}
+pub use Rattle.rules.specs.Code.Parsed.{ParsedFrom}
 use Rattle.walks.specs.declared.Tally.{Tally}
 use Rattle.walks.specs.Share.{share_of}
 use Rattle.judging.specs.Code.Lent.{CaseBy}
@@ -30,11 +30,7 @@ ruled_by a = record {
   share = share_of a.full a.breaking;
 }
 
--- The parsed rule is that of the text s;
-abbrev pub ParsedFrom : Bytes → Parsed → Type 0
-ParsedFrom s p = Parses s p.nodes p.kinds p.vars p.outcome p.n p.root p.count
-
--- of some text.
+-- The parsed rule is that of some text.
 pub record SomeRule (p : Parsed) : Type 0 where
   pub text : Bytes
   pub parses : ParsedFrom text p
