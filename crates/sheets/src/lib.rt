@@ -2,8 +2,7 @@
 // Nothing here reads files or prints.
 #![tactic(auto)]
 
-use answers::{Refusal, Written};
-use tables::Outcome;
+use answers::Refusal;
 use texts::Span;
 
 mod text;
