@@ -11,10 +11,10 @@ use lib.ListN.{length, take, drop, get_elem?}
 use Rattle.answers.specs.Refusal.{number_of}
 use Rattle.answers.specs.declared.Refusal.{Refusal}
 use Rattle.syntax.specs.Bytes.{Bytes, ascii}
-use Rattle.answers.specs.Outcome.{Outcome, passes}
-use Rattle.std.specs.declared.result.Result.TheVariants.{Err}
+use Rattle.std.specs.declared.result.Result.{Result}
+use Rattle.std.specs.declared.result.Result.TheVariants.{Ok, Err}
 use Rattle.tables.specs.Tables.{Tables}
-use Rattle.tables.specs.Reading.{tables_of, outcome_number, reading_number, words_of}
+use Rattle.tables.specs.Reading.{tables_of, loaded_of}
 use Rattle.texts.specs.Code.Overwritten.{Overwritten}
 use Rattle.texts.specs.declared.Span.{Span}
 use Rattle.texts.specs.declared.Span.TheVariants.{Missing, Found}
@@ -23,7 +23,7 @@ use Rattle.texts.specs.Code.Spans.{Spans}
 use Rattle.texts.proofs.SpansLaws.{missing, lies}
 use Rattle.texts.proofs.OverwrittenLaws.{none_written}
 use Rattle.verdicts.specs.Verdict.{turn_verdict}
-use Rattle.verdicts.proofs.LoadedLaws.{was-rejected, was-taken}
+use Rattle.verdicts.proofs.LoadedLaws.{read-rejected, read-taken}
 use Rattle.sheets.specs.declared.total.Total.{Total}
 use Rattle.sheets.specs.Line.{line_text, labelled}
 use Rattle.sheets.specs.Total.{total_of, total_text}
@@ -65,13 +65,12 @@ no-line-at rules place f q n = omega (arith, past (lines rules) (place - 1) (mis
 
 -- The line at a place of any tables
 
-module _ (tables rules : Bytes) (place : ℕ) {o : Outcome} (r : outcome_number o ≡ reading_number (tables_of tables)) {old new : List ℕ} {n : ℕ} where
+module _ (tables rules : Bytes) (place : ℕ) {o : Result (List ℕ) Refusal} (r : o ≡ loaded_of (tables_of tables)) {old new : List ℕ} {n : ℕ} where
   pub rejected-made : {e : Refusal} → o ≡ Err e
       → Overwritten (sheet_line (only (labelled (ascii "tables refused ") (number_of e))) place) old new n → Overwritten (sheet_line (sheet_of tables rules) place) old new n
   unfolding sheet_of sheet_by
-  rejected-made q w = rw (was-rejected tables r q) w
+  rejected-made q w = rw (read-rejected tables r q) w
 
-  pub taken_made : {ts : List ℕ} → ts ≡ words_of (tables_of tables) → o ≡ passes → LinesOn ts rules place old new n
-      → Overwritten (sheet_line (sheet_of tables rules) place) old new n
+  pub taken_made : {ts : List ℕ} → o ≡ Ok ts → LinesOn ts rules place old new n → Overwritten (sheet_line (sheet_of tables rules) place) old new n
   unfolding sheet_of sheet_by
-  taken_made w q f = let t = was-taken tables r w q in rw t.is (f t.tables t.holds)
+  taken_made q f = let t = read-taken tables r q in rw t.is (f t.tables t.holds)

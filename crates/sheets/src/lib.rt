@@ -44,7 +44,7 @@ fn refused_tables(e: Refusal, place: usize, out: &mut [u8]) -> usize
     if place != 1 {
         return 0;
     }
-    text::labelled(b"tables refused ", u64::from(u32::from(e)), out)
+    text::labelled(b"tables refused ", u32::from(e) as u64, out)
 }
 
 // The sheet of rules that are too long.

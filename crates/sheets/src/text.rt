@@ -25,7 +25,7 @@ fn says(v: Verdict, out: &mut [u8]) -> usize
 {
     let outcome = v.outcome;
     match outcome {
-        Outcome::Refused(e) => labelled(b" refused ", u64::from(u32::from(e)), out),
+        Outcome::Refused(e) => labelled(b" refused ", u32::from(e) as u64, out),
         Outcome::Held => shared(b" held ", v, out),
         Outcome::Idle => idle(v, out),
         Outcome::Broken => broken(v, out),

@@ -8,4 +8,4 @@ returns-then-place-ne1 c = nothing-made _ _ _ c.if-place-ne1.true
 
 pub returns : goal.returns
 returns c =
-    one-made c.if-place-ne1.false (rw c.number.ensures at c.labelled.ensures)
+    one-made c.if-place-ne1.false (rw c.from.ensures at c.labelled.ensures)

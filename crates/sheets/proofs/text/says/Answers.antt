@@ -6,7 +6,7 @@ use Rattle.sheets.proofs.text.says.Goals as goal
 pub returns-in-Refused : goal.returns-in-Refused
 unfolding says_of shared_of counts_of
 returns-in-Refused c =
-    rw c.in-Refused.is (rw c.number.ensures at c.labelled.ensures)
+    rw c.in-Refused.is (rw c.from.ensures at c.labelled.ensures)
 
 pub returns-in-Held : goal.returns-in-Held
 unfolding says_of shared_of counts_of
