@@ -8,24 +8,21 @@ use Prim.Native.Nat.{ℕ}
 use Rattle.syntax.specs.Bytes.{Bytes}
 use Rattle.syntax.specs.Rule.{Rule}
 use Rattle.rules.specs.declared.Parsed.{Parsed}
-use Rattle.answers.specs.Outcome.{passes}
-use Rattle.std.specs.declared.result.Result.TheVariants.{Ok}
 use Rattle.walks.specs.Order.{variables_of}
 use Rattle.texts.specs.Code.Overwritten.{Overwritten}
 use Rattle.verdicts.specs.declared.Verdict.{Verdict}
 use Rattle.verdicts.specs.Verdict.{word_number, outcome_of, full_count, breaking_count, verdict_along, turn_order, written}
 use Rattle.verdicts.specs.Code.Judging.{ParsedFrom, JudgesInTurn}
-use Rattle.verdicts.proofs.ParsedLaws.{parsed-accepts}
 use Rattle.verdicts.proofs.TurnLaws.{judged-in-turn, outcome-in-turn}
 use Rattle.mentions.specs.Mention.{mentions}
 use Rattle.sessions.specs.State.{current_bytes, verdict_in, verdict_after}
 use Rattle.sessions.specs.Code.Laying.{rule_of_front, PutsCurrent, PutsVerdict}
 
 -- The verdict in turn, written with its own word, is the current one.
-pub current-written : {ts : List ℕ} {p : Parsed} {r : Verdict} {word : ℕ} {old new : Bytes} {n : ℕ} (rule : Bytes) → ParsedFrom rule p → p.outcome ≡ passes → JudgesInTurn ts rule r
+pub current-written : {ts : List ℕ} {p : Parsed} {r : Verdict} {word : ℕ} {old new : Bytes} {n : ℕ} (rule : Bytes) → ParsedFrom rule p → JudgesInTurn ts rule r
     → word ≡ word_number r.outcome → Overwritten (written word r) old new n → PutsCurrent ts rule old new n
-current-written {r = r} rule P h j q o T ρ a t =
-    let ok = parsed-accepts P h in
+current-written {r = r} rule P j q o T ρ a t =
+    let ok = P.accepts in
     let v : r ≡ verdict_along T ρ (variables_of (turn_order (some ρ)))
     = j T a ∙ judged-in-turn T rule ok ρ t ∙ ap (λ (x : Option Rule). verdict_along T ρ (variables_of (turn_order x))) t in
     let u : r.outcome ≡ outcome_of (full_count T ρ) (breaking_count T ρ) = ap (λ (v : Verdict). v.outcome) (j T a) ∙ outcome-in-turn T rule ok ρ t in

@@ -1,6 +1,6 @@
 -- Where a state's rule ends, and the parts of a state that is not cut short.
 -- Assumes nothing.
-use mathlib.Core.Path.{◌≡◌, refl, ap, ◌∙◌}
+use mathlib.Core.Path.{◌≡◌, refl, sym, ap, ◌∙◌}
 use mathlib.Core.Bool.{Bool, true, false, ◌||◌, cond, true≢false}
 use mathlib.Core.List.{◌∷◌}
 use Prim.Native.Nat.{ℕ, ◌+◌, ◌*◌, ◌-◌, ◌≤◌, ◌<◌}
@@ -16,10 +16,12 @@ use Rattle.syntax.specs.Bytes.{Bytes}
 use Rattle.verdicts.specs.Both.{of_texts}
 use Rattle.changes.specs.declared.Change.{Change}
 use Rattle.sessions.specs.State.{verdict_in, rule_length, rule_in, tables_in, is_cut, changed_state, stepped}
-use Rattle.sessions.specs.Code.Laying.{rule_of_front}
+use Rattle.sessions.specs.Code.Laying.{rule_of_front, rule_end}
+use Rattle.std.specs.declared.option.Option.{Option}
+use Rattle.std.specs.declared.option.Option.TheVariants.{Some, None}
 
 module _ (s : Bytes) where
-  pub cut-front : length s < 28 → 0 ≡ cond (is_cut s) 0 (28 + rule_length s)
+  pub cut-front : length s < 28 → None ≡ rule_end s
   unfolding is_cut
   cut-front l = rw (lt-ltb (length s) 28 l)
 
@@ -31,17 +33,17 @@ module _ (s : Bytes) where
       rw (a, b) (omega arith)
 
   module _ {e : ℕ} (l : 28 ≤ length s) (q : e ≡ 28 + (get_or s 26 0 + 256 * get_or s 27 0)) where
-    pub cut-rule : length s < e → 0 ≡ cond (is_cut s) 0 (28 + rule_length s)
+    pub cut-rule : length s < e → None ≡ rule_end s
     unfolding is_cut
     cut-rule k =
         let m : length s < 28 + rule_length s = omega (arith, length-bytes l) in
         rw (le-ltb (length s) 28 l, lt-ltb (length s) (28 + rule_length s) m)
 
-    pub whole-rule : e ≤ length s → e ≡ cond (is_cut s) 0 (28 + rule_length s)
+    pub whole-rule : e ≤ length s → Some e ≡ rule_end s
     unfolding is_cut
     whole-rule k =
         let m : 28 + rule_length s ≤ length s = omega (arith, length-bytes l) in
-        rw (le-ltb (length s) 28 l, le-ltb (length s) (28 + rule_length s) m) (omega (arith, length-bytes l))
+        rw (le-ltb (length s) 28 l, le-ltb (length s) (28 + rule_length s) m) (ap Some (omega (arith, length-bytes l)))
 
   -- A state that is not cut short has its 28 bytes and its rule, and is read as its three parts.
   pub whole_long : is_cut s ≡ false → 28 + rule_length s ≤ length s
@@ -57,25 +59,25 @@ module _ (s : Bytes) where
   step-whole h c = rw h
 
   -- What `rule_end` says.
-  module _ {r : ℕ} (q : r ≡ cond (is_cut s) 0 (28 + rule_length s)) where
-    pub step_cut : r ≡ 0 → (c : Change) → stepped s c ≡ refused CutShort
+  module _ {o : Option ℕ} (q : o ≡ rule_end s) where
+    pub step_cut : o ≡ None → (c : Change) → stepped s c ≡ refused CutShort
     unfolding stepped
     step_cut z c = rw (go (is_cut s) q)
       where
-        go : (b : Bool) → r ≡ cond b 0 (28 + rule_length s) → b ≡ true
+        go : (b : Bool) → o ≡ cond b None (Some (28 + rule_length s)) → b ≡ true
         go true e = refl
-        go false e = absurd (omega arith)
+        go false e = let y : ◌≡◌ {A = ℕ} 0 1 = cc in absurd (omega arith)
 
-    module _ (n : r ≡ 0 → ⊥) where
+    module _ {r : ℕ} (n : o ≡ Some r) where
       pub not-cut : is_cut s ≡ false
       not-cut = go (is_cut s) refl q
         where
-          go : (b : Bool) → is_cut s ≡ b → r ≡ cond b 0 (28 + rule_length s) → is_cut s ≡ false
-          go true e h = absurd (n h)
+          go : (b : Bool) → is_cut s ≡ b → o ≡ cond b None (Some (28 + rule_length s)) → is_cut s ≡ false
+          go true e h = let y : ◌≡◌ {A = ℕ} 0 1 = cc in absurd (omega arith)
           go false e h = e
 
       ends : r ≡ 28 + rule_length s
-      ends = q ∙ rw not-cut
+      ends = let e : Some r ≡ Some (28 + rule_length s) = sym n ∙ q ∙ rw not-cut in cc
 
       pub end-in : (28 ≤ r) × (r ≤ length s)
       end-in = (omega (arith, ends), rw ends (whole_long not-cut))

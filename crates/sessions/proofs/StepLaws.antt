@@ -4,6 +4,9 @@ use mathlib.Core.Path.{◌≡◌, sym, ap, ◌∙◌}
 use mathlib.Core.Bool.{Bool, true, false, cond}
 use mathlib.Core.List.{List, ◌++◌}
 use mathlib.Core.Option.{none, some}
+use Rattle.std.specs.declared.option.Option.{Option}
+use Rattle.std.specs.declared.option.Option.TheVariants.{Some}
+use Rattle.rules.specs.Accept.{refusal}
 use Prim.Native.Nat.{ℕ, ◌+◌, ◌-◌, ◌≤◌, ◌<◌}
 use native.Mathlib.Omega.{arith}
 use lib.ListN.{length, get_or, take, drop, length-drop}
@@ -36,14 +39,13 @@ use Rattle.verdicts.specs.Both.{Given, of_both}
 use Rattle.verdicts.specs.Code.Judging.{TablesAt, Loaded, ParsedFrom, AnswersOn}
 use Rattle.verdicts.proofs.LoadedLaws.{Took}
 use Rattle.verdicts.proofs.BothLaws.{both-refused, both-taken}
-use Rattle.verdicts.proofs.ParsedLaws.{parsed-rejects, parsed-accepts, parsed-rule}
 use Rattle.changes.specs.declared.Change.{Change}
 use Rattle.changes.specs.declared.Change.TheVariants.{Opening, Closing}
 use Rattle.changes.specs.Change.{changed, change_refusal}
 use Rattle.changes.specs.Code.Made.{due_in, DueBy, Ready, Makes}
 use Rattle.mentions.specs.Mention.{mentions}
-use Rattle.sessions.specs.State.{parts, current_bytes, state_bytes, verdict_in, rule_length, rule_in, tables_in, is_cut, verdict_after, changed_state, stepped}
-use Rattle.sessions.specs.Code.Laying.{next_length, rule_of_front, Front, Holds, Changed, AddsChanged, PutsCurrent, PutsVerdict, ChangesOn, StepsOn}
+use Rattle.sessions.specs.State.{parts, current_bytes, state_bytes, verdict_in, rule_in, tables_in, verdict_after, changed_state, stepped}
+use Rattle.sessions.specs.Code.Laying.{next_length, rule_end, rule_of_front, Front, Holds, Changed, AddsChanged, PutsCurrent, PutsVerdict, ChangesOn, StepsOn}
 use Rattle.sessions.proofs.LayLaws.{to_end, parts-written, parts-length, rule-length}
 use Rattle.sessions.proofs.RowLaws.{changed-length}
 use Rattle.sessions.proofs.SplitLaws.{step-whole, not-cut, tables-part, verdict-part, rule-part}
@@ -68,37 +70,36 @@ held_bytes h {T} a = h.bytes ∙ ap encode (sym (tables-one T h.tables (sym a.wo
 pub holds-short : {ts : List ℕ} {b : Bytes} → Holds ts b → length b ≤ 3978
 holds-short h = rw h.bytes (accepted-short (encode h.tables) (passes-accepted h.tables h.at.passes))
 
-pub given-at : {ts : List ℕ} {T : Tables} {rule : Bytes} {p : Parsed} → TablesAt ts T → ParsedFrom rule p → p.outcome ≡ passes → {ρ : Rule} → rule_of rule ≡ some ρ
+pub given-at : {ts : List ℕ} {T : Tables} {rule : Bytes} {p : Parsed} → TablesAt ts T → ParsedFrom rule p → {ρ : Rule} → rule_of rule ≡ some ρ
     → Given (encode T) rule T ρ
-given-at {T = T} a P h t = record { reads = passes-accepted T a.passes; accepts = parsed-accepts P h; tree = t }
+given-at {T = T} a P t = record { reads = passes-accepted T a.passes; accepts = P.accepts; tree = t }
 
-pub parsed-short : {rule : Bytes} {p : Parsed} → ParsedFrom rule p → p.outcome ≡ passes → length rule ≤ 256
-parsed-short {rule} P h = (accepted-gives rule (parsed-accepts P h)).short
+pub parsed-short : {rule : Bytes} {p : Parsed} → ParsedFrom rule p → length rule ≤ 256
+parsed-short {rule} P = (accepted-gives rule P.accepts).short
 
 -- ---- a rule that is refused, and one that is accepted
 
-pub on-refused : {ts : List ℕ} {rule : Bytes} {p : Parsed} {e : Refusal} (f : Tables → Rule → Answer) (old : Bytes) → ParsedFrom rule p → p.outcome ≡ Err e
-    → AnswersOn ts rule f old old (Err e)
+pub on-refused : {ts : List ℕ} (rule : Bytes) {e : Refusal} (f : Tables → Rule → Answer) (old : Bytes) → refusal rule ≡ some e → AnswersOn ts rule f old old (Err e)
 unfolding of_both
-on-refused {e = e} f old P h T a = rw (parsed-rejects P h) (kept-refused (length old) old e)
+on-refused rule {e = e} f old h T a = rw h (kept-refused (length old) old e)
 
-on-accepted : {ts : List ℕ} {rule : Bytes} {p : Parsed} (f : Tables → Rule → Answer) {old new : Bytes} {w : Written} → ParsedFrom rule p → p.outcome ≡ passes
+on-accepted : {ts : List ℕ} {rule : Bytes} {p : Parsed} (f : Tables → Rule → Answer) {old new : Bytes} {w : Written} → ParsedFrom rule p
     → ((T : Tables) (ρ : Rule) → TablesAt ts T → rule_of rule ≡ some ρ → Answers (lent (length old) (f T ρ)) old new w) → AnswersOn ts rule f old new w
 unfolding of_both
-on-accepted f P h g T a = let t = (parsed-rule P h).reads in rw (parsed-accepts P h, t) (g T (parsed-rule P h).tree a t)
+on-accepted f P g T a = let t = P.rule.reads in rw (P.accepts, t) (g T P.rule.tree a t)
 
 -- ---- the start
 
-module _ {ts : List ℕ} {tables rule : Bytes} {p : Parsed} (H : Holds ts tables) (P : ParsedFrom rule p) (h : p.outcome ≡ passes) where
+module _ {ts : List ℕ} {tables rule : Bytes} {p : Parsed} (H : Holds ts tables) (P : ParsedFrom rule p) where
   pub start-short : (old : Bytes) → length old < 28 + length rule + length tables
       → AnswersOn ts rule (λ T ρ. wrote (state_bytes T ρ rule)) old old (Err ShortSheet)
   start-short old l =
-      on-accepted _ P h (λ T ρ a t.
-      kept-short (state_bytes T ρ rule) old (omega (arith, made-length (given-at a P h t), ap length (held_bytes H a))))
+      on-accepted _ P (λ T ρ a t.
+      kept-short (state_bytes T ρ rule) old (omega (arith, made-length (given-at a P t), ap length (held_bytes H a))))
 
   pub start-written : {old a b new : Bytes} {i j r : ℕ} → PutsCurrent ts rule old a i → Added i (lowest_first 2 (length rule) ++ rule) a b j → Added j tables b new r
       → AnswersOn ts rule (λ T ρ. wrote (state_bytes T ρ rule)) old new (Ok r)
-  start-written x y z = on-accepted _ P h (λ T ρ a t. parts-written rule (x T ρ a t) y (rw (held_bytes H a) at z))
+  start-written x y z = on-accepted _ P (λ T ρ a t. parts-written rule (x T ρ a t) y (rw (held_bytes H a) at z))
 
 -- ---- a change that nothing refuses
 
@@ -111,7 +112,7 @@ module _ {ts : List ℕ} {front tables : Bytes} {p : Parsed} (H : Holds ts table
   rule = rule_of_front front
 
   pub front_length : (28 + length rule ≡ length front) × (length rule ≤ 256)
-  front_length = (omega (arith, F.long, length-drop 28 front), parsed-short F.parses F.accepts)
+  front_length = (omega (arith, F.long, length-drop 28 front), parsed-short F.parses)
 
   pub room-length : (9 ≤ length front + length tables) × (length front + length tables ≤ 65536)
   room-length = (omega (arith, F.long), omega (arith, front_length.0, front_length.1, holds-short H))
@@ -126,7 +127,7 @@ module _ {ts : List ℕ} {front tables : Bytes} {p : Parsed} (H : Holds ts table
       after-length = go (mentions rule)
         where
           go : (b : Bool) → length (cond b (current_bytes (changed T c) ρ) (verdict_in front)) ≡ 26
-          go true = current-length (given-changed (given-at a F.parses F.accepts t) c free)
+          go true = current-length (given-changed (given-at a F.parses t) c free)
           go false = length-take-le 26 front (omega (arith, F.long))
 
       next-state : length (parts (verdict_after (verdict_in front) rule (changed T c) ρ) rule (encode (changed T c))) ≡ next_length c (length front + length tables)
@@ -150,8 +151,8 @@ module _ {ts : List ℕ} {front tables : Bytes} {p : Parsed} (H : Holds ts table
           → n ≡ next_length c (length front + length tables) → n ≤ length old → j + next_length c (length tables) ≤ length y
       next_fits v q e l =
           let a = R.holds in
-          let t = (parsed-rule F.parses F.accepts).reads in
-          let one = v (changed R.tables c) (parsed-rule F.parses F.accepts).tree (m R.tables a R.free) t in
+          let t = F.parses.rule.reads in
+          let one = v (changed R.tables c) F.parses.rule.tree (m R.tables a R.free) t in
           let both = add-more one q in
           omega (arith, written-length both, one.count, after-length a R.free t, q.0, rule-length rule, front_length.0, next-room)
 
@@ -163,18 +164,18 @@ module _ {ts : List ℕ} {front tables : Bytes} {p : Parsed} (H : Holds ts table
 
 -- ---- any change
 
-module _ (ts front : Bytes) {p : Parsed} (c : Change) (o : Outcome) (P : ParsedFrom (rule_of_front front) p) (h : p.outcome ≡ passes) (d : DueBy ts c o) where
+module _ (ts front : Bytes) {p : Parsed} (c : Change) (o : Outcome) (P : ParsedFrom (rule_of_front front) p) (d : DueBy ts c o) where
   pub step-refused : {e : Refusal} (old : Bytes) → o ≡ Err e → StepsOn ts front c old old (Err e)
   unfolding changed_state
   step-refused {e} old q =
-      on-accepted _ P h (λ T ρ a t.
+      on-accepted _ P (λ T ρ a t.
       let r : change_refusal T c ≡ some e = sym (d T a) ∙ ap due_in q in
       rw r (kept-refused (length old) old e))
 
   pub step-changed : o ≡ passes → {old new : Bytes} {w : Written} → ChangesOn ts front c old new w → StepsOn ts front c old new w
   unfolding changed_state
   step-changed q x =
-      on-accepted _ P h (λ T ρ a t.
+      on-accepted _ P (λ T ρ a t.
       let r : change_refusal T c ≡ none = sym (d T a) ∙ ap due_in q in
       rw r (x T ρ a r t))
 
@@ -183,7 +184,7 @@ module _ (ts front : Bytes) {p : Parsed} (c : Change) (o : Outcome) (P : ParsedF
 
 -- ---- a state that is not cut short
 
-module _ (s : Bytes) {r : ℕ} (q : r ≡ cond (is_cut s) 0 (28 + rule_length s)) (n : r ≡ 0 → ⊥) (c : Change) where
+module _ (s : Bytes) {o : Option ℕ} {r : ℕ} (q : o ≡ rule_end s) (n : o ≡ Some r) (c : Change) where
   pub whole-refused : {e : Refusal} (old : Bytes) → tables_of (take (length s - r) (drop r s)) ≡ rejected e → Answers (lent (length old) (stepped s c)) old old (Err e)
   whole-refused old t =
       rw (step-whole s (not-cut s q n) c)

@@ -10,10 +10,9 @@ ghost use Rattle.changes.specs.Code.Made.{Ready};
 ghost use Rattle.sessions.specs.State.{state_bytes, started, stepped};
 ghost use Rattle.sessions.specs.Code.Laying.{next_length, Front, Holds, ChangesOn, StepsOn};
 
-use answers::{Refusal, Written};
+use answers::Refusal;
 use changes::Change;
-use rules::{Checked, Parsed};
-use tables::Outcome as Read;
+use rules::Parsed;
 use tables::layout::WHOLE;
 use verdicts::sheet;
 
@@ -26,34 +25,26 @@ pub const HEAD: usize = sheet::VERDICT;
 pub const FRONT: usize = HEAD + 2;
 
 // The start on accepted tables, held as words and as bytes.
-fn start_on(words: &[u64], tables: &[u8], rule: &[u8], out: &mut [u8]) -> Written
+fn start_on(words: &[u64], tables: &[u8], rule: &[u8], out: &mut [u8]) -> Result<usize, Refusal>
     requires { Holds words.now tables.now }
     ensures { AnswersOn words.now rule.now (λ T ρ. wrote (state_bytes T ρ rule.now)) out.old out.new result }
 {
-    let parsed = rules::parse(rule);
-    let outcome = parsed.outcome;
-    match outcome {
-        Checked::Refused(e) => Written::Refused(e),
-        Checked::Accepted => {
-            if out.len() < FRONT + rule.len() + tables.len() {
-                return Written::Refused(Refusal::ShortSheet);
-            }
-            let a = state::put_current(words, parsed, out);
-            let b = state::add_rule(a, rule, out);
-            Written::Wrote(texts::add(b, tables, out))
-        }
+    let parsed = rules::parse(rule)?;
+    if out.len() < FRONT + rule.len() + tables.len() {
+        return Err(Refusal::ShortSheet);
     }
+    let a = state::put_current(words, parsed, out);
+    let b = state::add_rule(a, rule, out);
+    Ok(texts::add(b, tables, out))
 }
 
 // The start: tables are checked, then the rule; 17 comes last, and a refusal writes nothing.
-pub fn start(tables: &[u8], rule: &[u8], out: &mut [u8]) -> Written
+pub fn start(tables: &[u8], rule: &[u8], out: &mut [u8]) -> Result<usize, Refusal>
     ensures { Answers (lent (length out.old) (started tables.now rule.now)) out.old out.new result }
 {
     let mut words = [0u64; WHOLE];
-    match tables::load(tables, &mut words) {
-        Read::Refused(e) => Written::Refused(e),
-        Read::Accepted => start_on(&words, tables, rule, out),
-    }
+    tables::load(tables, &mut words)?;
+    start_on(&words, tables, rule, out)
 }
 
 // How many bytes there are once the change is made, where there are n.
@@ -75,19 +66,19 @@ fn change_on(
     tables: &[u8],
     change: Change,
     out: &mut [u8],
-) -> Written
+) -> Result<usize, Refusal>
     requires ready { Ready words.old change }
     requires holds { Holds words.old tables.now }
     requires front { Front front.now parsed }
     ensures { ChangesOn words.old front.now change out.old out.new result }
 {
     if out.len() < next_length(change, front.len() + tables.len()) {
-        return Written::Refused(Refusal::ShortSheet);
+        return Err(Refusal::ShortSheet);
     }
     changes::make(words, change);
     let a = state::put_verdict(words, parsed, front, out);
     let b = state::add_rule(a, &front[FRONT..], out);
-    Written::Wrote(rows::add_changed(words, tables, change, b, out))
+    Ok(rows::add_changed(words, tables, change, b, out))
 }
 
 // The rule is checked, then what refuses the change of accepted tables, held as words and as bytes.
@@ -97,33 +88,26 @@ fn step_on(
     tables: &[u8],
     change: Change,
     out: &mut [u8],
-) -> Written
+) -> Result<usize, Refusal>
     requires holds { Holds words.old tables.now }
     requires in_bounds { 28 ≤ length front.now }
     ensures { StepsOn words.old front.now change out.old out.new result }
 {
-    let parsed = rules::parse(&front[FRONT..]);
-    let outcome = parsed.outcome;
-    match outcome {
-        Checked::Refused(e) => Written::Refused(e),
-        Checked::Accepted => match changes::due(words, change) {
-            Read::Refused(e) => Written::Refused(e),
-            Read::Accepted => change_on(words, parsed, front, tables, change, out),
-        },
-    }
+    let parsed = rules::parse(&front[FRONT..])?;
+    changes::due(words, change)?;
+    change_on(words, parsed, front, tables, change, out)
 }
 
 // The change of a state: the state is read, then the change is looked at; 17 comes last, and a refusal writes nothing.
-pub fn step(state: &[u8], change: Change, out: &mut [u8]) -> Written
+pub fn step(state: &[u8], change: Change, out: &mut [u8]) -> Result<usize, Refusal>
     ensures { Answers (lent (length out.old) (stepped state.now change)) out.old out.new result }
 {
-    let end = state::rule_end(state);
-    if end == 0 {
-        return Written::Refused(Refusal::CutShort);
-    }
+    let Some(end) = state::rule_end(state) else {
+        return Err(Refusal::CutShort);
+    };
+    let front = &state[..end];
+    let tables = &state[end..];
     let mut words = [0u64; WHOLE];
-    match tables::load(&state[end..], &mut words) {
-        Read::Refused(e) => Written::Refused(e),
-        Read::Accepted => step_on(&mut words, &state[..end], &state[end..], change, out),
-    }
+    tables::load(tables, &mut words)?;
+    step_on(&mut words, front, tables, change, out)
 }

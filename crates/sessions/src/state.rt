@@ -1,38 +1,35 @@
 // A state's parts: where its rule ends, its verdict, and its rule behind that.
 // The verdict is given afresh where the rule mentions sessions, and copied where it does not.
-ghost use Rattle.std.specs.Prelude.{◌≡◌, ◌++◌, cond, ◌+◌, ◌≤◌, length};
+ghost use Rattle.std.specs.Prelude.{◌≡◌, ◌++◌, ◌+◌, ◌≤◌, length};
 ghost use Rattle.rules.specs.Accept.{rule_limit};
-ghost use Rattle.rules.specs.declared.Checked.TheVariants.{Accepted};
 ghost use Rattle.syntax.specs.Bytes.{Bytes};
 ghost use Rattle.tables.specs.Bytes.{lowest_first};
 ghost use Rattle.texts.specs.Code.Overwritten.{Added};
 ghost use Rattle.verdicts.specs.Code.Judging.{Loaded, SomeRule, ParsedFrom};
-ghost use Rattle.sessions.specs.State.{is_cut, rule_length};
-ghost use Rattle.sessions.specs.Code.Laying.{Front, PutsCurrent, PutsVerdict};
+ghost use Rattle.sessions.specs.Code.Laying.{rule_end, Front, PutsCurrent, PutsVerdict};
 
 use crate::{FRONT, HEAD};
 use rules::Parsed;
 use verdicts::sheet;
 
-// Where the rule of a state ends; 0 where the state is cut short.
-pub fn rule_end(state: &[u8]) -> usize
-    ensures { result ≡ cond (is_cut state.now) 0 (28 + rule_length state.now) }
+// Where the rule of a state ends, where the state is not cut short.
+pub fn rule_end(state: &[u8]) -> Option<usize>
+    ensures { result ≡ rule_end state.now }
 {
     if state.len() < FRONT {
-        return 0;
+        return None;
     }
     let end = FRONT + (state[HEAD] as usize + 256 * state[HEAD + 1] as usize);
     if state.len() < end {
-        return 0;
+        return None;
     }
-    end
+    Some(end)
 }
 
 // Writes the verdict of an accepted rule, in the order 1, 2, .., over the beginning of the lent bytes.
 pub fn put_current(words: &[u64], parsed: Parsed, out: &mut [u8]) -> usize
     requires loaded { Loaded words.now }
     requires some_rule { SomeRule parsed }
-    requires outcome_value { parsed.outcome ≡ Accepted }
     requires in_bounds { 26 ≤ length out.old }
     ensures puts_current { (rule : Bytes) → ParsedFrom rule parsed → PutsCurrent words.now rule out.old out.new result }
     ensures value { result ≡ 26 }

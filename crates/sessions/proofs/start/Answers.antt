@@ -1,5 +1,6 @@
 -- `sessions::start`: refused tables give their refusal, accepted ones go on to the rule.
 -- Assumes nothing.
+use Rattle.std.proofs.lemmas.Result.{err_from_is_err_and}
 use Rattle.verdicts.proofs.LoadedLaws.{load-rejected, load-taken}
 use Rattle.verdicts.proofs.BothLaws.{both-refused, both-taken}
 use Rattle.sessions.specs.State.{started}
@@ -8,16 +9,17 @@ use Rattle.sessions.proofs.start.Goals as goal
 
 pub start_on-requires : goal.start_on-requires
 start_on-requires c =
-    let q = load-taken c.args.tables.now c.load.ensures.value c.load.ensures.words_after c.in-Accepted.is in
+    let q = load-taken c.args.tables.now c.load.ensures.value c.load.ensures.words_after c.in_ok-load.was in
     took-holds q (bytes-known _ c.shared_slice_known-1.given)
 
-pub returns-in-Refused : goal.returns-in-Refused
+pub returns-in_err-load : goal.returns-in_err-load
 unfolding started
-returns-in-Refused c =
-    both-refused c.args.tables.now c.args.rule.now _ _ (load-rejected c.args.tables.now c.load.ensures.value c.in-Refused.is)
+returns-in_err-load c =
+    let p = err_from_is_err_and c.from_residual.result c.from_residual.ensures.1 in
+    rw (p.1, p.2) (both-refused c.args.tables.now c.args.rule.now _ _ (load-rejected c.args.tables.now c.load.ensures.value c.in_err-load.was))
 
-pub returns-in-Accepted : goal.returns-in-Accepted
+pub returns : goal.returns
 unfolding started
-returns-in-Accepted c =
+returns c =
     both-taken c.args.tables.now c.args.rule.now _
-    (load-taken c.args.tables.now c.load.ensures.value c.load.ensures.words_after c.in-Accepted.is) c.start_on.ensures
+    (load-taken c.args.tables.now c.load.ensures.value c.load.ensures.words_after c.in_ok-load.was) c.start_on.ensures

@@ -1,27 +1,34 @@
 -- `sessions::start_on`: the rule is refused, the output is too short, or the parts of a state are written.
 -- Assumes nothing.
+use Rattle.std.proofs.lemmas.Result.{err_from_is_err_and}
+use Rattle.rules.proofs.ParseLaws.{as-parsed, as-refused}
 use Rattle.sessions.proofs.LayLaws.{rule-length}
 use Rattle.sessions.proofs.StepLaws.{holds-loaded, holds-short, parsed-short, on-refused, start-short, start-written}
 use borrow.Author.Rules.{rules}
 use Rattle.sessions.proofs.start_on.Goals as goal
 
-pub overflow_add-rule-in-Accepted : goal.overflow_add-rule-in-Accepted
-overflow_add-rule-in-Accepted c =
+pub returns-in_err-parsed : goal.returns-in_err-parsed
+returns-in_err-parsed c =
+    let p = err_from_is_err_and c.from_residual.result c.from_residual.ensures.1 in
+    rw (p.1, p.2) (on-refused _ _ _ (as-refused c.parse.ensures c.in_err-parsed.was))
+
+pub overflow_add-rule-2 : goal.overflow_add-rule-2
+overflow_add-rule-2 c =
     let short = holds-short c.requires in
-    let few = parsed-short c.parse-parsed.ensures c.in-Accepted.is in
+    let few = parsed-short (as-parsed c.parse.ensures c.in_ok-parsed.was) in
     search rules
 
 pub returns-then-out-rule : goal.returns-then-out-rule
-returns-then-out-rule c =
-    start-short c.requires c.parse-parsed.ensures c.in-Accepted.is _ c.if-out-rule.true
+returns-then-out-rule c = start-short c.requires (as-parsed c.parse.ensures c.in_ok-parsed.was) _ c.if-out-rule.true
 
 pub put_current-a-requires : goal.put_current-a-requires
 put_current-a-requires c =
-    record { loaded = holds-loaded c.requires; some_rule = record { text = _; parses = c.parse-parsed.ensures }; outcome_value = c.in-Accepted.is; in_bounds = search rules }
+    let P = as-parsed c.parse.ensures c.in_ok-parsed.was in
+    record { loaded = holds-loaded c.requires; some_rule = record { text = _; parses = P }; in_bounds = search rules }
 
 pub add_rule-b-requires : goal.add_rule-b-requires
 add_rule-b-requires c =
-    let few = parsed-short c.parse-parsed.ensures c.in-Accepted.is in
+    let few = parsed-short (as-parsed c.parse.ensures c.in_ok-parsed.was) in
     (search rules, few)
 
 pub add-requires : goal.add-requires
@@ -29,9 +36,7 @@ add-requires c =
     let l = rule-length c.args.rule.now in
     search rules
 
-pub returns-in-Refused : goal.returns-in-Refused
-returns-in-Refused c = on-refused _ _ c.parse-parsed.ensures c.in-Refused.is
-
-pub returns-else-out-rule : goal.returns-else-out-rule
-returns-else-out-rule c =
-    start-written c.requires c.parse-parsed.ensures c.in-Accepted.is (c.put_current-a.ensures.puts_current _ c.parse-parsed.ensures) c.add_rule-b.ensures c.add.ensures
+pub returns : goal.returns
+returns c =
+    let P = as-parsed c.parse.ensures c.in_ok-parsed.was in
+    start-written c.requires P (c.put_current-a.ensures.puts_current _ P) c.add_rule-b.ensures c.add.ensures

@@ -5,44 +5,38 @@ use native.Mathlib.Omega.{arith}
 use lib.Seq.{length-take-le}
 use Rattle.answers.specs.declared.Refusal.TheVariants.{CutShort}
 use Rattle.answers.proofs.AnswerLaws.{kept-refused}
+use Rattle.std.proofs.lemmas.Result.{err_from_is_err_and}
 use Rattle.verdicts.proofs.LoadedLaws.{load-rejected, load-taken}
 use Rattle.sessions.proofs.SplitLaws.{step_cut, end-in}
 use Rattle.sessions.proofs.StepLaws.{bytes-known, took-holds, whole-refused, whole-taken, tables-known}
 use Rattle.sessions.proofs.step.Goals as goal
 
-pub returns-then-end-eq0 : goal.returns-then-end-eq0
-returns-then-end-eq0 c =
-    rw (step_cut c.args.state.now c.rule_end-end.ensures c.if-end-eq0.true c.args.change) (kept-refused _ _ CutShort)
+pub returns-in_default : goal.returns-in_default
+returns-in_default c =
+    rw (step_cut c.args.state.now c.rule_end.ensures c.in_default.is c.args.change) (kept-refused _ _ CutShort)
 
-pub slice_bounds-load-count : goal.slice_bounds-load-count
-slice_bounds-load-count c = (end-in c.args.state.now c.rule_end-end.ensures c.if-end-eq0.false).1
+pub slice_bounds-front-end : goal.slice_bounds-front-end
+slice_bounds-front-end c =
+    sym (length-take-le c.in-Some.end c.args.state.now (end-in c.args.state.now c.rule_end.ensures c.in-Some.is).1)
 
-pub slice_bounds-load-start : goal.slice_bounds-load-start
-slice_bounds-load-start c = (end-in c.args.state.now c.rule_end-end.ensures c.if-end-eq0.false).1
+pub slice_bounds-tables-count : goal.slice_bounds-tables-count
+slice_bounds-tables-count c = (end-in c.args.state.now c.rule_end.ensures c.in-Some.is).1
 
-pub slice_bounds-step_on-end-in-Accepted : goal.slice_bounds-step_on-end-in-Accepted
-slice_bounds-step_on-end-in-Accepted c =
-    sym (length-take-le c.rule_end-end.result c.args.state.now (end-in c.args.state.now c.rule_end-end.ensures c.if-end-eq0.false).1)
-
-pub slice_bounds-step_on-count : goal.slice_bounds-step_on-count
-slice_bounds-step_on-count c =
-    (end-in c.args.state.now c.rule_end-end.ensures c.if-end-eq0.false).1
-
-pub slice_bounds-step_on-start : goal.slice_bounds-step_on-start
-slice_bounds-step_on-start c =
-    (end-in c.args.state.now c.rule_end-end.ensures c.if-end-eq0.false).1
+pub slice_bounds-tables-start : goal.slice_bounds-tables-start
+slice_bounds-tables-start c = (end-in c.args.state.now c.rule_end.ensures c.in-Some.is).1
 
 pub step_on-requires : goal.step_on-requires
 step_on-requires c =
-    let ends = end-in c.args.state.now c.rule_end-end.ensures c.if-end-eq0.false in
-    let q = load-taken _ c.load.ensures.value c.load.ensures.words_after c.in-Accepted.is in
-    record { holds = took-holds q (tables-known c.args.state.now c.rule_end-end.ensures c.if-end-eq0.false c.args.change (bytes-known c.args.state.now c.shared_slice_known-1.given)); in_bounds = omega (arith, ends.0, length-take-le c.rule_end-end.result c.args.state.now ends.1) }
+    let ends = end-in c.args.state.now c.rule_end.ensures c.in-Some.is in
+    let q = load-taken _ c.load.ensures.value c.load.ensures.words_after c.in_ok-load.was in
+    record { holds = took-holds q (tables-known c.args.state.now c.rule_end.ensures c.in-Some.is c.args.change (bytes-known c.args.state.now c.shared_slice_known-1.given)); in_bounds = omega (arith, ends.0, length-take-le c.in-Some.end c.args.state.now ends.1) }
 
-pub returns-in-Refused : goal.returns-in-Refused
-returns-in-Refused c =
-    whole-refused c.args.state.now c.rule_end-end.ensures c.if-end-eq0.false c.args.change _ (load-rejected _ c.load.ensures.value c.in-Refused.is)
+pub returns-in_err-load : goal.returns-in_err-load
+returns-in_err-load c =
+    let p = err_from_is_err_and c.from_residual.result c.from_residual.ensures.1 in
+    rw (p.1, p.2) (whole-refused c.args.state.now c.rule_end.ensures c.in-Some.is c.args.change _ (load-rejected _ c.load.ensures.value c.in_err-load.was))
 
-pub returns-in-Accepted : goal.returns-in-Accepted
-returns-in-Accepted c =
-    let q = load-taken _ c.load.ensures.value c.load.ensures.words_after c.in-Accepted.is in
-    whole-taken c.args.state.now c.rule_end-end.ensures c.if-end-eq0.false c.args.change q c.step_on.ensures
+pub returns : goal.returns
+returns c =
+    let q = load-taken _ c.load.ensures.value c.load.ensures.words_after c.in_ok-load.was in
+    whole-taken c.args.state.now c.rule_end.ensures c.in-Some.is c.args.change q c.step_on.ensures

@@ -1,6 +1,6 @@
 -- What is written of a state by the words and the bytes of the tables.
 -- Internal: contracts of entry points do not speak of it. Assumes nothing.
-use Rattle.std.specs.Prelude.{◌≡◌, List, ℕ, ◌+◌, ◌*◌, ◌-◌, ◌≤◌, length, get_or, drop}
+use Rattle.std.specs.Prelude.{◌≡◌, List, ℕ, ◌+◌, ◌*◌, ◌-◌, ◌≤◌, cond, length, get_or, drop, Option, Some, None}
 use Rattle.std.proofs.Math.Option.{none, some}
 use Rattle.answers.specs.Answer.{wrote, lent}
 use Rattle.answers.specs.Written.{Answers}
@@ -11,14 +11,12 @@ use Rattle.tables.specs.Code.Layout.{role_count_at, user_count_at}
 use Rattle.syntax.specs.Bytes.{Bytes}
 use Rattle.syntax.specs.Rule.{Rule, rule_of}
 use Rattle.rules.specs.declared.Parsed.{Parsed}
-use Rattle.answers.specs.Outcome.{passes}
-use Rattle.std.specs.declared.result.Result.TheVariants.{Ok}
 use Rattle.texts.specs.Code.Overwritten.{Overwritten, Added}
 use Rattle.verdicts.specs.Code.Judging.{TablesAt, ParsedFrom, AnswersOn}
 use Rattle.changes.specs.declared.Change.{Change}
 use Rattle.changes.specs.declared.Change.TheVariants.{Opening, Closing}
 use Rattle.changes.specs.Change.{changed, change_refusal}
-use Rattle.sessions.specs.State.{parts, current_bytes, verdict_in, verdict_after, changed_state}
+use Rattle.sessions.specs.State.{parts, current_bytes, verdict_in, verdict_after, rule_length, is_cut, changed_state}
 
 -- The bytes of a row of section 3; where its rows begin, by the counts of the words.
 abbrev pub row_length : ℕ
@@ -32,6 +30,10 @@ abbrev pub next_length : Change → ℕ → ℕ
 next_length (Opening u w) n = n + row_length
 next_length (Closing k) n = n - row_length
 
+-- Where the rule of a state ends, where the state is not cut short.
+abbrev pub rule_end : Bytes → Option ℕ
+rule_end s = cond (is_cut s) None (Some (28 + rule_length s))
+
 -- The front of a state is its verdict, the rule's length and the rule, which has at most 256 bytes once it is accepted.
 abbrev pub rule_of_front : Bytes → Bytes
 rule_of_front front = drop 28 front
@@ -39,7 +41,6 @@ rule_of_front front = drop 28 front
 pub record Front (front : Bytes) (p : Parsed) : Type 0 where
   pub long : 28 ≤ length front
   pub parses : ParsedFrom (rule_of_front front) p
-  pub accepts : p.outcome ≡ passes
 
 -- The words and the bytes hold the same tables.
 pub record Holds (ts : List ℕ) (b : Bytes) : Type 0 where
