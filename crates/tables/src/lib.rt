@@ -40,11 +40,11 @@ pub enum Row {
     Marked(u64),
 }
 
-// What reading a count, a row or a section gives: the refusal met, or a value and where the next byte stands.
+// A piece of the bytes that was read, a count, a row or a section: its value, and where the next byte stands.
 #[derive(Clone, Copy)]
-pub enum Step {
-    Stopped(Refusal),
-    Took { value: u64, next: usize },
+pub struct Piece {
+    pub value: u64,
+    pub next: usize,
 }
 
 // Reads the tables into words that are all 0. Once the sections are read and nothing is left over, the words have them, accepted or not;
@@ -55,10 +55,9 @@ pub fn load(bytes: &[u8], words: &mut [u64]) -> Outcome
     ensures words_after { result ≡ AcceptedOutcome → words.new ≡ words_of (tables_of bytes.now) }
     ensures words_after_2 { (T : Tables) → sections_of bytes.now ≡ took T [] → words.new ≡ flat T }
 {
-    let read = sections(bytes, words);
-    match read {
-        Step::Stopped(e) => Outcome::Refused(e),
-        Step::Took { value: _, next } => {
+    match sections(bytes, words) {
+        Err(e) => Outcome::Refused(e),
+        Ok(Piece { next, .. }) => {
             if next < bytes.len() {
                 return Outcome::Refused(Refusal::LeftOver);
             }

@@ -9,20 +9,20 @@ use Rattle.tables.proofs.load.Goals as goal
 
 pub returns-then-next-bytes : goal.returns-then-next-bytes
 returns-then-next-bytes c =
-    let w = whole_of c.requires (as-took c.sections-read.ensures c.in-Took.is) in
+    let w = whole_of c.requires (as-took c.in-Ok.ensures) in
     record { value = rw (load-left c.args.bytes.now w.reads c.if-next-bytes.true); words_after = λ z. never z; words_after_2 = λ T q. read_left c.args.bytes.now q w.reads c.if-next-bytes.true }
 
 pub checked-requires : goal.checked-requires
 checked-requires c =
-    let w = whole_of c.requires (as-took c.sections-read.ensures c.in-Took.is) in
+    let w = whole_of c.requires (as-took c.in-Ok.ensures) in
     counts-fit w.tables w.sound.fits w.flatly
 
-pub returns-in-Stopped : goal.returns-in-Stopped
-returns-in-Stopped c =
-    let stops = as-stop c.sections-read.ensures c.in-Stopped.is in
+pub returns-in-Err : goal.returns-in-Err
+returns-in-Err c =
+    let stops = as-stop c.in-Err.ensures in
     record { value = rw (load-stop c.args.bytes.now stops); words_after = λ z. never z; words_after_2 = λ T q. read-stopped c.args.bytes.now q stops }
 
 pub returns-else-next-bytes : goal.returns-else-next-bytes
 returns-else-next-bytes c =
-    let w = whole_of c.requires (as-took c.sections-read.ensures c.in-Took.is) in
+    let w = whole_of c.requires (as-took c.in-Ok.ensures) in
     let o = c.checked.ensures w.tables w.sound.fits w.sound.bounded w.flatly in record { value = o ∙ late-outcome c.args.bytes.now w.reads c.if-next-bytes.false; words_after = λ z. rw (late-taken c.args.bytes.now w.reads c.if-next-bytes.false (sym o ∙ z)) w.flatly; words_after_2 = λ T q. w.flatly ∙ ap flat (read-once c.args.bytes.now q w.reads) }

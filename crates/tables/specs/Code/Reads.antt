@@ -1,12 +1,11 @@
 -- Internal: how the code's answers agree with the readers of Reading, and what the words hold once a section is stored.
 -- Assumes nothing.
-use Rattle.std.specs.Prelude.{◌≡◌, List, [], ◌∷◌, map, Bool, not, ℕ, suc, ◌+◌, ◌%◌, ◌/◌, ◌≤◌, ◌<◌, eqb, length, get_or, drop, set}
+use Rattle.std.specs.Prelude.{◌≡◌, List, [], ◌∷◌, map, Bool, not, ℕ, suc, ◌+◌, ◌%◌, ◌/◌, ◌≤◌, ◌<◌, eqb, length, get_or, drop, set, Result, Ok, Err}
 use Rattle.answers.specs.declared.Refusal.{Refusal}
 use Rattle.words.specs.Words.{all_of, item_of, join_of, less_of, image_of, preimage_of}
 use Rattle.tables.specs.declared.Row.{Row}
 use Rattle.tables.specs.declared.Row.TheVariants.{Plain, Marked}
-use Rattle.tables.specs.declared.Step.{Step}
-use Rattle.tables.specs.declared.Step.TheVariants.{Stopped, Took}
+use Rattle.tables.specs.declared.Piece.{Piece}
 use Rattle.tables.specs.declared.Outcome.{Outcome}
 use Rattle.tables.specs.declared.Outcome.TheVariants.{Refused, Accepted}
 use Rattle.tables.specs.Tables.{User, Session, Deed, Tables, present_in}
@@ -19,9 +18,9 @@ use Rattle.tables.specs.Code.Layout.{done_count_at, done_users_at, done_objects_
 use Rattle.tables.specs.Flat.{room, tabulate}
 
 -- The code stopped with the reader's refusal, or took what the reader took, up to the same byte; Holds relates the two values.
-pub data Reads {A : Type 0} (s : Bytes) (Holds : A → ℕ → Type 0) : Step → Taken A → Type 0 where
-  stops : {e : Refusal} {r : Taken A} → r ≡ stop e → Reads s Holds (Stopped e) r
-  takes : {v n : ℕ} {a : A} {r : Taken A} → r ≡ took a (drop n s) → n ≤ length s → Holds a v → Reads s Holds (Took v n) r
+pub data Reads {A : Type 0} (s : Bytes) (Holds : A → ℕ → Type 0) : Result Piece Refusal → Taken A → Type 0 where
+  stops : {e : Refusal} {r : Taken A} → r ≡ stop e → Reads s Holds (Err e) r
+  takes : {p : Piece} {a : A} {r : Taken A} → r ≡ took a (drop p.next s) → p.next ≤ length s → Holds a p.value → Reads s Holds (Ok p) r
 
 -- The case of the outcome that a reading has.
 abbrev pub reading_outcome : Reading → Outcome

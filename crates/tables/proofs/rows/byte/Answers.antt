@@ -9,7 +9,7 @@ use Rattle.tables.proofs.rows.byte.Goals as goal
 
 pub returns-then-at-bytes : goal.returns-then-at-bytes
 returns-then-at-bytes c =
-    takes {n = c.args.at + 1} (byte-took c.args.bytes.now c.args.at c.if-at-bytes.true) (omega arith) (sym c.wide.ensures)
+    takes (byte-took c.args.bytes.now c.args.at c.if-at-bytes.true) (omega arith) (sym c.wide.ensures)
 
 pub returns : goal.returns
 returns c =
