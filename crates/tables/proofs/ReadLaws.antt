@@ -1,6 +1,7 @@
 -- Laws of the readers of specs/Reading, one for each way a count or a row is refused or taken.
 -- Assumes nothing.
 use Rattle.std.specs.Prelude.{Result, Ok, Err, IsErrAnd}
+use Rattle.std.specs.Int.{w64, from_le_bytes}
 use mathlib.Core.Path.{◌≡◌, refl, ap, ◌∙◌}
 use mathlib.Core.Bool.{Bool, true, false}
 use mathlib.Core.List.{[], ◌∷◌}
@@ -9,8 +10,7 @@ use native.Mathlib.Omega.{arith}
 use native.Mathlib.Numerals.{add-one}
 use lib.Dec.{leb}
 use lib.ListN.{length, get_or, take, drop, length-drop, drop_of_length-le}
-use native.Mathlib.Nat.{pow-suc, pow-le-pow_right}
-use lib.Seq.{drop-cons, length-take-le, drop-drop, get_or-drop, get_or-take}
+use lib.Seq.{drop-cons, drop-drop}
 use borrow.Author.Tests.{lt-ltb, le-ltb, le-leb, lt-leb, eq-eqb, ne_eqb}
 use Rattle.answers.specs.declared.Refusal.{Refusal}
 use Rattle.answers.specs.declared.Refusal.TheVariants.{CutShort, Overfull, NotEntered, BadMark, NoSuchItem}
@@ -89,53 +89,30 @@ module _ (s : Bytes) (at : ℕ) where
   unfolding count next refuse
   count-took limit g h = rw (g.reads, g.holds, le-ltb limit _ h)
 
--- The bytes of a word from i on are read, highest first.
-pub record WordRead (s : Bytes) (at w i : ℕ) : Type 0 where
-  pub few : i ≤ 8
-  pub is : w ≡ word_from (drop i (take 8 (drop at s)))
-  pub small : w < 256 ^ (8 - i)
+-- A word is its eight bytes, lowest first.
+word-rest : (b : Bytes) (j : ℕ) → j < length b → word_from (drop j b) ≡ get_or b j 0 + 256 * word_from (drop (suc j) b)
+unfolding word_from
+word-rest b j l = rw (drop-cons b j 0 l)
 
-module _ (s : Bytes) (at : ℕ) (h : at + 8 ≤ length s) where
-  eight : length (take 8 (drop at s)) ≡ 8
-  eight = length-take-le 8 (drop at s) (rw length-drop (omega arith))
+word_none : (b : Bytes) → length b ≡ 8 → word_from (drop 8 b) ≡ 0
+unfolding word_from
+word_none b q = rw (drop_of_length-le b {i = 8} (omega arith))
 
-  pub word_none : WordRead s at 0 8
-  unfolding word_from
-  word_none = let l : length (take 8 (drop at s)) ≤ 8 = omega (arith, eight) in
-      record { few = omega arith; is = rw (drop_of_length-le (take 8 (drop at s)) l); small = omega arith }
-
-  more : (j w : ℕ) → j < 8 → w ≡ word_from (drop (suc j) (take 8 (drop at s)))
-      → w * 256 + get_or s (at + j) 0 ≡ word_from (drop j (take 8 (drop at s)))
-  unfolding word_from
-  more j w l e =
-      let b : j < length (take 8 (drop at s)) = omega (arith, eight) in
-      rw (drop-cons (take 8 (drop at s)) j 0, get_or-take 8 (drop at s) j 0 l, get_or-drop, ← e) (omega arith)
-
-  less : (j w b : ℕ) → j < 8 → w < 256 ^ (8 - suc j) → b < 256 → w * 256 + b < 256 ^ (8 - j)
-  less j w b l h k =
-      let q : 8 - j ≡ suc (8 - suc j) = omega arith in
-      rw (q, pow-suc) (omega arith)
-
-  pub word_more : {w i b : ℕ} → 0 < i → b ≡ get_or s (at + (i - 1)) 0 → b < 256 → WordRead s at w i → WordRead s at (w * 256 + b) (i - 1)
-  word_more {w} {i} {b} p e k r =
-      let q : suc (i - 1) ≡ i = omega arith in
-      let l : i - 1 < 8 = omega arith in
-      let is' : w ≡ word_from (drop (suc (i - 1)) (take 8 (drop at s))) = rw q r.is in
-      let small' : w < 256 ^ (8 - suc (i - 1)) = rw q r.small in
-      record { few = omega arith; is = rw e (more (i - 1) w l is'); small = less (i - 1) w b l small' k }
-
-  pub word-shift : {w i : ℕ} → 0 < i → WordRead s at w i → w * 256 < 2 ^ 64
-  word-shift {w} {i} p r =
-      let q : 256 ^ (8 - i) ≤ 256 ^ 7 = pow-le-pow_right {n = 256} (omega arith) {i = 8 - i} {j = 7} (omega arith) in
-      omega arith
-
-  pub word_fits : {w i : ℕ} → WordRead s at w i → w < 2 ^ 64
-  word_fits {w} {i} r =
-      let q : 256 ^ (8 - i) ≤ 256 ^ 8 = pow-le-pow_right {n = 256} (omega arith) {i = 8 - i} {j = 8} (omega arith) in
-      omega arith
-
-  pub word-all : {w i : ℕ} → i ≤ 0 → WordRead s at w i → w ≡ word_from (take 8 (drop at s))
-  word-all {w} {i} l r = let q : i ≡ 0 = omega arith in rw q at r.is
+pub word_lem : (b : Bytes) → length b ≡ 8 → from_le_bytes w64 b ≡ word_from b
+word_lem b q =
+    let first : word_from b ≡ get_or b 0 0 + 256 * word_from (drop 1 b) = word-rest b 0 (omega arith) in
+    omega (
+      arith,
+      first,
+      word-rest b 1 (omega arith),
+      word-rest b 2 (omega arith),
+      word-rest b 3 (omega arith),
+      word-rest b 4 (omega arith),
+      word-rest b 5 (omega arith),
+      word-rest b 6 (omega arith),
+      word-rest b 7 (omega arith),
+      word_none b q,
+    )
 
 -- The word of a row, held against its count.
 pub within-over : (n : ℕ) (b t : Bytes) {w : ℕ} {r : Bool} → w ≡ word_from b → r ≡ leb (2 ^ n) w → r ≡ true → word_within n b t ≡ stop NoSuchItem

@@ -1,6 +1,6 @@
 -- Laws of a loop that reads rows: what is read so far, one row more, a row that is refused, and the end.
 -- Assumes nothing.
-use Rattle.std.specs.Prelude.{Result, Ok, Err}
+use Rattle.std.specs.Prelude.{Ok}
 use mathlib.Core.Path.{◌≡◌, refl, sym, ap, ◌∙◌}
 use mathlib.Core.List.{List, [], ◌∷◌, ◌++◌, map, append_assoc, append-nil}
 use Prim.Native.Nat.{ℕ, suc, ◌+◌, ◌-◌, ◌≤◌, ◌<◌}
@@ -10,7 +10,6 @@ use borrow.Author.Tests.{eq-eqb, ne_eqb}
 use lib.ListN.{length, get_or, drop, set, length-append, length-map}
 use Rattle.answers.specs.declared.Refusal.{Refusal}
 use Rattle.words.specs.Words.{item_of, join_of}
-use Rattle.tables.specs.declared.Piece.{Piece}
 use Rattle.tables.specs.Flat.{room}
 use Rattle.tables.specs.Tables.{User, Session, Deed, present_in}
 use Rattle.tables.specs.Reading.{Bytes, Taken, Reader, stop, took, next, marked_row, user_row, rows, entered, left}

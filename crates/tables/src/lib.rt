@@ -19,7 +19,7 @@ mod hierarchy;
 pub mod layout;
 mod rows;
 mod sections;
-mod twins;
+pub mod twins;
 
 #[derive(Clone, Copy)]
 pub enum Outcome {
@@ -93,5 +93,5 @@ pub fn rank_step(bytes: &[u8]) -> u32
     let Refusal::Rank = refusal else {
         return 0;
     };
-    failing_step(&words)
+    failing_step(&words).map_or(0, |step| step.number())
 }

@@ -12,19 +12,13 @@ pub const ENTERED: u8 = 1;
 
 pub const LEFT: u8 = 2;
 
-pub fn wide(x: u8) -> u64
-    ensures { result ≡ x }
-{
-    x as u64
-}
-
 pub fn byte(bytes: &[u8], at: usize) -> Result<Piece, Refusal>
     requires { at ≤ length bytes.now }
     ensures { Reads bytes.now Is result (byte_of (drop at bytes.now)) }
 {
     if at < bytes.len() {
         return Ok(Piece {
-            value: wide(bytes[at]),
+            value: u64::from(bytes[at]),
             next: at + 1,
         });
     }
@@ -42,18 +36,13 @@ pub fn count(bytes: &[u8], at: usize, limit: u64) -> Result<Piece, Refusal>
     Ok(read)
 }
 
-// The word whose lowest byte stands at `at`: from its highest byte down.
+// The word whose lowest byte stands at `at`.
 pub fn word(bytes: &[u8], at: usize) -> u64
     requires { at + 8 ≤ length bytes.now }
     ensures { result ≡ word_from (take 8 (drop at bytes.now)) }
 {
-    let mut w: u64 = 0;
-    let mut i: usize = 8;
-    while 0 < i {
-        i -= 1;
-        w = w * 256 + wide(bytes[at + i]);
-    }
-    w
+    let eight: [u8; 8] = bytes[at..at + 8].try_into().unwrap();
+    u64::from_le_bytes(eight)
 }
 
 pub fn word_within(bytes: &[u8], at: usize, n: u64) -> Result<Piece, Refusal>
@@ -121,7 +110,7 @@ pub fn session_row(bytes: &[u8], at: usize, users: u64, n: u64) -> Result<Piece,
     if bytes.len() - at < 9 {
         return Err(Refusal::CutShort);
     }
-    let user = wide(bytes[at]);
+    let user = u64::from(bytes[at]);
     if users <= user {
         return Err(Refusal::NoSuchItem);
     }
@@ -142,14 +131,14 @@ pub fn done_row(
     if bytes.len() - at < 3 {
         return Err(Refusal::CutShort);
     }
-    let user = wide(bytes[at]);
+    let user = u64::from(bytes[at]);
     if users <= user {
         return Err(Refusal::NoSuchItem);
     }
-    if operations <= wide(bytes[at + 1]) {
+    if operations <= u64::from(bytes[at + 1]) {
         return Err(Refusal::NoSuchItem);
     }
-    if objects <= wide(bytes[at + 2]) {
+    if objects <= u64::from(bytes[at + 2]) {
         return Err(Refusal::NoSuchItem);
     }
     Ok(Piece {

@@ -1,11 +1,13 @@
 -- Internal: how the code's answers agree with the readers of Reading, and what the words hold once a section is stored.
 -- Assumes nothing.
-use Rattle.std.specs.Prelude.{◌≡◌, List, [], ◌∷◌, map, Bool, not, ℕ, suc, ◌+◌, ◌%◌, ◌/◌, ◌≤◌, ◌<◌, eqb, length, get_or, drop, set, Result, Ok, Err}
+use Rattle.std.specs.Prelude.{◌≡◌, List, [], ◌∷◌, map, Bool, not, ℕ, suc, ◌+◌, ◌%◌, ◌/◌, ◌≤◌, ◌<◌, eqb, length, get_or, drop, set, Option, Some, None, Result, Ok, Err}
 use Rattle.answers.specs.declared.Refusal.{Refusal}
 use Rattle.words.specs.Words.{all_of, item_of, join_of, less_of, image_of, preimage_of}
 use Rattle.tables.specs.declared.Row.{Row}
 use Rattle.tables.specs.declared.Row.TheVariants.{Plain, Marked}
 use Rattle.tables.specs.declared.Piece.{Piece}
+use Rattle.tables.specs.declared.hierarchy.RankStep.{RankStep}
+use Rattle.tables.specs.declared.hierarchy.RankStep.TheVariants.{Reflexive, Transitive, Antisymmetric}
 use Rattle.tables.specs.declared.Outcome.{Outcome}
 use Rattle.tables.specs.declared.Outcome.TheVariants.{Refused, Accepted}
 use Rattle.tables.specs.Tables.{User, Session, Deed, Tables, present_in}
@@ -180,6 +182,13 @@ reaching rows assigned users active = all_to (length active) (reach_at rows assi
 
 unfoldable pub new_at : List ℕ → ℕ → Bool
 new_at ws i = all_to i (λ j. not (eqb (get_or ws j 0) (get_or ws i 0)))
+
+-- The number of the step that fails, 0 where none does.
+abbrev pub step_number : Option RankStep → ℕ
+step_number None = 0
+step_number (Some Reflexive) = 1
+step_number (Some Transitive) = 2
+step_number (Some Antisymmetric) = 3
 
 -- Words are sorted into slots; those of the first i words are taken.
 abbrev pub slots : ℕ
