@@ -1,4 +1,4 @@
--- The change in the words: words moved down, and words that hold the changed tables.
+-- The change in the words: lists with one more and one less, and words that hold the changed tables.
 -- Assumes nothing.
 use mathlib.Core.Path.{◌≡◌, refl, sym, ap, ◌∙◌}
 use mathlib.Core.Bool.{Bool, true, false}
@@ -25,58 +25,6 @@ use Rattle.changes.specs.Code.Made.{ClosedUp}
 use Rattle.changes.proofs.PassesLaws.{passes-changed, opening-opens, closing-closes}
 use Rattle.changes.proofs.CountLaws.{counts_of}
 use Rattle.changes.proofs.ReplacedLaws.{user_words, role_words, Elsewhere, Replaced, replaced-flat}
-
--- ---- the loop of `close_up`
-
--- The words from `from` to i have moved.
-pub record Moving (from to : ℕ) (old new : List ℕ) (i : ℕ) : Type 0 where
-  pub same : length new ≡ length old
-  pub begun : from ≤ i
-  pub within : i < to
-  pub before : (j : ℕ) → j < from → get_or new j 0 ≡ get_or old j 0
-  pub moved : (j : ℕ) → from ≤ j → j < i → get_or new j 0 ≡ get_or old (suc j) 0
-  pub rest : (j : ℕ) → i ≤ j → get_or new j 0 ≡ get_or old j 0
-
-pub moving-first : (from to : ℕ) (old : List ℕ) → from < to → Moving from to old old from
-moving-first from to old l =
-    record { same = refl; begun = omega arith; within = l; before = λ j h. refl; moved = λ j h k. absurd (omega arith); rest = λ j h. refl }
-
-module _ {from to : ℕ} {old new : List ℕ} {i : ℕ} (m : Moving from to old new i) (room : to ≤ length old) where
-  inside : i < length new
-  inside = omega (arith, m.same, m.within)
-
-  kept : (v j : ℕ) → (j ≡ i → ⊥) → get_or (set new i v) j 0 ≡ get_or new j 0
-  kept v j h = get_or-set_other new i j v 0 h
-
-  pub moving-next : i + 1 < to → Moving from to old (set new i (get_or new (i + 1) 0)) (i + 1)
-  moving-next l =
-      record {
-        same = length-set new i (get_or new (i + 1) 0) ∙ m.same;
-        begun = omega (arith, m.begun);
-        within = l;
-        before = λ j h. kept _ j (λ q. omega (arith, m.begun)) ∙ m.before j h;
-        moved = λ j h k. ⊎_elim (here j) (λ (k' : j < i). kept _ j (λ q. omega arith) ∙ m.moved j h k') (eq-or-lt_of_le (below j k));
-        rest = λ j h. kept _ j (λ q. omega arith) ∙ m.rest j (omega arith);
-      }
-    where
-      below : (j : ℕ) → j < i + 1 → j ≤ i
-      below j k = omega arith
-
-      next : get_or new (i + 1) 0 ≡ get_or old (suc i) 0
-      next = let q : suc i ≡ i + 1 = omega arith in rw q (m.rest (i + 1) (omega arith))
-
-      here : (j : ℕ) → j ≡ i → get_or (set new i (get_or new (i + 1) 0)) j 0 ≡ get_or old (suc j) 0
-      here j q = rw q (get_or-set_same new i (get_or new (i + 1) 0) 0 inside ∙ next)
-
-  pub moving-last : to ≤ i + 1 → ClosedUp from to old (set new i 0)
-  moving-last l =
-      record {
-        same = length-set new i 0 ∙ m.same;
-        before = λ j h. kept 0 j (λ q. omega (arith, m.begun)) ∙ m.before j h;
-        moved = λ j h k. kept 0 j (λ q. omega arith) ∙ m.moved j h (omega (arith, m.within));
-        last = λ j h q. let e : j ≡ i = omega (arith, m.within) in rw e (get_or-set_same new i 0 0 inside);
-        behind = λ j h. kept 0 j (λ q. omega (arith, m.within)) ∙ m.rest j (omega (arith, m.within));
-      }
 
 -- ---- lists with one more, and with one less
 

@@ -71,12 +71,8 @@ fn close_up(t: &mut [u64], from: usize, to: usize)
     requires { (from < to) × (to ≤ length t.old) }
     ensures { ClosedUp from to t.old t.new }
 {
-    let mut i = from;
-    while i + 1 < to {
-        t[i] = t[i + 1];
-        i += 1;
-    }
-    t[i] = 0;
+    t.copy_within(from + 1..to, from);
+    t[to - 1] = 0;
 }
 
 fn opened(t: &mut [u64], user: u32, roles: u64)

@@ -6,7 +6,8 @@ use mathlib.Core.List.{List, [], ◌∷◌, ◌++◌}
 use Prim.Native.Nat.{ℕ, zero, suc, ◌+◌, ◌≤◌, ◌<◌}
 use native.Mathlib.Omega.{arith}
 use native.Mathlib.Numerals.{add-one}
-use lib.ListN.{length, get_or, set, take, drop, replicate, length-append}
+use lib.ListN.{length, get_or, set, take, drop, replicate, length-append, length-drop}
+use lib.Seq.{get_or-drop, drop-drop}
 use borrow.Author.Tests.{eq-eqb, ne_eqb}
 use Rattle.words.specs.Words.{has, gate, meet_of}
 use Rattle.tables.specs.Flat.{room, padded, tabulate}
@@ -128,6 +129,44 @@ module _ (w : ℕ) (users column : List ℕ) (i : ℕ) {m : ℕ} (e : m ≡ meet
   pub kept_out : m ≡ 0 → kept_to w users column (suc i) ≡ kept_to w users column i
   unfolding kept_to
   kept_out h = rw (← e, eq-eqb m 0 h)
+
+-- The first of the words that are left is word k of all.
+pub first-left : (k : ℕ) (xs : List ℕ) {x : ℕ} {ls rest : List ℕ} → ls ≡ drop k xs → ls ≡ x ∷ rest → (k < length xs) × ((x ≡ get_or xs k 0) × (rest ≡ drop (k + 1) xs))
+first-left k xs {x} {ls} {rest} e q =
+    let h : drop k xs ≡ x ∷ rest = sym e ∙ q in
+    let z : k + 0 ≡ k = omega arith in
+    let n : length (drop k xs) ≡ suc (length rest) = ap length h in (
+      omega (arith, n, length-drop k xs),
+      (sym (ap (λ (l : List ℕ). get_or l 0 0) h) ∙ get_or-drop k xs 0 0 ∙ ap (λ (j : ℕ). get_or xs j 0) z, sym (ap (drop 1) h) ∙ drop-drop 1 k xs),
+    )
+
+-- Of the first k users' words those of the reader's are kept; behind them these users and words are left.
+pub record KeepingTo (w : ℕ) (users column kept : List ℕ) (n k : ℕ) (us cs : List ℕ) : Type 0 where
+  pub keeping : Keeping (kept_to w users column) (length users) kept n k
+  pub users-left : us ≡ drop k users
+  pub column-left : cs ≡ drop k column
+
+module _ {w : ℕ} {users column kept : List ℕ} {n k : ℕ} {us cs : List ℕ} (p : KeepingTo w users column kept n k us cs)
+    {u c : ℕ} {us' cs' : List ℕ} (eu : us ≡ u ∷ us') (ec : cs ≡ c ∷ cs') {m : ℕ} (e : m ≡ meet_of u w) {k' : ℕ} (q : k' ≡ k + 1) where
+  user : (k < length users) × ((u ≡ get_or users k 0) × (us' ≡ drop (k + 1) users))
+  user = first-left k users p.users-left eu
+
+  word : (k < length column) × ((c ≡ get_or column k 0) × (cs' ≡ drop (k + 1) column))
+  word = first-left k column p.column-left ec
+
+  pub keeping-word : length users ≤ room → (m ≡ 0 → ⊥) → KeepingTo w users column (set kept n c) (n + 1) k' us' cs'
+  keeping-word few h =
+      let f = kept_in w users column k (e ∙ ap (λ (x : ℕ). meet_of x w) user.1.0) h in
+      rw q (record {
+        keeping = keeping-in p.keeping c few user.0 (f ∙ rw (sym word.1.0)) refl refl;
+        users-left = user.1.1;
+        column-left = word.1.1;
+      })
+
+  pub passing-word : m ≡ 0 → KeepingTo w users column kept n k' us' cs'
+  passing-word h =
+      let f = kept_out w users column k (e ∙ ap (λ (x : ℕ). meet_of x w) user.1.0) h in
+      rw q (record { keeping = keeping-out p.keeping user.0 f refl refl; users-left = user.1.1; column-left = word.1.1 })
 
 pub kept-none : (w : ℕ) (users column : List ℕ) → kept_to w users column 0 ≡ []
 unfolding kept_to

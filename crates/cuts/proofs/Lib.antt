@@ -5,7 +5,7 @@ pub mod PassLaws
 pub mod AlikeLaws
 pub mod SeenLaws
 pub mod KeepLaws
-pub mod ReplacingLaws
 pub mod MadeLaws
 pub mod TurnLaws
 pub mod Examples
+pub mod ReplacingLaws

@@ -1,36 +1,25 @@
--- Laws of the loop that writes a section over the words.
+-- Laws of a section that is written over the words.
 -- Assumes nothing.
-use mathlib.Core.Path.{◌≡◌, refl, sym, ap, ◌∙◌}
+use mathlib.Core.Path.{◌≡◌, refl, ap, ◌∙◌}
 use mathlib.Core.List.{List, [], ◌∷◌, ◌++◌}
-use Prim.Native.Nat.{ℕ, ◌+◌, ◌≤◌, ◌<◌}
+use Prim.Native.Nat.{ℕ, zero, suc, ◌+◌, ◌≤◌}
 use native.Mathlib.Omega.{arith}
-use native.Mathlib.Numerals.{add-one}
-use lib.ListN.{length, get_or, set, take}
-use lib.Seq.{take-suc, take_all, length-take-le}
+use lib.ListN.{length, set, drop}
+use borrow.Rule.Slice.PartMut.{put_mid}
 use Rattle.tables.specs.Code.Reads.{put}
-use Rattle.tables.proofs.PutLaws.{put-more, length-put}
 
-pub record Replaced (old : List ℕ) (at : ℕ) (section new : List ℕ) (i : ℕ) : Type 0 where
-  pub within : i ≤ length section
-  pub words : new ≡ put old at (take i section)
-
-pub replaced-none : (old : List ℕ) (at : ℕ) (section : List ℕ) → Replaced old at section old 0
+put-cons : (w : ℕ) (ws : List ℕ) (k : ℕ) (xs : List ℕ) → w ∷ put ws k xs ≡ put (w ∷ ws) (suc k) xs
 unfolding put
-replaced-none old at section = record { within = omega arith; words = refl }
+put-cons w ws k [] = refl
+put-cons w ws k (x ∷ xs) = put-cons w (set ws k x) (suc k) xs
 
-module _ {old : List ℕ} {at : ℕ} {section new : List ℕ} {i : ℕ} (r : Replaced old at section new i) where
-  pub replaced-long : length new ≡ length old
-  replaced-long = ap length r.words ∙ length-put old at (take i section)
+put-front : (ws xs : List ℕ) → length xs ≤ length ws → xs ++ drop (length xs) ws ≡ put ws 0 xs
+unfolding put
+put-front ws [] l = refl
+put-front [] (x ∷ xs) l = absurd (omega arith)
+put-front (w ∷ ws) (x ∷ xs) l = ap (λ (v : List ℕ). x ∷ v) (put-front ws xs (omega arith)) ∙ put-cons x ws 0 xs
 
-  pub replaced-more : i < length section → Replaced old at section (set new (at + i) (get_or section i 0)) (i + 1)
-  replaced-more l =
-      let s : length (take i section) ≡ i = length-take-le i section r.within in
-      let e : set (put old at (take i section)) (at + i) (get_or section i 0) ≡ put old at (take i section ++ (get_or section i 0 ∷ [])) =
-      ap (λ (j : ℕ). set (put old at (take i section)) (at + j) (get_or section i 0)) (sym s) ∙ put-more old at (take i section) (get_or section i 0) in
-      record {
-        within = omega arith;
-        words = ap (λ (ws : List ℕ). set ws (at + i) (get_or section i 0)) r.words ∙ e ∙ sym (ap (put old at) (rw (add-one i) (take-suc section i 0 l)));
-      }
-
-  pub replaced-all : length section ≤ i → new ≡ put old at section
-  replaced-all l = r.words ∙ ap (put old at) (take_all i section l)
+pub put-over : (ws : List ℕ) (at : ℕ) (xs : List ℕ) → at + length xs ≤ length ws → put_mid at (length xs) ws xs ≡ put ws at xs
+put-over ws zero xs l = put-front ws xs (omega arith)
+put-over [] (suc k) xs l = absurd (omega arith)
+put-over (w ∷ ws) (suc k) xs l = ap (λ (v : List ℕ). w ∷ v) (put-over ws k xs (omega arith)) ∙ put-cons w ws k xs

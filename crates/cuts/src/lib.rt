@@ -6,13 +6,14 @@ ghost use Rattle.std.specs.Prelude.{◌≡◌, ◌+◌, ◌≤◌, length, repli
 ghost use Rattle.tables.specs.Flat.{whole_length, room, padded};
 ghost use Rattle.tables.specs.Code.Layout.{Whole};
 ghost use Rattle.tables.specs.Code.Reads.{put};
-ghost use Rattle.cuts.specs.Cut.{is_new, cut as cut_of};
+ghost use Rattle.cuts.specs.Cut.{cut as cut_of};
 ghost use Rattle.cuts.specs.Code.Cutting.{rows_to, kept_to, firsts_to, Fills, ClosesUp, seen_users, seen_sessions, seen_words, seen_done, Counted, Fitting, Turns};
 
 use tables::layout::{
     CU, CU_COUNT, DONE_COUNT, DONE_OBJECTS, DONE_OPERATIONS, DONE_USERS, PRESENT, ROOM,
     SESSION_COUNT, SESSION_ROLES, SESSION_USERS, USER_COUNT, USER_ROWS, part,
 };
+use tables::twins::is_new;
 use words::{contains, meet};
 
 // The rows of the reader's users; those of the others stay 0.
@@ -21,12 +22,10 @@ fn keep_rows(rows: &[u64], reader: u64, kept: &mut [u64])
     requires kept_value { kept.old ≡ replicate room 0 }
     ensures { kept.new ≡ padded room (rows_to reader rows.now (length rows.now)) }
 {
-    let mut i: usize = 0;
-    while i < rows.len() {
+    for (i, row) in rows.iter().enumerate() {
         if contains(reader, i) {
-            kept[i] = rows[i];
+            kept[i] = *row;
         }
-        i += 1;
     }
 }
 
@@ -36,31 +35,14 @@ fn keep(users: &[u64], column: &[u64], reader: u64, kept: &mut [u64]) -> usize
     requires kept_value { kept.old ≡ replicate room 0 }
     ensures { Fills (kept_to reader users.now column.now (length users.now)) kept.new result }
 {
-    let mut n: usize = 0;
-    let mut i: usize = 0;
-    while i < users.len() {
-        if meet(users[i], reader) != 0 {
-            kept[n] = column[i];
+    let mut n = 0;
+    for (user, word) in users.iter().zip(column) {
+        if meet(*user, reader) != 0 {
+            kept[n] = *word;
             n += 1;
         }
-        i += 1;
     }
     n
-}
-
-// Whether no word is this one. All are looked at, which is faster than to stop at one.
-fn is_new(words: &[u64], word: u64) -> bool
-    ensures { result ≡ is_new words.now word }
-{
-    let mut twin = false;
-    let mut i: usize = 0;
-    while i < words.len() {
-        if words[i] == word {
-            twin = true;
-        }
-        i += 1;
-    }
-    !twin
 }
 
 // The words cut to the reader's users, each once; how many.
@@ -69,15 +51,13 @@ fn cut_words(words: &[u64], reader: u64, kept: &mut [u64]) -> usize
     requires kept_value { kept.old ≡ replicate room 0 }
     ensures { Fills (firsts_to reader words.now (length words.now)) kept.new result }
 {
-    let mut n: usize = 0;
-    let mut i: usize = 0;
-    while i < words.len() {
-        let word = meet(words[i], reader);
+    let mut n = 0;
+    for word in words {
+        let word = meet(*word, reader);
         if is_new(&kept[..n], word) {
             kept[n] = word;
             n += 1;
         }
-        i += 1;
     }
     n
 }
@@ -87,11 +67,7 @@ fn replace(words: &mut [u64], at: usize, section: &[u64])
     requires { at + length section.now ≤ length words.old }
     ensures { words.new ≡ put words.old at section.now }
 {
-    let mut i: usize = 0;
-    while i < section.len() {
-        words[at + i] = section[i];
-        i += 1;
-    }
+    words[at..at + section.len()].copy_from_slice(section);
 }
 
 // Keeps, of the n words from `at` on, those beside a user of the reader's, closed up; how many.

@@ -27,7 +27,7 @@ fn preimage(t: &[u64], at: usize, count: usize, w: u64) -> u64
     requires { Whole t.now × Begins at × (count < room) }
     ensures { (T : Tables) → t.now ≡ flat T → get_or (counts T) count 0 ≡ length (section_at T at) → result ≡ preimage_of (section_at T at) w }
 {
-    let end = at + words::least(t[count] as usize, layout::ROOM);
+    let end = at + (t[count] as usize).min(layout::ROOM);
     words::preimage(&t[at..end], w)
 }
 

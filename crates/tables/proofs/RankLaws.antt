@@ -1,5 +1,6 @@
 -- Laws of the hierarchy test: its steps as sentences about roles, and what the code asks of the rows' words instead.
 -- Assumes nothing.
+use Rattle.std.specs.Prelude.{Option, Some, None, is_some}
 use mathlib.Core.Path.{◌≡◌, refl, sym, ap, ◌∙◌}
 use mathlib.Core.Bool.{Bool, true, false, ◌&&◌, not}
 use mathlib.Core.List.{List}
@@ -15,7 +16,9 @@ use Rattle.words.proofs.RelationLaws.{has-image}
 use Rattle.tables.specs.Functions.{dominates}
 use Rattle.tables.specs.Checks.{all_to, implies, reflexive, transitive, antisymmetric, rank_steps, failing_from, rank_step, ranked, apart}
 use Rattle.tables.specs.Accepted.{Below}
-use Rattle.tables.specs.Code.Reads.{below_at, closed_at}
+use Rattle.tables.specs.declared.hierarchy.RankStep.{RankStep}
+use Rattle.tables.specs.declared.hierarchy.RankStep.TheVariants.{Reflexive, Transitive, Antisymmetric}
+use Rattle.tables.specs.Code.Reads.{below_at, closed_at, step_number}
 use Rattle.tables.proofs.AllLaws.{all-every, all-at, all-ext}
 use Rattle.tables.proofs.CheckLaws.{clash, implied, of-implied, left_out}
 
@@ -190,3 +193,11 @@ module _ (rows : List ℕ) (small : Below (length rows) rows) (self : reflexive 
               let a : dominates rows i j ≡ true = ap (λ (w : ℕ). has w j) (sym q) ∙ (reflexive-says rows).0 self j k in
               let b : dominates rows j i ≡ true = ap (λ (w : ℕ). has w i) q ∙ (reflexive-says rows).0 self i li in
               absurd (omega (arith, (antisymmetric-says rows).0 e i j li k a b))
+
+-- The hierarchy passes where no step is named.
+pub step-ranked : (rows : List ℕ) (o : Option RankStep) → step_number o ≡ rank_step rows → ranked rows ≡ not (is_some o)
+unfolding ranked
+step-ranked rows None e = rw (← e)
+step-ranked rows (Some Reflexive) e = rw (← e)
+step-ranked rows (Some Transitive) e = rw (← e)
+step-ranked rows (Some Antisymmetric) e = rw (← e)

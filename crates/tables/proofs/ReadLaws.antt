@@ -1,5 +1,7 @@
 -- Laws of the readers of specs/Reading, one for each way a count or a row is refused or taken.
 -- Assumes nothing.
+use Rattle.std.specs.Prelude.{Result, Ok, Err, IsErrAnd}
+use Rattle.std.specs.Int.{w64, from_le_bytes}
 use mathlib.Core.Path.{◌≡◌, refl, ap, ◌∙◌}
 use mathlib.Core.Bool.{Bool, true, false}
 use mathlib.Core.List.{[], ◌∷◌}
@@ -8,13 +10,11 @@ use native.Mathlib.Omega.{arith}
 use native.Mathlib.Numerals.{add-one}
 use lib.Dec.{leb}
 use lib.ListN.{length, get_or, take, drop, length-drop, drop_of_length-le}
-use native.Mathlib.Nat.{pow-suc, pow-le-pow_right}
-use lib.Seq.{drop-cons, length-take-le, drop-drop, get_or-drop, get_or-take}
+use lib.Seq.{drop-cons, drop-drop}
 use borrow.Author.Tests.{lt-ltb, le-ltb, le-leb, lt-leb, eq-eqb, ne_eqb}
 use Rattle.answers.specs.declared.Refusal.{Refusal}
 use Rattle.answers.specs.declared.Refusal.TheVariants.{CutShort, Overfull, NotEntered, BadMark, NoSuchItem}
-use Rattle.tables.specs.declared.Step.{Step}
-use Rattle.tables.specs.declared.Step.TheVariants.{Stopped, Took}
+use Rattle.tables.specs.declared.Piece.{Piece}
 use Rattle.tables.specs.Reading.{Bytes, Taken, stop, took, next, refuse, front, byte, count, word_from, word_within}
 use Rattle.tables.specs.Reading.{word_row, marked_row, session_row, done_row}
 use Rattle.tables.specs.Code.Reads.{Reads, stops, takes, Is, IsMarked, IsSession, deed_at, IsDeed}
@@ -27,42 +27,38 @@ pub record Got {A : Type 0} (s : Bytes) (Holds : A → ℕ → Type 0) (v n : �
   pub holds : Holds value v
 
 module _ {A : Type 0} {s : Bytes} {Holds : A → ℕ → Type 0} where
-  pub as-took : {c : Step} {r : Taken A} {v n : ℕ} → Reads s Holds c r → c ≡ Took v n → Got s Holds v n r
-  as-took (stops e) q = let z : ◌≡◌ {A = ℕ} 0 1 = cc in absurd (omega arith)
-  as-took {v = v} {n = n} (takes {v = v'} {n = n'} {a = a} e w h) q =
-      let qv : v' ≡ v = cc in
-      let qn : n' ≡ n = cc in
-      record { value = a; reads = rw qn at e; within = rw qn at w; holds = rw qv at h }
+  pub as-took : {p : Piece} {r : Taken A} → Reads s Holds (Ok p) r → Got s Holds p.value p.next r
+  as-took (takes {a = a} e w h) = record { value = a; reads = e; within = w; holds = h }
 
-  pub as-stop : {c : Step} {r : Taken A} {e : Refusal} → Reads s Holds c r → c ≡ Stopped e → r ≡ stop e
-  as-stop {e = e} (stops {e = e'} q) p = let pe : e' ≡ e = cc in rw pe at q
-  as-stop (takes e w h) q = let z : ◌≡◌ {A = ℕ} 0 1 = cc in absurd (omega arith)
+  pub as-stop : {e : Refusal} {r : Taken A} → Reads s Holds (Err e) r → r ≡ stop e
+  as-stop (stops q) = q
 
-  -- A refusal is handed on as it came.
-  pub stops_as : {c : Step} {r : Taken A} {e : Refusal} → c ≡ Stopped e → r ≡ stop e → Reads s Holds c r
-  stops_as q p = rw q (stops p)
+  -- The refusal that `?` hands on is the one met.
+  pub stops_as : {c : Result Piece Refusal} {r : Taken A} {e : Refusal} → IsErrAnd c (λ x. x ≡ e) → r ≡ stop e → Reads s Holds c r
+  stops_as {c = Ok _} q p = elim q [ ]
+  stops_as {c = Err x} q p = rw q (stops p)
 
   -- What is taken is told in other words.
-  pub reads_as : {Holds' : A → ℕ → Type 0} {c : Step} {r : Taken A} → Reads s Holds c r → ((a : A) (v : ℕ) → Holds a v → Holds' a v)
+  pub reads_as : {Holds' : A → ℕ → Type 0} {c : Result Piece Refusal} {r : Taken A} → Reads s Holds c r → ((a : A) (v : ℕ) → Holds a v → Holds' a v)
       → Reads s Holds' c r
   reads_as (stops q) h = stops q
-  reads_as (takes {v = v} {a = a} q w x) h = takes q w (h a v x)
+  reads_as (takes {p = p} {a = a} q w x) h = takes q w (h a p.value x)
 
   -- Read on behind what was taken; what was read last is made into another value.
-  pub read-on : {B : Type 0} {Holds' : B → ℕ → Type 0} {c : Step} {r : Taken A} {v n : ℕ} (f : A → Bytes → Taken B)
+  pub read-on : {B : Type 0} {Holds' : B → ℕ → Type 0} {c : Result Piece Refusal} {r : Taken A} {v n : ℕ} (f : A → Bytes → Taken B)
       → (g : Got s Holds v n r) → Reads s Holds' c (f g.value (drop n s)) → Reads s Holds' c (next r f)
   unfolding next
   read-on f g x = rw g.reads x
 
-  pub read-last : {B : Type 0} {Holds' : B → ℕ → Type 0} {c : Step} {r : Taken A} (f : A → B)
+  pub read-last : {B : Type 0} {Holds' : B → ℕ → Type 0} {c : Result Piece Refusal} {r : Taken A} (f : A → B)
       → Reads s Holds c r → ((a : A) (v : ℕ) → Holds a v → Holds' (f a) v) → Reads s Holds' c (next r (λ a t. took (f a) t))
   unfolding next
   read-last {r = r} f (stops {e = e} q) h =
       let p : next r (λ a t. took (f a) t) ≡ stop e = rw q in
       stops p
-  read-last {r = r} f (takes {v = v} {n = n} {a = a} q w x) h =
-      let p : next r (λ a t. took (f a) t) ≡ took (f a) (drop n s) = rw q in
-      takes p w (h a v x)
+  read-last {r = r} f (takes {p = p} {a = a} q w x) h =
+      let e : next r (λ a t. took (f a) t) ≡ took (f a) (drop p.next s) = rw q in
+      takes e w (h a p.value x)
 
 module _ (s : Bytes) (at : ℕ) where
   pub front-took : (n : ℕ) → at + n ≤ length s → front n (drop at s) ≡ took (take n (drop at s)) (drop (at + n) s)
@@ -93,53 +89,30 @@ module _ (s : Bytes) (at : ℕ) where
   unfolding count next refuse
   count-took limit g h = rw (g.reads, g.holds, le-ltb limit _ h)
 
--- The bytes of a word from i on are read, highest first.
-pub record WordRead (s : Bytes) (at w i : ℕ) : Type 0 where
-  pub few : i ≤ 8
-  pub is : w ≡ word_from (drop i (take 8 (drop at s)))
-  pub small : w < 256 ^ (8 - i)
+-- A word is its eight bytes, lowest first.
+word-rest : (b : Bytes) (j : ℕ) → j < length b → word_from (drop j b) ≡ get_or b j 0 + 256 * word_from (drop (suc j) b)
+unfolding word_from
+word-rest b j l = rw (drop-cons b j 0 l)
 
-module _ (s : Bytes) (at : ℕ) (h : at + 8 ≤ length s) where
-  eight : length (take 8 (drop at s)) ≡ 8
-  eight = length-take-le 8 (drop at s) (rw length-drop (omega arith))
+word_none : (b : Bytes) → length b ≡ 8 → word_from (drop 8 b) ≡ 0
+unfolding word_from
+word_none b q = rw (drop_of_length-le b {i = 8} (omega arith))
 
-  pub word_none : WordRead s at 0 8
-  unfolding word_from
-  word_none = let l : length (take 8 (drop at s)) ≤ 8 = omega (arith, eight) in
-      record { few = omega arith; is = rw (drop_of_length-le (take 8 (drop at s)) l); small = omega arith }
-
-  more : (j w : ℕ) → j < 8 → w ≡ word_from (drop (suc j) (take 8 (drop at s)))
-      → w * 256 + get_or s (at + j) 0 ≡ word_from (drop j (take 8 (drop at s)))
-  unfolding word_from
-  more j w l e =
-      let b : j < length (take 8 (drop at s)) = omega (arith, eight) in
-      rw (drop-cons (take 8 (drop at s)) j 0, get_or-take 8 (drop at s) j 0 l, get_or-drop, ← e) (omega arith)
-
-  less : (j w b : ℕ) → j < 8 → w < 256 ^ (8 - suc j) → b < 256 → w * 256 + b < 256 ^ (8 - j)
-  less j w b l h k =
-      let q : 8 - j ≡ suc (8 - suc j) = omega arith in
-      rw (q, pow-suc) (omega arith)
-
-  pub word_more : {w i b : ℕ} → 0 < i → b ≡ get_or s (at + (i - 1)) 0 → b < 256 → WordRead s at w i → WordRead s at (w * 256 + b) (i - 1)
-  word_more {w} {i} {b} p e k r =
-      let q : suc (i - 1) ≡ i = omega arith in
-      let l : i - 1 < 8 = omega arith in
-      let is' : w ≡ word_from (drop (suc (i - 1)) (take 8 (drop at s))) = rw q r.is in
-      let small' : w < 256 ^ (8 - suc (i - 1)) = rw q r.small in
-      record { few = omega arith; is = rw e (more (i - 1) w l is'); small = less (i - 1) w b l small' k }
-
-  pub word-shift : {w i : ℕ} → 0 < i → WordRead s at w i → w * 256 < 2 ^ 64
-  word-shift {w} {i} p r =
-      let q : 256 ^ (8 - i) ≤ 256 ^ 7 = pow-le-pow_right {n = 256} (omega arith) {i = 8 - i} {j = 7} (omega arith) in
-      omega arith
-
-  pub word_fits : {w i : ℕ} → WordRead s at w i → w < 2 ^ 64
-  word_fits {w} {i} r =
-      let q : 256 ^ (8 - i) ≤ 256 ^ 8 = pow-le-pow_right {n = 256} (omega arith) {i = 8 - i} {j = 8} (omega arith) in
-      omega arith
-
-  pub word-all : {w i : ℕ} → i ≤ 0 → WordRead s at w i → w ≡ word_from (take 8 (drop at s))
-  word-all {w} {i} l r = let q : i ≡ 0 = omega arith in rw q at r.is
+pub word_lem : (b : Bytes) → length b ≡ 8 → from_le_bytes w64 b ≡ word_from b
+word_lem b q =
+    let first : word_from b ≡ get_or b 0 0 + 256 * word_from (drop 1 b) = word-rest b 0 (omega arith) in
+    omega (
+      arith,
+      first,
+      word-rest b 1 (omega arith),
+      word-rest b 2 (omega arith),
+      word-rest b 3 (omega arith),
+      word-rest b 4 (omega arith),
+      word-rest b 5 (omega arith),
+      word-rest b 6 (omega arith),
+      word-rest b 7 (omega arith),
+      word_none b q,
+    )
 
 -- The word of a row, held against its count.
 pub within-over : (n : ℕ) (b t : Bytes) {w : ℕ} {r : Bool} → w ≡ word_from b → r ≡ leb (2 ^ n) w → r ≡ true → word_within n b t ≡ stop NoSuchItem
@@ -179,14 +152,14 @@ module _ (s : Bytes) (at : ℕ) where
     unfolding marked_row next refuse
     marked-bad h l = rw (nine h, ne_eqb (get_or s at 0) 0 (omega arith), lt-ltb highest (get_or s at 0) l)
 
-    pub marked_row_lem : {c : Step} → at + 9 ≤ length s → (get_or s at 0 ≡ 0 → ⊥) → get_or s at 0 ≤ highest
+    pub marked_row_lem : {c : Result Piece Refusal} → at + 9 ≤ length s → (get_or s at 0 ≡ 0 → ⊥) → get_or s at 0 ≤ highest
         → Reads s Is c (word_within n (take 8 (drop (at + 1) s)) (drop (at + 1 + 8) s)) → Reads s (IsMarked s at) c (marked_row highest n (drop at s))
     unfolding marked_row next refuse
     marked_row_lem h k l (stops {e = e} q) =
         let f : marked_row highest n (drop at s) ≡ stop e = rw (nine h, ne_eqb (get_or s at 0) 0 k, le-ltb highest (get_or s at 0) l, q) in
         stops f
-    marked_row_lem h k l (takes {n = m} {a = a} q w e) =
-        let f : marked_row highest n (drop at s) ≡ took (record { mark = get_or s at 0; word = a }) (drop m s) =
+    marked_row_lem h k l (takes {p = p} {a = a} q w e) =
+        let f : marked_row highest n (drop at s) ≡ took (record { mark = get_or s at 0; word = a }) (drop p.next s) =
         rw (nine h, ne_eqb (get_or s at 0) 0 k, le-ltb highest (get_or s at 0) l, q) in
         takes f w (record { mark = refl; word = e; complete = omega arith })
 
@@ -198,15 +171,15 @@ module _ (s : Bytes) (at : ℕ) where
   unfolding session_row next refuse
   session-none users n h l = rw (nine h, le-leb users (get_or s at 0) l)
 
-  pub session-row : (users n : ℕ) {c : Step} → at + 9 ≤ length s → get_or s at 0 < users
+  pub session-row : (users n : ℕ) {c : Result Piece Refusal} → at + 9 ≤ length s → get_or s at 0 < users
       → Reads s Is c (word_within n (take 8 (drop (at + 1) s)) (drop (at + 1 + 8) s))
       → Reads s (IsSession s at users) c (session_row users n (drop at s))
   unfolding session_row next refuse
   session-row users n h l (stops {e = e} q) =
       let f : session_row users n (drop at s) ≡ stop e = rw (nine h, lt-leb users (get_or s at 0) l, q) in
       stops f
-  session-row users n h l (takes {n = m} {a = a} q w e) =
-      let f : session_row users n (drop at s) ≡ took (record { user = get_or s at 0; active = a }) (drop m s) =
+  session-row users n h l (takes {p = p} {a = a} q w e) =
+      let f : session_row users n (drop at s) ≡ took (record { user = get_or s at 0; active = a }) (drop p.next s) =
       rw (nine h, lt-leb users (get_or s at 0) l, q) in
       takes f w (record { user = refl; known = l; active = e; complete = omega arith })
 
@@ -251,6 +224,6 @@ module _ (s : Bytes) (at : ℕ) where
             unfolding done_row next refuse
             done-took = rw (three h, lt-leb users (get_or s at 0) u, lt-leb operations (get_or s (at + 1) 0) a, lt-leb objects (get_or s (at + 2) 0) b)
 
-            pub done-row : {v : ℕ} → Reads s (IsDeed s at) (Took v (at + 3)) (done_row users operations objects (drop at s))
+            pub done-row : {v : ℕ} → Reads s (IsDeed s at) (Ok (record { value = v; next = at + 3 })) (done_row users operations objects (drop at s))
             unfolding deed_at
             done-row = takes done-took h (record { is = refl; complete = h })

@@ -1,5 +1,6 @@
 -- Laws of a loop that reads rows: what is read so far, one row more, a row that is refused, and the end.
 -- Assumes nothing.
+use Rattle.std.specs.Prelude.{Ok}
 use mathlib.Core.Path.{◌≡◌, refl, sym, ap, ◌∙◌}
 use mathlib.Core.List.{List, [], ◌∷◌, ◌++◌, map, append_assoc, append-nil}
 use Prim.Native.Nat.{ℕ, suc, ◌+◌, ◌-◌, ◌≤◌, ◌<◌}
@@ -9,7 +10,6 @@ use borrow.Author.Tests.{eq-eqb, ne_eqb}
 use lib.ListN.{length, get_or, drop, set, length-append, length-map}
 use Rattle.answers.specs.declared.Refusal.{Refusal}
 use Rattle.words.specs.Words.{item_of, join_of}
-use Rattle.tables.specs.declared.Step.TheVariants.{Took}
 use Rattle.tables.specs.Flat.{room}
 use Rattle.tables.specs.Tables.{User, Session, Deed, present_in}
 use Rattle.tables.specs.Reading.{Bytes, Taken, Reader, stop, took, next, marked_row, user_row, rows, entered, left}
@@ -93,7 +93,7 @@ module _ {A : Type 0} (row : Reader A) (n : ℕ) where
     unfolding along-more
     storing-more l q h e k = record { along = along-more row n g.along l q h; words = e; long = k }
 
-    pub storing-all : n ≤ i → Reads s (RowsAt write old new n) (Took n from) (rows row n b)
+    pub storing-all : n ≤ i → Reads s (RowsAt write old new n) (Ok (record { value = n; next = from })) (rows row n b)
     storing-all l =
         let a = g.along in
         let h : RowsAt write old new n a.done n = record { count = omega (arith, a.size, a.few); all = refl; words = g.words } in
@@ -167,7 +167,7 @@ module _ (row : Reader User) (n : ℕ) where
         users-more l r (k ∙ g.here ∙ present-same g.rows.along.done r.value (r.holds.present ∙ ne_eqb (get_or s from 0) entered e))
 
     -- At the end the word is stored.
-    pub users-all : n ≤ i → Reads s (RowsAt put_users old (set new present_at present) n) (Took n from) (rows row n b)
+    pub users-all : n ≤ i → Reads s (RowsAt put_users old (set new present_at present) n) (Ok (record { value = n; next = from })) (rows row n b)
     unfolding put_users
     users-all l =
         let a = g.rows.along in

@@ -1,5 +1,6 @@
 -- Laws of a section: its count, then its rows, and what the words hold then.
 -- Assumes nothing.
+use Rattle.std.specs.Prelude.{Result}
 use mathlib.Core.Path.{◌≡◌, sym, ◌∙◌}
 use mathlib.Core.List.{List}
 use Prim.Native.Nat.{ℕ, ◌≤◌}
@@ -8,7 +9,7 @@ use lib.ListN.{drop, set}
 use borrow.Author.Tests.{eq-eqb, ne_eqb}
 use Rattle.answers.specs.declared.Refusal.{Refusal}
 use Rattle.answers.specs.declared.Refusal.TheVariants.{Miscounted}
-use Rattle.tables.specs.declared.Step.{Step}
+use Rattle.tables.specs.declared.Piece.{Piece}
 use Rattle.tables.specs.Flat.{room}
 use Rattle.tables.specs.Reading.{Bytes, Reader, stop, next, refuse, byte, count, rows, section}
 use Rattle.tables.specs.Reading.{permission_row, permissions}
@@ -20,7 +21,7 @@ module _ (s : Bytes) (at : ℕ) {A : Type 0} (row : ℕ → Reader A) where
   unfolding section next
   section-stop q = rw q
 
-  pub section-on : {Holds : List A → ℕ → Type 0} {c : Step} {v n : ℕ} → Got s (IsCount 64) v n (count 64 (drop at s))
+  pub section-on : {Holds : List A → ℕ → Type 0} {c : Result Piece Refusal} {v n : ℕ} → Got s (IsCount 64) v n (count 64 (drop at s))
       → Reads s Holds c (rows (row v) v (drop n s)) → Reads s Holds c (section row (drop at s))
   unfolding section
   section-on {v = v} {n = n} g x = read-on (λ k. rows (row k) k) g (rw g.holds.is x)
@@ -34,7 +35,7 @@ module _ (s : Bytes) (at product roles : ℕ) where
   unfolding permissions next refuse
   permissions-wrong {v} g h = rw (g.reads, g.holds, ne_eqb v product h)
 
-  pub permissions-on : {Holds : List ℕ → ℕ → Type 0} {c : Step} {v n : ℕ} → Got s Is v n (byte (drop at s)) → v ≡ product
+  pub permissions-on : {Holds : List ℕ → ℕ → Type 0} {c : Result Piece Refusal} {v n : ℕ} → Got s Is v n (byte (drop at s)) → v ≡ product
       → Reads s Holds c (rows (permission_row roles) v (drop n s)) → Reads s Holds c (permissions product roles (drop at s))
   unfolding permissions next refuse
   permissions-on {v = v} g h x = rw (g.reads, g.holds, eq-eqb v product h) x

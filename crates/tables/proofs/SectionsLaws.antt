@@ -1,5 +1,6 @@
 -- Laws of the sections one after another: where one stops all stop, and what the words hold once all are read.
 -- Assumes nothing.
+use Rattle.std.specs.Prelude.{Result, Ok}
 use mathlib.Core.Path.{◌≡◌, ◌∙◌}
 use mathlib.Core.List.{List}
 use Prim.Native.Nat.{ℕ, ◌*◌, ◌≤◌, ◌<◌}
@@ -8,8 +9,7 @@ use lib.ListN.{length, get_or, drop, set, length-set}
 use lib.Seq.{get_or-set_same, get_or-set_other}
 use native.Mathlib.Omega.{arith}
 use Rattle.answers.specs.declared.Refusal.{Refusal}
-use Rattle.tables.specs.declared.Step.{Step}
-use Rattle.tables.specs.declared.Step.TheVariants.{Took}
+use Rattle.tables.specs.declared.Piece.{Piece}
 use Rattle.tables.specs.Reading.{Bytes, stop, took, next, count, section, permissions, Rights, rights, Collections, collections}
 use Rattle.tables.specs.Reading.{word_row, user_row, session_row, done_row, sections, assembled}
 use Rattle.tables.specs.Code.Reads.{Reads, stops, takes, IsCount, SectionAt, PermissionsAt, RightsAt, CollectionsAt, Filled}
@@ -39,7 +39,7 @@ module _ (s : Bytes) (at roles : ℕ) where
 
       pub rights-all : {old w new : List ℕ} {n k : ℕ}
           → Got s (PermissionsAt (set (set old operation_count_at a) object_count_at b) w (a * b)) n k (permissions (a * b) roles (drop j s))
-          → new ≡ with_names w n b → Reads s (RightsAt old new) (Took n k) (rights roles (drop at s))
+          → new ≡ with_names w n b → Reads s (RightsAt old new) (Ok (record { value = n; next = k })) (rights roles (drop at s))
       unfolding rights next with_rights
       rights-all {old} {w} {new} {n} {k} h e =
           let x = h.holds.section in
@@ -59,15 +59,15 @@ module _ (s : Bytes) (at r u p : ℕ) where
     collections-stop-2 q = rw (f.reads, q)
 
     module _ {w₂ : List ℕ} {v' j : ℕ} (g : Got s (SectionAt (rows_from cu_at) cu_count_at w₁ w₂) v' j (section (λ _. word_row u) (drop i s))) where
-      pub collections-all : {new : List ℕ} {c : Step} → Reads s (SectionAt (rows_from cp_at) cp_count_at w₂ new) c (section (λ _. word_row p) (drop j s))
+      pub collections-all : {new : List ℕ} {c : Result Piece Refusal} → Reads s (SectionAt (rows_from cp_at) cp_count_at w₂ new) c (section (λ _. word_row p) (drop j s))
           → Reads s (CollectionsAt old new) c (collections r u p (drop at s))
       unfolding collections next with_collections
       collections-all (stops {e = e} q) =
           let k : collections r u p (drop at s) ≡ stop e = rw (f.reads, g.reads, q) in
           stops k
-      collections-all {new} (takes {n = n} {a = a} q w h) =
+      collections-all {new} (takes {p = p'} {a = a} q w h) =
           let x : Collections = record { cr = f.value; cu = g.value; cp = a } in
-          let k : collections r u p (drop at s) ≡ took x (drop n s) = rw (f.reads, g.reads, q) in
+          let k : collections r u p (drop at s) ≡ took x (drop p'.next s) = rw (f.reads, g.reads, q) in
           let y : new ≡ with_collections old x = h.words ∙ rw (g.holds.words, f.holds.words) in
           takes k w (record { words = y })
 
@@ -135,7 +135,7 @@ module _ (s : Bytes) where
             objects-are : get_or w₅ object_count_at 0 ≡ t.value.object_count
             objects-are = rw stored (objects-stored w₃ t.value z.value whole)
 
-            pub sections-all : {new : List ℕ} {c : Step}
+            pub sections-all : {new : List ℕ} {c : Result Piece Refusal}
                 → Reads s (SectionAt put_deeds done_count_at w₅ new) c (section (λ _. done_row u (get_or w₅ operation_count_at 0) (get_or w₅ object_count_at 0)) (drop m s))
                 → Reads s (Filled old new) c (sections s)
             unfolding sections next
@@ -143,8 +143,8 @@ module _ (s : Bytes) where
                 let x : sections s ≡ stop e =
                 rw (f.reads, ← f.holds.count, g.reads, ← g.holds.count, h.reads, t.reads, ← t.holds.count, z.reads, ← operations-are, ← objects-are, q) in
                 stops x
-            sections-all {new} (takes {n = n} {a = a} q w y) =
-                let x : sections s ≡ took (assembled f.value g.value h.value t.value z.value a) (drop n s) =
+            sections-all {new} (takes {p = p'} {a = a} q w y) =
+                let x : sections s ≡ took (assembled f.value g.value h.value t.value z.value a) (drop p'.next s) =
                 rw (f.reads, ← f.holds.count, g.reads, ← g.holds.count, h.reads, t.reads, ← t.holds.count, z.reads, ← operations-are, ← objects-are, q) in
                 takes x w
                 (record { words = y.words ∙ rw (z.holds.words, t.holds.words, h.holds.words, g.holds.words, f.holds.words) })

@@ -2,12 +2,12 @@
 // Each check takes the very rows that it is about.
 ghost use Rattle.std.specs.Prelude.{◌≡◌, true, length};
 ghost use Rattle.tables.specs.Checks.{leavers_gone, rank_step, ranked, in_reach as in_reach_of, no_twin, late};
-ghost use Rattle.tables.specs.Code.Reads.{covered_by, reaching, users_met, CountsFit};
+ghost use Rattle.tables.specs.Code.Reads.{covered_by, reaching, users_met, CountsFit, step_number};
 ghost use Rattle.tables.specs.Tables.{Tables};
 ghost use Rattle.tables.specs.Accepted.{Fits, Bounded};
 ghost use Rattle.tables.specs.Flat.{flat};
 
-use crate::hierarchy::first_failing;
+use crate::hierarchy::{RankStep, first_failing};
 use crate::layout::part;
 use crate::twins::apart;
 use crate::layout;
@@ -36,15 +36,10 @@ pub fn in_reach(rows: &[u64], assigned: &[u64], users: &[u64], active: &[u64]) -
     requires { length users.now ≡ length active.now }
     ensures { result ≡ reaching rows.now assigned.now users.now active.now }
 {
-    let mut s: usize = 0;
-    while s < active.len() {
-        let own = image(assigned, users[s]);
-        if !covered(rows, own, less(active[s], own)) {
-            return false;
-        }
-        s += 1;
-    }
-    true
+    users.iter().zip(active).all(|(user, roles)| {
+        let own = image(assigned, *user);
+        covered(rows, own, less(*roles, own))
+    })
 }
 
 // The users who have a role or a session, or stand in a word of CU.
@@ -77,10 +72,10 @@ pub fn leavers_gone(words: &[u64]) -> bool
     less(users_met(rows, theirs, cu), present) == 0
 }
 
-// The first step of the hierarchy test that fails on the tables' roles, 0 where none does.
-pub fn failing_step(words: &[u64]) -> u32
+// The first step of the hierarchy test that fails on the tables' roles, if one does.
+pub fn failing_step(words: &[u64]) -> Option<RankStep>
     requires { CountsFit words.now }
-    ensures { (T : Tables) → Fits T → Bounded T → words.now ≡ flat T → result ≡ rank_step T.role_rows }
+    ensures { (T : Tables) → Fits T → Bounded T → words.now ≡ flat T → step_number result ≡ rank_step T.role_rows }
 {
     first_failing(part(words, layout::ROLE_ROWS, words[layout::ROLE_COUNT] as usize))
 }
@@ -105,13 +100,9 @@ pub fn collections_apart(words: &[u64]) -> bool
     requires { CountsFit words.now }
     ensures { (T : Tables) → Fits T → words.now ≡ flat T → result ≡ no_twin T }
 {
-    if !apart(part(words, layout::CR, words[layout::CR_COUNT] as usize)) {
-        return false;
-    }
-    if !apart(part(words, layout::CU, words[layout::CU_COUNT] as usize)) {
-        return false;
-    }
-    apart(part(words, layout::CP, words[layout::CP_COUNT] as usize))
+    apart(part(words, layout::CR, words[layout::CR_COUNT] as usize))
+        && apart(part(words, layout::CU, words[layout::CU_COUNT] as usize))
+        && apart(part(words, layout::CP, words[layout::CP_COUNT] as usize))
 }
 
 // The checks 20, 7, 8 and 9, in that order.
@@ -122,7 +113,7 @@ pub fn checked(words: &[u64]) -> Result<(), Refusal>
     if !leavers_gone(words) {
         return Err(Refusal::Left);
     }
-    if failing_step(words) != 0 {
+    if failing_step(words).is_some() {
         return Err(Refusal::Rank);
     }
     if !reaches(words) {

@@ -1,33 +1,35 @@
 // The hierarchy test in the steps of source document 002: reflexive, then transitive, then antisymmetric, each over all role rows.
 // Tables are refused by rank where a step fails.
-ghost use Rattle.std.specs.Prelude.{◌≡◌, true, ◌≤◌, ◌<◌, length};
+ghost use Rattle.std.specs.Prelude.{◌≡◌, Some, true, ◌≤◌, ◌<◌, length};
 ghost use Rattle.tables.specs.Checks.{reflexive as reflexive_of, transitive as transitive_of, antisymmetric as antisymmetric_of, rank_step};
 ghost use Rattle.tables.specs.Accepted.{Below};
-ghost use Rattle.tables.specs.Code.Reads.{closed_at};
+ghost use Rattle.tables.specs.Code.Reads.{closed_at, step_number};
 
 use crate::twins::apart;
 use words::{contains, image, item, less};
 
-// The steps' numbers.
-const REFLEXIVE: u32 = 1;
+// The steps, each with its number.
+#[derive(Clone, Copy)]
+pub enum RankStep {
+    Reflexive = 1,
+    Transitive = 2,
+    Antisymmetric = 3,
+}
 
-const TRANSITIVE: u32 = 2;
-
-const ANTISYMMETRIC: u32 = 3;
+impl RankStep {
+    pub fn number(self) -> u32
+        ensures { result ≡ step_number (Some self) }
+    {
+        self as u32
+    }
+}
 
 // Each role dominates itself.
 pub fn reflexive(rows: &[u64]) -> bool
     requires { length rows.now ≤ 64 }
     ensures { result ≡ reflexive_of rows.now }
 {
-    let mut r: usize = 0;
-    while r < rows.len() {
-        if !contains(rows[r], r) {
-            return false;
-        }
-        r += 1;
-    }
-    true
+    rows.iter().enumerate().all(|(r, row)| contains(*row, r))
 }
 
 // What the other roles that r dominates dominate, r does too.
@@ -45,14 +47,7 @@ pub fn transitive(rows: &[u64]) -> bool
     requires { length rows.now ≤ 64 }
     ensures { Below (length rows.now) rows.now → result ≡ transitive_of rows.now }
 {
-    let mut r: usize = 0;
-    while r < rows.len() {
-        if !closed(rows, r) {
-            return false;
-        }
-        r += 1;
-    }
-    true
+    (0..rows.len()).all(|r| closed(rows, r))
 }
 
 // No two roles dominate each other. Where the steps before hold, two that do have the same row.
@@ -62,19 +57,19 @@ pub fn antisymmetric(rows: &[u64]) -> bool
     apart(rows)
 }
 
-// The first step that fails, 0 where none does.
-pub fn first_failing(rows: &[u64]) -> u32
+// The first step that fails, if one does.
+pub fn first_failing(rows: &[u64]) -> Option<RankStep>
     requires { length rows.now ≤ 64 }
-    ensures { Below (length rows.now) rows.now → result ≡ rank_step rows.now }
+    ensures { Below (length rows.now) rows.now → step_number result ≡ rank_step rows.now }
 {
     if !reflexive(rows) {
-        return REFLEXIVE;
+        return Some(RankStep::Reflexive);
     }
     if !transitive(rows) {
-        return TRANSITIVE;
+        return Some(RankStep::Transitive);
     }
     if !antisymmetric(rows) {
-        return ANTISYMMETRIC;
+        return Some(RankStep::Antisymmetric);
     }
-    0
+    None
 }

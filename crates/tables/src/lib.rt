@@ -18,7 +18,7 @@ mod hierarchy;
 pub mod layout;
 mod rows;
 mod sections;
-mod twins;
+pub mod twins;
 
 // A row of one word, with the count that its items are below: the word alone, or behind the mark of what was entered.
 #[derive(Clone, Copy)]
@@ -27,11 +27,11 @@ pub enum Row {
     Marked(u64),
 }
 
-// What reading a count, a row or a section gives: the refusal met, or a value and where the next byte stands.
+// A piece of the bytes that was read, a count, a row or a section: its value, and where the next byte stands.
 #[derive(Clone, Copy)]
-pub enum Step {
-    Stopped(Refusal),
-    Took { value: u64, next: usize },
+pub struct Piece {
+    pub value: u64,
+    pub next: usize,
 }
 
 // Reads the tables into words that are all 0. Once the sections are read and nothing is left over, the words have them, accepted or not;
@@ -42,16 +42,11 @@ pub fn load(bytes: &[u8], words: &mut [u64]) -> Result<(), Refusal>
     ensures words_after { OnOk result (words.new ≡ words_of (tables_of bytes.now)) }
     ensures words_after_2 { (T : Tables) → sections_of bytes.now ≡ took T [] → words.new ≡ flat T }
 {
-    let read = sections(bytes, words);
-    match read {
-        Step::Stopped(e) => Err(e),
-        Step::Took { value: _, next } => {
-            if next < bytes.len() {
-                return Err(Refusal::LeftOver);
-            }
-            checked(words)
-        }
+    let Piece { next, .. } = sections(bytes, words)?;
+    if next < bytes.len() {
+        return Err(Refusal::LeftOver);
     }
+    checked(words)
 }
 
 // Document 01, "Tables": the flat tables, or the refusal.
@@ -72,7 +67,7 @@ pub fn rank_step(bytes: &[u8]) -> u32
         return 0;
     };
     match refusal {
-        Refusal::Rank => failing_step(&words),
+        Refusal::Rank => failing_step(&words).map_or(0, |step| step.number()),
         _ => 0,
     }
 }

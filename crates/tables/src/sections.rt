@@ -17,36 +17,44 @@ use crate::layout::{
     USER_COUNT, USER_ROWS,
 };
 use crate::rows::{ENTERED, LEFT, byte, count, done_row, marked_row, row, session_row};
-use crate::{Row, Step};
+use crate::{Piece, Row};
 use answers::Refusal;
 use words::{item, join};
 
 // The rows of a section of words.
-pub fn rows(bytes: &[u8], at: usize, n: usize, kind: Row, words: &mut [u64], to: usize) -> Step
+pub fn rows(
+    bytes: &[u8],
+    at: usize,
+    n: usize,
+    kind: Row,
+    words: &mut [u64],
+    to: usize,
+) -> Result<Piece, Refusal>
     requires at_in_bounds { at ≤ length bytes.now }
     requires n_le_room { (n ≤ room) × (RowFits kind) }
     requires room_bound { (to + room ≤ whole_length) × (Whole words.old) }
     ensures { Reads bytes.now (RowsAt (rows_from to) words.old words.new n) result (rows_of (row_of kind) n (drop at bytes.now)) }
 {
     let mut from = at;
-    let mut i: usize = 0;
-    while i < n {
-        let read = row(bytes, from, kind);
-        let Step::Took { value, next } = read else {
-            return read;
-        };
-        words[to + i] = value;
-        from = next;
-        i += 1;
+    for i in 0..n {
+        let read = row(bytes, from, kind)?;
+        words[to + i] = read.value;
+        from = read.next;
     }
-    Step::Took {
+    Ok(Piece {
         value: n as u64,
         next: from,
-    }
+    })
 }
 
 // The rows of the users: their assigned roles, and the word of those present.
-pub fn user_rows(bytes: &[u8], at: usize, n: usize, roles: u64, words: &mut [u64]) -> Step
+pub fn user_rows(
+    bytes: &[u8],
+    at: usize,
+    n: usize,
+    roles: u64,
+    words: &mut [u64],
+) -> Result<Piece, Refusal>
     requires at_in_bounds { at ≤ length bytes.now }
     requires n_le_room { (n ≤ room) × (roles ≤ 64) }
     requires whole { Whole words.old }
@@ -54,24 +62,19 @@ pub fn user_rows(bytes: &[u8], at: usize, n: usize, roles: u64, words: &mut [u64
 {
     let mut present = 0;
     let mut from = at;
-    let mut i: usize = 0;
-    while i < n {
-        let row = marked_row(bytes, from, LEFT, roles);
-        let Step::Took { value, next } = row else {
-            return row;
-        };
+    for i in 0..n {
+        let row = marked_row(bytes, from, LEFT, roles)?;
         if bytes[from] == ENTERED {
             present = join(present, item(i));
         }
-        words[USER_ROWS + i] = value;
-        from = next;
-        i += 1;
+        words[USER_ROWS + i] = row.value;
+        from = row.next;
     }
     words[PRESENT] = present;
-    Step::Took {
+    Ok(Piece {
         value: n as u64,
         next: from,
-    }
+    })
 }
 
 // The rows of the sessions: the users as words of one item, and the active roles.
@@ -82,28 +85,23 @@ pub fn session_rows(
     users: u64,
     roles: u64,
     words: &mut [u64],
-) -> Step
+) -> Result<Piece, Refusal>
     requires at_in_bounds { at ≤ length bytes.now }
     requires n_le_room { (n ≤ room) × (roles ≤ 64) }
     requires whole { Whole words.old }
     ensures { Reads bytes.now (RowsAt put_sessions words.old words.new n) result (rows_of (session_row users roles) n (drop at bytes.now)) }
 {
     let mut from = at;
-    let mut i: usize = 0;
-    while i < n {
-        let row = session_row(bytes, from, users, roles);
-        let Step::Took { value, next } = row else {
-            return row;
-        };
+    for i in 0..n {
+        let row = session_row(bytes, from, users, roles)?;
         words[SESSION_USERS + i] = item(bytes[from] as usize);
-        words[SESSION_ROLES + i] = value;
-        from = next;
-        i += 1;
+        words[SESSION_ROLES + i] = row.value;
+        from = row.next;
     }
-    Step::Took {
+    Ok(Piece {
         value: n as u64,
         next: from,
-    }
+    })
 }
 
 // Stores the row of Done that begins at `from` as row i: its user, object and operation as words of one item.
@@ -126,27 +124,22 @@ pub fn done_rows(
     operations: u64,
     objects: u64,
     words: &mut [u64],
-) -> Step
+) -> Result<Piece, Refusal>
     requires at_in_bounds { at ≤ length bytes.now }
     requires n_le_room { n ≤ room }
     requires whole { Whole words.old }
     ensures { Reads bytes.now (RowsAt put_deeds words.old words.new n) result (rows_of (done_row users operations objects) n (drop at bytes.now)) }
 {
     let mut from = at;
-    let mut i: usize = 0;
-    while i < n {
-        let row = done_row(bytes, from, users, operations, objects);
-        let Step::Took { value: _, next } = row else {
-            return row;
-        };
+    for i in 0..n {
+        let row = done_row(bytes, from, users, operations, objects)?;
         store_deed(bytes, from, words, i);
-        from = next;
-        i += 1;
+        from = row.next;
     }
-    Step::Took {
+    Ok(Piece {
         value: n as u64,
         next: from,
-    }
+    })
 }
 
 // Of each of n permissions its object and its operation, as words of one item.
@@ -155,11 +148,9 @@ pub fn name_permissions(words: &mut [u64], n: usize, objects: usize)
     requires whole { Whole words.old }
     ensures { words.new ≡ with_names words.old n objects }
 {
-    let mut p: usize = 0;
-    while p < n {
+    for p in 0..n {
         words[OBJECT_ROWS + p] = item(p % objects);
         words[OPERATION_ROWS + p] = item(p / objects);
-        p += 1;
     }
 }
 
@@ -171,86 +162,83 @@ pub fn section(
     words: &mut [u64],
     place: usize,
     to: usize,
-) -> Step
+) -> Result<Piece, Refusal>
     requires at_in_bounds { at ≤ length bytes.now }
     requires row_fits { (RowFits kind) × (Whole words.old) }
     requires place_lt_room { (place < room) × (to + room ≤ whole_length) }
     ensures { Reads bytes.now (SectionAt (rows_from to) place words.old words.new) result (section_of (λ n. row_of kind) (drop at bytes.now)) }
 {
-    let read = count(bytes, at, 64);
-    let Step::Took { value, next } = read else {
-        return read;
-    };
-    words[place] = value;
-    rows(bytes, next, value as usize, kind, words, to)
+    let count = count(bytes, at, 64)?;
+    words[place] = count.value;
+    rows(bytes, count.next, count.value as usize, kind, words, to)
 }
 
 // Section 1.
-pub fn roles(bytes: &[u8], words: &mut [u64]) -> Step
+pub fn roles(bytes: &[u8], words: &mut [u64]) -> Result<Piece, Refusal>
     requires { Whole words.old }
     ensures { Reads bytes.now (SectionAt (rows_from role_rows_at) role_count_at words.old words.new) result (section_of (λ n. word_row n) bytes.now) }
 {
-    let read = count(bytes, 0, 64);
-    let Step::Took { value, next } = read else {
-        return read;
-    };
-    words[ROLE_COUNT] = value;
+    let count = count(bytes, 0, 64)?;
+    words[ROLE_COUNT] = count.value;
     rows(
         bytes,
-        next,
-        value as usize,
-        Row::Plain(value),
+        count.next,
+        count.value as usize,
+        Row::Plain(count.value),
         words,
         ROLE_ROWS,
     )
 }
 
 // Section 2.
-pub fn users(bytes: &[u8], at: usize, roles: u64, words: &mut [u64]) -> Step
+pub fn users(bytes: &[u8], at: usize, roles: u64, words: &mut [u64]) -> Result<Piece, Refusal>
     requires at_in_bounds { at ≤ length bytes.now }
     requires roles_bound { (roles ≤ 64) × (Whole words.old) }
     ensures { Reads bytes.now (SectionAt put_users user_count_at words.old words.new) result (section_of (λ n. user_row roles) (drop at bytes.now)) }
 {
-    let read = count(bytes, at, 64);
-    let Step::Took { value, next } = read else {
-        return read;
-    };
-    words[USER_COUNT] = value;
-    user_rows(bytes, next, value as usize, roles, words)
+    let count = count(bytes, at, 64)?;
+    words[USER_COUNT] = count.value;
+    user_rows(bytes, count.next, count.value as usize, roles, words)
 }
 
 // Section 3.
-pub fn sessions(bytes: &[u8], at: usize, users: u64, roles: u64, words: &mut [u64]) -> Step
+pub fn sessions(
+    bytes: &[u8],
+    at: usize,
+    users: u64,
+    roles: u64,
+    words: &mut [u64],
+) -> Result<Piece, Refusal>
     requires at_in_bounds { at ≤ length bytes.now }
     requires roles_bound { (roles ≤ 64) × (Whole words.old) }
     ensures { Reads bytes.now (SectionAt put_sessions session_count_at words.old words.new) result (section_of (λ n. session_row users roles) (drop at bytes.now)) }
 {
-    let read = count(bytes, at, 64);
-    let Step::Took { value, next } = read else {
-        return read;
-    };
-    words[SESSION_COUNT] = value;
-    session_rows(bytes, next, value as usize, users, roles, words)
+    let count = count(bytes, at, 64)?;
+    words[SESSION_COUNT] = count.value;
+    session_rows(bytes, count.next, count.value as usize, users, roles, words)
 }
 
 // Section 6.
-pub fn permissions(bytes: &[u8], at: usize, product: u64, roles: u64, words: &mut [u64]) -> Step
+pub fn permissions(
+    bytes: &[u8],
+    at: usize,
+    product: u64,
+    roles: u64,
+    words: &mut [u64],
+) -> Result<Piece, Refusal>
     requires at_in_bounds { at ≤ length bytes.now }
     requires product_bound { (product ≤ 64) × (roles ≤ 64) × (Whole words.old) }
     ensures { Reads bytes.now (PermissionsAt words.old words.new product) result (permissions_of product roles (drop at bytes.now)) }
 {
-    let read = byte(bytes, at);
-    let Step::Took { value, next } = read else {
-        return read;
-    };
-    if value != product {
-        return Step::Stopped(Refusal::Miscounted);
+    let count = byte(bytes, at)?;
+    if count.value != product {
+        return Err(Refusal::Miscounted);
     }
-    words[PERMISSION_COUNT] = value;
+    words[PERMISSION_COUNT] = count.value;
     rows(
         bytes,
-        next,
-        value as usize,
+        count.next,
+        count.value as usize,
         Row::Marked(roles),
         words,
         PERMISSION_ROWS,
@@ -258,27 +246,19 @@ pub fn permissions(bytes: &[u8], at: usize, product: u64, roles: u64, words: &mu
 }
 
 // Sections 4 to 6. The value is the count of permissions.
-pub fn rights(bytes: &[u8], at: usize, roles: u64, words: &mut [u64]) -> Step
+pub fn rights(bytes: &[u8], at: usize, roles: u64, words: &mut [u64]) -> Result<Piece, Refusal>
     requires at_in_bounds { at ≤ length bytes.now }
     requires roles_bound { (roles ≤ 64) × (Whole words.old) }
     ensures { Reads bytes.now (RightsAt words.old words.new) result (rights_of roles (drop at bytes.now)) }
 {
-    let first = count(bytes, at, 8);
-    let Step::Took { value: a, next: i } = first else {
-        return first;
-    };
-    words[OPERATION_COUNT] = a;
-    let second = count(bytes, i, 8);
-    let Step::Took { value: b, next: j } = second else {
-        return second;
-    };
-    words[OBJECT_COUNT] = b;
-    let third = permissions(bytes, j, a * b, roles, words);
-    let Step::Took { value: n, next: k } = third else {
-        return third;
-    };
-    name_permissions(words, n as usize, b as usize);
-    Step::Took { value: n, next: k }
+    let operations = count(bytes, at, 8)?;
+    words[OPERATION_COUNT] = operations.value;
+    let objects = count(bytes, operations.next, 8)?;
+    words[OBJECT_COUNT] = objects.value;
+    let product = operations.value * objects.value;
+    let named = permissions(bytes, objects.next, product, roles, words)?;
+    name_permissions(words, named.value as usize, objects.value as usize);
+    Ok(named)
 }
 
 // Sections 7 to 9.
@@ -289,40 +269,31 @@ pub fn collections(
     users: u64,
     permissions: u64,
     words: &mut [u64],
-) -> Step
+) -> Result<Piece, Refusal>
     requires at_in_bounds { at ≤ length bytes.now }
     requires roles_bound { (roles ≤ 64) × (users ≤ 64) × (permissions ≤ 64) }
     requires whole { Whole words.old }
     ensures { Reads bytes.now (CollectionsAt words.old words.new) result (collections_of roles users permissions (drop at bytes.now)) }
 {
-    let first = section(bytes, at, Row::Plain(roles), words, CR_COUNT, CR);
-    let Step::Took { value: _, next: i } = first else {
-        return first;
-    };
-    let second = section(bytes, i, Row::Plain(users), words, CU_COUNT, CU);
-    let Step::Took { value: _, next: j } = second else {
-        return second;
-    };
-    section(bytes, j, Row::Plain(permissions), words, CP_COUNT, CP)
+    let cr = section(bytes, at, Row::Plain(roles), words, CR_COUNT, CR)?;
+    let cu = section(bytes, cr.next, Row::Plain(users), words, CU_COUNT, CU)?;
+    section(bytes, cu.next, Row::Plain(permissions), words, CP_COUNT, CP)
 }
 
 // Section 10, where the counts of operations and objects are stored.
-pub fn done(bytes: &[u8], at: usize, users: u64, words: &mut [u64]) -> Step
+pub fn done(bytes: &[u8], at: usize, users: u64, words: &mut [u64]) -> Result<Piece, Refusal>
     requires at_in_bounds { at ≤ length bytes.now }
     requires whole { Whole words.old }
     ensures { Reads bytes.now (SectionAt put_deeds done_count_at words.old words.new) result (section_of (λ n. done_row users (get_or words.old operation_count_at 0) (get_or words.old object_count_at 0)) (drop at bytes.now)) }
 {
-    let read = count(bytes, at, 64);
-    let Step::Took { value, next } = read else {
-        return read;
-    };
+    let count = count(bytes, at, 64)?;
     let operations = words[OPERATION_COUNT];
     let objects = words[OBJECT_COUNT];
-    words[DONE_COUNT] = value;
+    words[DONE_COUNT] = count.value;
     done_rows(
         bytes,
-        next,
-        value as usize,
+        count.next,
+        count.value as usize,
         users,
         operations,
         objects,
@@ -331,29 +302,21 @@ pub fn done(bytes: &[u8], at: usize, users: u64, words: &mut [u64]) -> Step
 }
 
 // All ten sections.
-pub fn sections(bytes: &[u8], words: &mut [u64]) -> Step
+pub fn sections(bytes: &[u8], words: &mut [u64]) -> Result<Piece, Refusal>
     requires { Whole words.old }
     ensures { Reads bytes.now (Filled words.old words.new) result (sections_of bytes.now) }
 {
-    let first = roles(bytes, words);
-    let Step::Took { value: r, next: i } = first else {
-        return first;
-    };
-    let second = users(bytes, i, r, words);
-    let Step::Took { value: u, next: j } = second else {
-        return second;
-    };
-    let third = sessions(bytes, j, u, r, words);
-    let Step::Took { value: _, next: k } = third else {
-        return third;
-    };
-    let fourth = rights(bytes, k, r, words);
-    let Step::Took { value: p, next: l } = fourth else {
-        return fourth;
-    };
-    let fifth = collections(bytes, l, r, u, p, words);
-    let Step::Took { value: _, next: m } = fifth else {
-        return fifth;
-    };
-    done(bytes, m, u, words)
+    let roles = roles(bytes, words)?;
+    let users = users(bytes, roles.next, roles.value, words)?;
+    let sessions = sessions(bytes, users.next, users.value, roles.value, words)?;
+    let rights = rights(bytes, sessions.next, roles.value, words)?;
+    let held = collections(
+        bytes,
+        rights.next,
+        roles.value,
+        users.value,
+        rights.value,
+        words,
+    )?;
+    done(bytes, held.next, users.value, words)
 }

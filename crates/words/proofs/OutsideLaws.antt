@@ -7,7 +7,7 @@ use native.Mathlib.Omega.{arith}
 use lib.Dec.{ltb, leb}
 use native.Mathlib.Nat.{div-lt_iff_lt-mul, le-div_iff_mul-le}
 use lib.Pow.{pow_pos}
-use borrow.Author.Tests.{lt-ltb, le-ltb, lt-leb, leb-true, leb-false}
+use borrow.Author.Tests.{lt-ltb, le-ltb, leb-true, leb-false}
 
 -- A word shifted by n is not 0 exactly where the word is 2 ^ n or more.
 pub outside-shift : (w n : ℕ) → ltb 0 (w / 2 ^ n) ≡ leb (2 ^ n) w
@@ -22,8 +22,3 @@ outside-shift w n = go (leb (2 ^ n) w) refl
         let h = leb-true (2 ^ n) w e in
         let q : 1 ≤ w / 2 ^ n = (le-div_iff_mul-le (pow_pos n)).1 (omega arith) in
         rw (e, lt-ltb 0 (w / 2 ^ n) (omega arith))
-
-pub outside-none : (w n : ℕ) → 64 ≤ n → n ≤ 64 → w < 2 ^ 64 → leb (2 ^ n) w ≡ false
-outside-none w n l h k =
-    let q : n ≡ 64 = omega arith in
-    rw (q) (lt-leb (2 ^ 64) w k)

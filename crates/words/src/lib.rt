@@ -2,7 +2,7 @@
 // Each function is told by bits; nothing here knows tables.
 #![tactic(auto)]
 
-ghost use Rattle.std.specs.Prelude.{◌≡◌, ◌<◌, ◌≤◌, ◌^◌, min, leb, get_or};
+ghost use Rattle.std.specs.Prelude.{◌≡◌, ◌<◌, ◌≤◌, ◌^◌, leb, get_or};
 ghost use Rattle.words.specs.Words.{has, Lowest, size_of, all_of, item_of, meet_of, join_of, less_of, image_of, preimage_of};
 
 // Whether item i is in the word.
@@ -49,17 +49,11 @@ pub fn less(a: u64, b: u64) -> u64
     a & !b
 }
 
-fn ones(w: u64) -> u32
-    ensures { (result ≡ size_of w) × (result ≤ 64) }
-{
-    u64::count_ones(w)
-}
-
 // How many items the word has: the count of ones.
 pub fn size(w: u64) -> usize
     ensures { result ≡ size_of w }
 {
-    ones(w) as usize
+    w.count_ones() as usize
 }
 
 // A bit at or above n is set.
@@ -67,24 +61,21 @@ pub fn outside(w: u64, n: u64) -> bool
     requires { n ≤ 64 }
     ensures { result ≡ leb (2 ^ n) w }
 {
-    if n < 64 {
-        return 0 < w >> n;
-    }
-    false
+    n < 64 && 0 < w >> n
 }
 
 // The smallest item, or 64.
 pub fn lowest(w: u64) -> usize
     ensures { Lowest w result }
 {
-    u64::trailing_zeros(w) as usize
+    w.trailing_zeros() as usize
 }
 
 // Row i; past the last row the empty word.
 pub fn row(rows: &[u64], i: usize) -> u64
     ensures { result ≡ get_or rows.now i 0 }
 {
-    if i < rows.len() { rows[i] } else { 0 }
+    rows.get(i).copied().unwrap_or(0)
 }
 
 // The union of the rows of w's items. Only w's items are visited.
@@ -101,21 +92,14 @@ pub fn image(rows: &[u64], w: u64) -> u64
     found
 }
 
-// The smaller of two numbers.
-pub fn least(a: usize, b: usize) -> usize
-    ensures { result ≡ min a b }
-{
-    if a < b { a } else { b }
-}
-
 // The items whose row meets w. Only the rows that are there are visited, so a short slice costs little.
 pub fn preimage(rows: &[u64], w: u64) -> u64
     ensures { result ≡ preimage_of rows.now w }
 {
-    let n = least(rows.len(), 64);
+    let n = rows.len().min(64);
     let mut found = 0;
-    for i in 0..n {
-        if meet(rows[i], w) != 0 {
+    for (i, row) in rows[..n].iter().enumerate() {
+        if meet(*row, w) != 0 {
             found = join(found, item(i));
         }
     }

@@ -1,41 +1,48 @@
--- `cuts::keep`: of the first i sessions those of the reader's users are kept.
+-- `cuts::keep`: of the words passed those of the reader's users are kept, and the others are left.
 -- Assumes nothing.
-use Prim.Native.Nat.{ℕ}
-use mathlib.Core.Path.{sym, ap, ◌∙◌}
+use Rattle.std.proofs.Common.{rules}
+use mathlib.Core.Path.{ap}
 use native.Mathlib.Omega.{arith}
-use lib.ListN.{length, length-replicate}
-use Rattle.cuts.proofs.KeepLaws.{keeping_none, keeping-in, keeping-out, keeping_all, keeping-long, kept-none, kept_in, kept_out}
+use lib.ListN.{length, length-append, length-drop}
+use Rattle.cuts.proofs.KeepLaws.{keeping_none, keeping_all, keeping-long, kept-none, first-left, keeping-word, passing-word}
 use Rattle.cuts.proofs.keep.Goals as goal
-use Rattle.cuts.proofs.keep.Goals.{then-meet-ne0, else-meet-ne0}
 
-pub loop-i-init : goal.loop-i-init
-loop-i-init c = keeping_none (kept-none _ _ _) c.requires.kept_value
-
-pub bounds-column-i : goal.bounds-column-i
-bounds-column-i c =
-    omega (arith, c.requires.users_len_bound, c.loop-i-test.true)
-
-pub offset_bounds-kept-n : goal.offset_bounds-kept-n
-offset_bounds-kept-n c =
-    omega (arith, c.requires.users_len_bound, keeping-long c.loop-i.invariant, c.loop-i.invariant.few, c.loop-i-test.true)
+pub loop-user-init : goal.loop-user-init
+loop-user-init c = record { keeping = keeping_none (kept-none _ _ _) c.requires.kept_value; users-left = search rules; column-left = search rules }
 
 pub bounds-kept-n : goal.bounds-kept-n
 bounds-kept-n c =
-    omega (arith, c.requires.users_len_bound, keeping-long c.loop-i.invariant, c.loop-i.invariant.few, c.loop-i-test.true)
+    omega (
+      arith,
+      c.requires.users_len_bound,
+      keeping-long c.loop-user.invariant.keeping,
+      c.loop-user.invariant.keeping.few,
+      (first-left (length c.loop-user.yielded) c.args.users.now c.loop-user.invariant.users-left c.in-Some.ensures.steps.0).0,
+    )
 
 pub overflow_add-n : goal.overflow_add-n
 overflow_add-n c =
-    omega (arith, c.requires.users_len_bound, c.loop-i.invariant.few, c.loop-i-test.true)
+    omega (arith, c.requires.users_len_bound, c.loop-user.invariant.keeping.few, (first-left (length c.loop-user.yielded) c.args.users.now c.loop-user.invariant.users-left c.in-Some.ensures.steps.0).0)
 
-pub loop-i-preserved : goal.loop-i-preserved
-loop-i-preserved c =
-    elim c.if-meet-ne0.branch [
-      | then-meet-ne0 w ↦ keeping-in c.loop-i.invariant _ c.requires.users_len_bound.0 c.loop-i-test.true (kept_in _ _ c.args.column.now _ c.meet.ensures w.if-meet-ne0.true) w.kept-is w.n-is
-      | else-meet-ne0 w ↦ keeping-out c.loop-i.invariant c.loop-i-test.true (kept_out _ _ c.args.column.now _ c.meet.ensures w.if-meet-ne0.false) w.kept-is w.n-is
-    ]
+pub loop-user-preserved-then-meet-ne0 : goal.loop-user-preserved-then-meet-ne0
+loop-user-preserved-then-meet-ne0 c =
+    keeping-word c.loop-user.invariant c.in-Some.ensures.steps.0 c.in-Some.ensures.steps.1 c.meet.ensures (length-append c.loop-user.yielded _)
+    c.requires.users_len_bound.0 c.if-meet-ne0.true
 
-pub shape_of-kept : goal.shape_of-kept
-shape_of-kept c = keeping-long c.loop-i.invariant ∙ sym (ap length c.requires.kept_value ∙ length-replicate {A = ℕ} 64 0)
+pub loop-user-preserved : goal.loop-user-preserved
+loop-user-preserved c =
+    passing-word c.loop-user.invariant c.in-Some.ensures.steps.0 c.in-Some.ensures.steps.1 c.meet.ensures (length-append c.loop-user.yielded _)
+    c.if-meet-ne0.false
 
 pub returns : goal.returns
-returns c = keeping_all c.loop-i.invariant c.loop-i-test.false
+returns c =
+    let p = c.loop-user.invariant in
+    keeping_all p.keeping (omega (
+      arith,
+      c.in-None.ensures.steps,
+      ap length p.users-left,
+      ap length p.column-left,
+      length-drop (length c.loop-user.yielded) c.args.users.now,
+      length-drop (length c.loop-user.yielded) c.args.column.now,
+      c.requires.users_len_bound,
+    ))

@@ -1,13 +1,8 @@
--- `cuts::keep`: of the first i sessions those of the reader's users are kept.
+-- `cuts::keep`: of the words passed those of the reader's users are kept, and the others are left.
 -- Assumes nothing.
-use Prim.Native.Nat.{◌-◌}
 use lib.ListN.{length}
-use Rattle.cuts.specs.Code.Cutting.{kept_to}
-use Rattle.cuts.proofs.KeepLaws.{Keeping}
+use Rattle.cuts.proofs.KeepLaws.{KeepingTo}
 use Rattle.cuts.proofs.keep.Given as goal
 
-abbrev pub invariant-loop-i : goal.invariant-loop-i
-invariant-loop-i l = Keeping (kept_to l.reader l.users l.column) (length l.users) l.kept l.n l.i
-
-abbrev pub decreases-loop-i : goal.decreases-loop-i
-decreases-loop-i l = length l.users - l.i
+abbrev pub invariant-loop-user : goal.invariant-loop-user
+invariant-loop-user l = KeepingTo l.reader l.users l.column l.kept l.n (length l.yielded) l.user-iterator.a.rest.now l.user-iterator.b.rest.now

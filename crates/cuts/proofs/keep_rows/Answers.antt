@@ -25,12 +25,12 @@ bounds-kept-i c =
 pub loop-i-preserved : goal.loop-i-preserved
 loop-i-preserved c =
     elim c.if-contains.branch [
-      | then-contains w ↦ rows_in c.requires.rows_len_bound c.loop-i.invariant c.loop-i-test.true c.contains.ensures w.if-contains.true w.kept-is
-      | else-contains w ↦ rows_out c.requires.rows_len_bound c.loop-i.invariant c.loop-i-test.true c.contains.ensures w.if-contains.false w.kept-is
+      | then-contains w ↦ rows_in c.requires.rows_len_bound c.loop-i.invariant (omega arith) c.contains.ensures w.if-contains.true w.kept-is
+      | else-contains w ↦ rows_out c.requires.rows_len_bound c.loop-i.invariant (omega arith) c.contains.ensures w.if-contains.false w.kept-is
     ]
 
 pub shape_of-kept : goal.shape_of-kept
 shape_of-kept c = rows_long c.loop-i.invariant ∙ sym (ap length c.requires.kept_value ∙ length-replicate {A = ℕ} 64 0)
 
 pub returns : goal.returns
-returns c = rows_all c.loop-i.invariant c.loop-i-test.false
+returns c = rows_all c.loop-i.invariant (omega arith)

@@ -1,28 +1,35 @@
 -- `tables::load`: the sections, then what is left over, then the checks of the whole.
 -- Assumes nothing.
 use mathlib.Core.Path.{sym, ap, ◌∙◌}
+use Rattle.std.proofs.lemmas.Result.{err_from_is_err_and}
 use Rattle.tables.specs.Flat.{flat}
 use Rattle.tables.proofs.ReadLaws.{as-took, as-stop}
 use Rattle.tables.proofs.PartLaws.{counts-fit}
 use Rattle.tables.proofs.LoadLaws.{load-stop, load-left, late-outcome, late-taken, whole_of, on-ok, read-stopped, read_left, read-once}
 use Rattle.tables.proofs.load.Goals as goal
 
+pub returns-in_err-next : goal.returns-in_err-next
+returns-in_err-next c =
+    let stops = as-stop c.in_err-next.ensures in
+    let p = err_from_is_err_and c.from_residual.result c.from_residual.ensures.1 in
+    record { value = rw (p.1, p.2, load-stop c.args.bytes.now stops); words_after = rw p.1 tt; words_after_2 = λ T q. read-stopped c.args.bytes.now q stops }
+
 pub returns-then-next-bytes : goal.returns-then-next-bytes
 returns-then-next-bytes c =
-    let w = whole_of c.requires (as-took c.sections-read.ensures c.in-Took.is) in
+    let w = whole_of c.requires (as-took c.in_ok-next.ensures) in
     record { value = rw (load-left c.args.bytes.now w.reads c.if-next-bytes.true); words_after = tt; words_after_2 = λ T q. read_left c.args.bytes.now q w.reads c.if-next-bytes.true }
 
 pub checked-requires : goal.checked-requires
 checked-requires c =
-    let w = whole_of c.requires (as-took c.sections-read.ensures c.in-Took.is) in
+    let w = whole_of c.requires (as-took c.in_ok-next.ensures) in
     counts-fit w.tables w.sound.fits w.flatly
 
-pub returns-in-Stopped : goal.returns-in-Stopped
-returns-in-Stopped c =
-    let stops = as-stop c.sections-read.ensures c.in-Stopped.is in
-    record { value = rw (load-stop c.args.bytes.now stops); words_after = tt; words_after_2 = λ T q. read-stopped c.args.bytes.now q stops }
-
-pub returns-else-next-bytes : goal.returns-else-next-bytes
-returns-else-next-bytes c =
-    let w = whole_of c.requires (as-took c.sections-read.ensures c.in-Took.is) in
-    let o = c.checked.ensures w.tables w.sound.fits w.sound.bounded w.flatly in record { value = o ∙ late-outcome c.args.bytes.now w.reads c.if-next-bytes.false; words_after = on-ok _ (λ z. rw (late-taken c.args.bytes.now w.reads c.if-next-bytes.false (sym o ∙ z)) w.flatly); words_after_2 = λ T q. w.flatly ∙ ap flat (read-once c.args.bytes.now q w.reads) }
+pub returns : goal.returns
+returns c =
+    let w = whole_of c.requires (as-took c.in_ok-next.ensures) in
+    let o = c.checked.ensures w.tables w.sound.fits w.sound.bounded w.flatly in
+    record {
+      value = o ∙ late-outcome c.args.bytes.now w.reads c.if-next-bytes.false;
+      words_after = on-ok _ (λ z. rw (late-taken c.args.bytes.now w.reads c.if-next-bytes.false (sym o ∙ z)) w.flatly);
+      words_after_2 = λ T q. w.flatly ∙ ap flat (read-once c.args.bytes.now q w.reads);
+    }

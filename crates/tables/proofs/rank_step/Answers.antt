@@ -1,8 +1,9 @@
 -- `tables::rank_step`: the hierarchy test again, on the words that `load` left, where it refused by rank.
 -- Assumes nothing.
-use mathlib.Core.Path.{sym, ap, ◌∙◌}
+use Rattle.std.proofs.Common.{rules}
+use mathlib.Core.Path.{◌≡◌, sym, ap, ◌∙◌}
 use Rattle.answers.specs.Outcome.{refuses}
-use Rattle.tables.specs.Code.Reads.{reading_outcome}
+use Rattle.tables.specs.Code.Reads.{reading_outcome, step_number}
 use Rattle.tables.proofs.FitsLaws.{sections-sound}
 use Rattle.tables.proofs.LoadLaws.{never, refused-one, refused_as}
 use Rattle.tables.proofs.PartLaws.{counts-fit}
@@ -27,5 +28,6 @@ returns-in-Rank c =
     let q = refused_as _ c.load.ensures.value (c.in-Err.is ∙ ap refuses c.in-Rank.is) in
     let w = rank-refused c.args.bytes.now q in
     let s = sections-sound c.args.bytes.now w.reads in
-    c.failing_step.ensures w.tables s.fits s.bounded (c.load.ensures.words_after_2 w.tables w.reads)
-    ∙ sym (rank_step_lem c.args.bytes.now q w.reads)
+    let n : c.map_or.result ≡ step_number c.failing_step.result = search rules in
+    n ∙ (c.failing_step.ensures w.tables s.fits s.bounded (c.load.ensures.words_after_2 w.tables w.reads)
+    ∙ sym (rank_step_lem c.args.bytes.now q w.reads))

@@ -1,14 +1,14 @@
 -- Internal: how the code's answers agree with the readers of Reading, and what the words hold once a section is stored.
 -- Assumes nothing.
-use Rattle.std.specs.Prelude.{◌≡◌, List, [], ◌∷◌, map, Bool, not, ℕ, suc, ◌+◌, ◌%◌, ◌/◌, ◌≤◌, ◌<◌, eqb, length, get_or, drop, set}
+use Rattle.std.specs.Prelude.{◌≡◌, List, [], ◌∷◌, map, Bool, not, ℕ, suc, ◌+◌, ◌%◌, ◌/◌, ◌≤◌, ◌<◌, eqb, length, get_or, drop, set, Option, Some, None, Result, Ok, Err}
 use Rattle.answers.specs.declared.Refusal.{Refusal}
 use Rattle.words.specs.Words.{all_of, item_of, join_of, less_of, image_of, preimage_of}
 use Rattle.tables.specs.declared.Row.{Row}
 use Rattle.tables.specs.declared.Row.TheVariants.{Plain, Marked}
-use Rattle.tables.specs.declared.Step.{Step}
-use Rattle.tables.specs.declared.Step.TheVariants.{Stopped, Took}
+use Rattle.tables.specs.declared.Piece.{Piece}
+use Rattle.tables.specs.declared.hierarchy.RankStep.{RankStep}
+use Rattle.tables.specs.declared.hierarchy.RankStep.TheVariants.{Reflexive, Transitive, Antisymmetric}
 use Rattle.answers.specs.Outcome.{Outcome, passes}
-use Rattle.std.specs.declared.result.Result.TheVariants.{Err}
 use Rattle.tables.specs.Tables.{User, Session, Deed, Tables, present_in}
 use Rattle.tables.specs.Reading.{Bytes, Taken, Reader, stop, took, word_row, MarkedRow, permission_row, Rights, Collections, Reading, rejected, taken}
 use Rattle.tables.specs.Checks.{all_to}
@@ -19,9 +19,9 @@ use Rattle.tables.specs.Code.Layout.{done_count_at, done_users_at, done_objects_
 use Rattle.tables.specs.Flat.{room, tabulate}
 
 -- The code stopped with the reader's refusal, or took what the reader took, up to the same byte; Holds relates the two values.
-pub data Reads {A : Type 0} (s : Bytes) (Holds : A → ℕ → Type 0) : Step → Taken A → Type 0 where
-  stops : {e : Refusal} {r : Taken A} → r ≡ stop e → Reads s Holds (Stopped e) r
-  takes : {v n : ℕ} {a : A} {r : Taken A} → r ≡ took a (drop n s) → n ≤ length s → Holds a v → Reads s Holds (Took v n) r
+pub data Reads {A : Type 0} (s : Bytes) (Holds : A → ℕ → Type 0) : Result Piece Refusal → Taken A → Type 0 where
+  stops : {e : Refusal} {r : Taken A} → r ≡ stop e → Reads s Holds (Err e) r
+  takes : {p : Piece} {a : A} {r : Taken A} → r ≡ took a (drop p.next s) → p.next ≤ length s → Holds a p.value → Reads s Holds (Ok p) r
 
 -- The case of the outcome that a reading has.
 abbrev pub reading_outcome : Reading → Outcome
@@ -181,6 +181,13 @@ reaching rows assigned users active = all_to (length active) (reach_at rows assi
 
 unfoldable pub new_at : List ℕ → ℕ → Bool
 new_at ws i = all_to i (λ j. not (eqb (get_or ws j 0) (get_or ws i 0)))
+
+-- The number of the step that fails, 0 where none does.
+abbrev pub step_number : Option RankStep → ℕ
+step_number None = 0
+step_number (Some Reflexive) = 1
+step_number (Some Transitive) = 2
+step_number (Some Antisymmetric) = 3
 
 -- Words are sorted into slots; those of the first i words are taken.
 abbrev pub slots : ℕ

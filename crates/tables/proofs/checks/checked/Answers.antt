@@ -1,8 +1,9 @@
 -- `tables::checks::checked`: the checks 20, 7, 8 and 9 in that order.
 -- Assumes nothing.
-use mathlib.Core.Path.{sym, ◌∙◌}
-use borrow.Author.Tests.{eq-eqb, ne_eqb}
+use mathlib.Core.Path.{sym, ap, ◌∙◌}
+use mathlib.Core.Bool.{not}
 use Rattle.tables.specs.Checks.{ranked, late_checks, first_failing}
+use Rattle.tables.proofs.RankLaws.{step-ranked}
 use Rattle.tables.proofs.checks.checked.Goals as goal
 
 pub returns-then-not-leavers_gone : goal.returns-then-not-leavers_gone
@@ -12,12 +13,12 @@ returns-then-not-leavers_gone c =
     let g = sym (c.leavers_gone.ensures T f b e) ∙ c.if-not-leavers_gone.true in
     rw g
 
-pub returns-then-failing_step-ne0 : goal.returns-then-failing_step-ne0
+pub returns-then-is_some : goal.returns-then-is_some
 unfolding late_checks first_failing ranked
-returns-then-failing_step-ne0 c =
+returns-then-is_some c =
     λ T f b e.
     let g = sym (c.leavers_gone.ensures T f b e) ∙ c.if-not-leavers_gone.false in
-    let r = ne_eqb _ 0 (λ z. c.if-failing_step-ne0.true (c.failing_step.ensures T f b e ∙ z)) in
+    let r = step-ranked _ _ (c.failing_step.ensures T f b e) ∙ ap not (sym c.is_some.ensures ∙ c.if-is_some.true) in
     rw (g, r)
 
 pub returns-then-not-reaches : goal.returns-then-not-reaches
@@ -25,7 +26,7 @@ unfolding late_checks first_failing ranked
 returns-then-not-reaches c =
     λ T f b e.
     let g = sym (c.leavers_gone.ensures T f b e) ∙ c.if-not-leavers_gone.false in
-    let r = eq-eqb _ 0 (sym (c.failing_step.ensures T f b e) ∙ c.if-failing_step-ne0.false) in
+    let r = step-ranked _ _ (c.failing_step.ensures T f b e) ∙ ap not (sym c.is_some.ensures ∙ c.if-is_some.false) in
     let o = sym (c.reaches.ensures T f b r e) ∙ c.if-not-reaches.true in
     rw (g, r, o)
 
@@ -34,7 +35,7 @@ unfolding late_checks first_failing ranked
 returns-then-not-collections_apart c =
     λ T f b e.
     let g = sym (c.leavers_gone.ensures T f b e) ∙ c.if-not-leavers_gone.false in
-    let r = eq-eqb _ 0 (sym (c.failing_step.ensures T f b e) ∙ c.if-failing_step-ne0.false) in
+    let r = step-ranked _ _ (c.failing_step.ensures T f b e) ∙ ap not (sym c.is_some.ensures ∙ c.if-is_some.false) in
     let o = sym (c.reaches.ensures T f b r e) ∙ c.if-not-reaches.false in
     let w = sym (c.collections_apart.ensures T f e) ∙ c.if-not-collections_apart.true in
     rw (g, r, o, w)
@@ -44,7 +45,7 @@ unfolding late_checks first_failing ranked
 returns c =
     λ T f b e.
     let g = sym (c.leavers_gone.ensures T f b e) ∙ c.if-not-leavers_gone.false in
-    let r = eq-eqb _ 0 (sym (c.failing_step.ensures T f b e) ∙ c.if-failing_step-ne0.false) in
+    let r = step-ranked _ _ (c.failing_step.ensures T f b e) ∙ ap not (sym c.is_some.ensures ∙ c.if-is_some.false) in
     let o = sym (c.reaches.ensures T f b r e) ∙ c.if-not-reaches.false in
     let w = sym (c.collections_apart.ensures T f e) ∙ c.if-not-collections_apart.false in
     rw (g, r, o, w)

@@ -11,19 +11,19 @@ returns-then-bytes-at-lt3 c =
 
 pub returns-then-users-user : goal.returns-then-users-user
 returns-then-users-user c =
-    stops (done-no-user c.args.bytes.now c.args.at c.args.users c.args.operations c.args.objects (omega (arith, c.requires)) (omega (arith, c.wide-user.ensures)))
+    stops (done-no-user c.args.bytes.now c.args.at c.args.users c.args.operations c.args.objects (omega (arith, c.requires)) (omega (arith, c.from-user.ensures)))
 
-pub returns-then-operations-wide : goal.returns-then-operations-wide
-returns-then-operations-wide c =
+pub returns-then-operations-from : goal.returns-then-operations-from
+returns-then-operations-from c =
     stops (done-no-operation c.args.bytes.now c.args.at c.args.users c.args.operations c.args.objects (omega (arith, c.requires))
-    (omega (arith, c.wide-user.ensures)) (omega (arith, c.wide.ensures)))
+    (omega (arith, c.from-user.ensures)) (omega (arith, c.from.ensures)))
 
-pub returns-then-objects-wide : goal.returns-then-objects-wide
-returns-then-objects-wide c =
+pub returns-then-objects-from : goal.returns-then-objects-from
+returns-then-objects-from c =
     stops (done-no-object c.args.bytes.now c.args.at c.args.users c.args.operations c.args.objects (omega (arith, c.requires))
-    (omega (arith, c.wide-user.ensures)) (omega (arith, c.wide.ensures)) (omega (arith, c.wide-2.ensures)))
+    (omega (arith, c.from-user.ensures)) (omega (arith, c.from.ensures)) (omega (arith, c.from-2.ensures)))
 
 pub returns : goal.returns
 returns c =
     done-row c.args.bytes.now c.args.at c.args.users c.args.operations c.args.objects (omega (arith, c.requires))
-    (omega (arith, c.wide-user.ensures)) (omega (arith, c.wide.ensures)) (omega (arith, c.wide-2.ensures))
+    (omega (arith, c.from-user.ensures)) (omega (arith, c.from.ensures)) (omega (arith, c.from-2.ensures))

@@ -11,9 +11,9 @@ returns-then-bytes-at-lt9 c =
 
 pub returns-then-users-user : goal.returns-then-users-user
 returns-then-users-user c =
-    stops (session-none c.args.bytes.now c.args.at c.args.users c.args.n (omega (arith, c.requires)) (omega (arith, c.wide-user.ensures)))
+    stops (session-none c.args.bytes.now c.args.at c.args.users c.args.n (omega (arith, c.requires)) (omega (arith, c.from-user.ensures)))
 
 pub returns : goal.returns
 returns c =
-    session-row c.args.bytes.now c.args.at c.args.users c.args.n (omega (arith, c.requires)) (omega (arith, c.wide-user.ensures))
+    session-row c.args.bytes.now c.args.at c.args.users c.args.n (omega (arith, c.requires)) (omega (arith, c.from-user.ensures))
     c.word_within.ensures

@@ -1,27 +1,14 @@
--- `tables::rows::word`: from the highest byte down, w is the word of the bytes from i on.
+-- `tables::rows::word` reads a word of eight bytes, lowest first.
 -- Assumes nothing.
-use Prim.Native.Nat.{◌-◌, ◌+◌}
-use native.Mathlib.Omega.{arith}
-use Rattle.tables.proofs.ReadLaws.{word_none, word_more, word-shift, word_fits, word-all}
+use Rattle.std.proofs.Common.{◌≡◌, ◌∙◌, ◌+◌, ◌-◌, length, take, drop, arith, length-drop}
+use Rattle.std.proofs.lemmas.Result.{MatchResult-at_ok}
+use lib.Seq.{length-take-le}
+use Rattle.tables.proofs.ReadLaws.{word_lem}
 use Rattle.tables.proofs.rows.word.Goals as goal
-
-pub loop-i-init : goal.loop-i-init
-loop-i-init c = word_none _ _ c.requires
-
-pub overflow_mul-w : goal.overflow_mul-w
-overflow_mul-w c =
-    record { fits = word-shift _ _ c.requires c.loop-i-test.true c.loop-i.invariant }
-
-pub overflow_add-w : goal.overflow_add-w
-overflow_add-w c =
-    let b = c.shared_slice_known-in-loop-i-1.given (c.args.at + (c.loop-i.i - 1)) in
-    record { fits = word_fits _ _ c.requires (word_more _ _ c.requires c.loop-i-test.true c.wide.ensures (omega (arith, c.wide.ensures)) c.loop-i.invariant) }
-
-pub loop-i-preserved : goal.loop-i-preserved
-loop-i-preserved c =
-    let b = c.shared_slice_known-in-loop-i-1.given (c.args.at + (c.loop-i.i - 1)) in
-    word_more _ _ c.requires c.loop-i-test.true c.wide.ensures (omega (arith, c.wide.ensures)) c.loop-i.invariant
 
 pub returns : goal.returns
 returns c =
-    word-all _ _ c.requires c.loop-i-test.false c.loop-i.invariant
+    let eight = MatchResult-at_ok _ _ _ c.unwrap-eight.ensures c.try_into.ensures.1 in
+    let n : c.args.at + 8 - c.args.at ≡ 8 = omega arith in
+    let long : length (take 8 (drop c.args.at c.args.bytes.now)) ≡ 8 = length-take-le 8 _ (rw length-drop (omega (arith, c.requires))) in
+    c.from_le_bytes.ensures ∙ rw (eight.same, n) (word_lem _ long)

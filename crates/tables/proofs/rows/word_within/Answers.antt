@@ -13,4 +13,4 @@ returns-then-outside c =
 
 pub returns : goal.returns
 returns c =
-    takes {n = c.args.at + 8} (within-took c.args.n (take 8 (drop c.args.at c.args.bytes.now)) (drop (c.args.at + 8) c.args.bytes.now) c.word-w.ensures c.outside.ensures c.if-outside.false) c.requires.at_in_bounds refl
+    takes (within-took c.args.n (take 8 (drop c.args.at c.args.bytes.now)) (drop (c.args.at + 8) c.args.bytes.now) c.word-w.ensures c.outside.ensures c.if-outside.false) c.requires.at_in_bounds refl

@@ -1,6 +1,6 @@
 -- `tables::sections::name_permissions`: the permissions below p are named.
 -- Assumes nothing.
-use Prim.Native.Nat.{◌-◌, ◌≤◌}
+use Prim.Native.Nat.{◌≤◌}
 use mathlib.Core.Path.{◌≡◌}
 use Rattle.tables.specs.Code.Reads.{with_names}
 use Rattle.tables.specs.Code.Layout.{Whole}
@@ -8,6 +8,3 @@ use Rattle.tables.proofs.sections.name_permissions.Given as goal
 
 abbrev pub invariant-loop-p : goal.invariant-loop-p
 invariant-loop-p l = (l.p ≤ l.n) × (l.words ≡ with_names l.initial.words l.p l.objects) × (Whole l.words)
-
-abbrev pub decreases-loop-p : goal.decreases-loop-p
-decreases-loop-p l = l.n - l.p

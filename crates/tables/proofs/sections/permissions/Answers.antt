@@ -9,19 +9,19 @@ use Rattle.tables.specs.Code.Reads.{stops, rows_from}
 use Rattle.tables.proofs.SectionLaws.{permissions-stop, permissions-wrong, permissions-on, counted}
 use Rattle.tables.proofs.sections.permissions.Goals as goal
 
-pub returns-in_default : goal.returns-in_default
-returns-in_default c =
-    stops_as c.in_default.is
-    (permissions-stop c.args.bytes.now c.args.at c.args.product c.args.roles (as-stop c.byte-read.ensures c.in_default.is))
+pub returns-in_err-count : goal.returns-in_err-count
+returns-in_err-count c =
+    stops_as c.from_residual.ensures.1
+    (permissions-stop c.args.bytes.now c.args.at c.args.product c.args.roles (as-stop c.in_err-count.ensures))
 
-pub returns-then-value-product : goal.returns-then-value-product
-returns-then-value-product c =
-    stops (permissions-wrong c.args.bytes.now c.args.at c.args.product c.args.roles (as-took c.byte-read.ensures c.in-Took.is) c.if-value-product.true)
+pub returns-then-count-product : goal.returns-then-count-product
+returns-then-count-product c =
+    stops (permissions-wrong c.args.bytes.now c.args.at c.args.product c.args.roles (as-took c.in_ok-count.ensures) c.if-count-product.true)
 
 pub rows-requires : goal.rows-requires
 rows-requires c =
-    let g = as-took c.byte-read.ensures c.in-Took.is in
-    record { at_in_bounds = g.within; n_le_room = (omega (arith, c.if-value-product.false, c.requires), c.requires.product_bound.1); room_bound = (omega arith, simp length-set c.requires.product_bound.2) }
+    let g = as-took c.in_ok-count.ensures in
+    record { at_in_bounds = g.within; n_le_room = (omega (arith, c.if-count-product.false, c.requires), c.requires.product_bound.1); room_bound = (omega arith, simp length-set c.requires.product_bound.2) }
 
 pub shape_of-words : goal.shape_of-words
 shape_of-words c =
@@ -29,6 +29,6 @@ shape_of-words c =
 
 pub returns : goal.returns
 returns c =
-    let g = as-took c.byte-read.ensures c.in-Took.is in
-    permissions-on c.args.bytes.now c.args.at c.args.product c.args.roles g c.if-value-product.false
-    (reads_as c.rows.ensures (λ xs v x. record { section = counted (rows_from permission_rows_at) c.args.words.now permission_count_at _ (omega (arith, c.if-value-product.false, c.requires)) x; all = x.all ∙ c.if-value-product.false }))
+    let g = as-took c.in_ok-count.ensures in
+    permissions-on c.args.bytes.now c.args.at c.args.product c.args.roles g c.if-count-product.false
+    (reads_as c.rows.ensures (λ xs v x. record { section = counted (rows_from permission_rows_at) c.args.words.now permission_count_at _ (omega (arith, c.if-count-product.false, c.requires)) x; all = x.all ∙ c.if-count-product.false }))

@@ -10,13 +10,13 @@ use Rattle.tables.proofs.ReadLaws.{as-took, as-stop, stops_as, reads_as}
 use Rattle.tables.proofs.SectionLaws.{section-stop, section-on, counted}
 use Rattle.tables.proofs.sections.roles.Goals as goal
 
-pub returns-in_default : goal.returns-in_default
-returns-in_default c =
-    stops_as c.in_default.is (section-stop c.args.bytes.now 0 (λ n. word_row n) (as-stop c.count-read.ensures c.in_default.is))
+pub returns-in_err-count : goal.returns-in_err-count
+returns-in_err-count c =
+    stops_as c.from_residual.ensures.1 (section-stop c.args.bytes.now 0 (λ n. word_row n) (as-stop c.in_err-count.ensures))
 
 pub rows-requires : goal.rows-requires
 rows-requires c =
-    let g = as-took c.count-read.ensures c.in-Took.is in
+    let g = as-took c.in_ok-count.ensures in
     record { at_in_bounds = g.within; n_le_room = (g.holds.few, g.holds.few); room_bound = (omega arith, simp length-set c.requires) }
 
 pub shape_of-words : goal.shape_of-words
@@ -25,5 +25,5 @@ shape_of-words c =
 
 pub returns : goal.returns
 returns c =
-    let g = as-took c.count-read.ensures c.in-Took.is in
+    let g = as-took c.in_ok-count.ensures in
     section-on c.args.bytes.now 0 (λ n. word_row n) g (reads_as c.rows.ensures (λ xs v x. counted (rows_from role_rows_at) c.args.words.now role_count_at _ g.holds.few x))

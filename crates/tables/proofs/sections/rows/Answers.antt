@@ -10,17 +10,17 @@ pub loop-i-init : goal.loop-i-init
 loop-i-init c =
     words-none (row_of c.args.kind) c.args.n c.args.to c.args.bytes.now c.args.at c.args.words.now c.requires.at_in_bounds
 
-pub row-read-requires : goal.row-read-requires
-row-read-requires c =
+pub row-requires : goal.row-requires
+row-requires c =
     record { at_in_bounds = c.loop-i.invariant.along.within; row_fits = c.requires.n_le_room.1 }
 
-pub shape_of-words-in_default : goal.shape_of-words-in_default
-shape_of-words-in_default c =
+pub shape_of-words-in_err-read : goal.shape_of-words-in_err-read
+shape_of-words-in_err-read c =
     c.loop-i.invariant.long
 
-pub returns-in_default : goal.returns-in_default
-returns-in_default c =
-    stops_as c.in_default.is (along-stop (row_of c.args.kind) c.args.n c.loop-i.invariant.along c.loop-i-test.true (as-stop c.row-read.ensures c.in_default.is))
+pub returns-in_err-read : goal.returns-in_err-read
+returns-in_err-read c =
+    stops_as c.from_residual.ensures.1 (along-stop (row_of c.args.kind) c.args.n c.loop-i.invariant.along (omega arith) (as-stop c.in_err-read.ensures))
 
 pub overflow_add-words : goal.overflow_add-words
 overflow_add-words c =
@@ -36,11 +36,11 @@ bounds-words-to c =
 
 pub loop-i-preserved : goal.loop-i-preserved
 loop-i-preserved c =
-    words_more (row_of c.args.kind) c.args.n c.args.to c.loop-i.invariant c.loop-i-test.true (as-took c.row-read.ensures c.in-Took.is)
+    words_more (row_of c.args.kind) c.args.n c.args.to c.loop-i.invariant (omega arith) (as-took c.in_ok-read.ensures)
 
 pub shape_of-words : goal.shape_of-words
 shape_of-words c = c.loop-i.invariant.long
 
 pub returns : goal.returns
 returns c =
-    storing-all (row_of c.args.kind) c.args.n c.loop-i.invariant c.loop-i-test.false
+    storing-all (row_of c.args.kind) c.args.n c.loop-i.invariant (omega arith)

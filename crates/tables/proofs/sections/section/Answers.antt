@@ -7,13 +7,13 @@ use Rattle.tables.proofs.ReadLaws.{as-took, as-stop, stops_as, reads_as}
 use Rattle.tables.proofs.SectionLaws.{section-stop, section-on, counted}
 use Rattle.tables.proofs.sections.section.Goals as goal
 
-pub returns-in_default : goal.returns-in_default
-returns-in_default c =
-    stops_as c.in_default.is (section-stop c.args.bytes.now c.args.at (λ n. row_of c.args.kind) (as-stop c.count-read.ensures c.in_default.is))
+pub returns-in_err-count : goal.returns-in_err-count
+returns-in_err-count c =
+    stops_as c.from_residual.ensures.1 (section-stop c.args.bytes.now c.args.at (λ n. row_of c.args.kind) (as-stop c.in_err-count.ensures))
 
 pub rows-requires : goal.rows-requires
 rows-requires c =
-    let g = as-took c.count-read.ensures c.in-Took.is in
+    let g = as-took c.in_ok-count.ensures in
     record { at_in_bounds = g.within; n_le_room = (g.holds.few, c.requires.row_fits.0); room_bound = (c.requires.place_lt_room.1, simp length-set c.requires.row_fits.1) }
 
 pub shape_of-words : goal.shape_of-words
@@ -22,5 +22,5 @@ shape_of-words c =
 
 pub returns : goal.returns
 returns c =
-    let g = as-took c.count-read.ensures c.in-Took.is in
+    let g = as-took c.in_ok-count.ensures in
     section-on c.args.bytes.now c.args.at (λ n. row_of c.args.kind) g (reads_as c.rows.ensures (λ xs v x. counted (rows_from c.args.to) c.args.words.now c.args.place _ g.holds.few x))

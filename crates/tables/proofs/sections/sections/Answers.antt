@@ -5,84 +5,84 @@ use Rattle.tables.proofs.ReadLaws.{as-took, as-stop, stops_as}
 use Rattle.tables.proofs.SectionsLaws.{sections-stop, sections-stop-2, sections-stop-3, sections-stop-4, sections-stop-5, sections-all}
 use Rattle.tables.proofs.sections.sections.Goals as goal
 
-pub returns-in_default : goal.returns-in_default
-returns-in_default c =
-    stops_as c.in_default.is (sections-stop c.args.bytes.now (as-stop c.roles-first.ensures c.in_default.is))
+pub returns-in_err-roles : goal.returns-in_err-roles
+returns-in_err-roles c =
+    stops_as c.from_residual.ensures.1 (sections-stop c.args.bytes.now (as-stop c.in_err-roles.ensures))
 
-pub users-second-requires : goal.users-second-requires
-users-second-requires c =
-    let f = as-took c.roles-first.ensures c.in-Took.is in
-    record { at_in_bounds = f.within; roles_bound = (f.holds.few, c.roles-first.auto.words ∙ c.requires) }
+pub users-requires : goal.users-requires
+users-requires c =
+    let f = as-took c.in_ok-roles.ensures in
+    record { at_in_bounds = f.within; roles_bound = (f.holds.few, c.roles.auto.words ∙ c.requires) }
 
-pub returns-in_default-second : goal.returns-in_default-second
-returns-in_default-second c =
-    let f = as-took c.roles-first.ensures c.in-Took.is in
-    stops_as c.in_default-second.is (sections-stop-2 c.args.bytes.now f (as-stop c.users-second.ensures c.in_default-second.is))
+pub returns-in_err-users : goal.returns-in_err-users
+returns-in_err-users c =
+    let f = as-took c.in_ok-roles.ensures in
+    stops_as c.from_residual-in_err-users.ensures.1 (sections-stop-2 c.args.bytes.now f (as-stop c.in_err-users.ensures))
 
-pub sessions-third-requires : goal.sessions-third-requires
-sessions-third-requires c =
-    let f = as-took c.roles-first.ensures c.in-Took.is in
-    let g = as-took c.users-second.ensures c.in-Took-second.is in
-    record { at_in_bounds = g.within; roles_bound = (f.holds.few, c.users-second.auto.words ∙ c.roles-first.auto.words ∙ c.requires) }
+pub sessions-requires : goal.sessions-requires
+sessions-requires c =
+    let f = as-took c.in_ok-roles.ensures in
+    let g = as-took c.in_ok-users.ensures in
+    record { at_in_bounds = g.within; roles_bound = (f.holds.few, c.users.auto.words ∙ c.roles.auto.words ∙ c.requires) }
 
-pub returns-in_default-third : goal.returns-in_default-third
-returns-in_default-third c =
-    let f = as-took c.roles-first.ensures c.in-Took.is in
-    let g = as-took c.users-second.ensures c.in-Took-second.is in
-    stops_as c.in_default-third.is (sections-stop-3 c.args.bytes.now f g (as-stop c.sessions-third.ensures c.in_default-third.is))
+pub returns-in_err-sessions : goal.returns-in_err-sessions
+returns-in_err-sessions c =
+    let f = as-took c.in_ok-roles.ensures in
+    let g = as-took c.in_ok-users.ensures in
+    stops_as c.from_residual-in_err-sessions.ensures.1 (sections-stop-3 c.args.bytes.now f g (as-stop c.in_err-sessions.ensures))
 
-pub rights-fourth-requires : goal.rights-fourth-requires
-rights-fourth-requires c =
-    let f = as-took c.roles-first.ensures c.in-Took.is in
-    let h = as-took c.sessions-third.ensures c.in-Took-third.is in
-    record { at_in_bounds = h.within; roles_bound = (f.holds.few, c.sessions-third.auto.words ∙ c.users-second.auto.words ∙ c.roles-first.auto.words ∙ c.requires) }
+pub rights-requires : goal.rights-requires
+rights-requires c =
+    let f = as-took c.in_ok-roles.ensures in
+    let h = as-took c.in_ok-sessions.ensures in
+    record { at_in_bounds = h.within; roles_bound = (f.holds.few, c.sessions.auto.words ∙ c.users.auto.words ∙ c.roles.auto.words ∙ c.requires) }
 
-pub returns-in_default-fourth : goal.returns-in_default-fourth
-returns-in_default-fourth c =
-    let f = as-took c.roles-first.ensures c.in-Took.is in
-    let g = as-took c.users-second.ensures c.in-Took-second.is in
-    let h = as-took c.sessions-third.ensures c.in-Took-third.is in
-    stops_as c.in_default-fourth.is (sections-stop-4 c.args.bytes.now f g h (as-stop c.rights-fourth.ensures c.in_default-fourth.is))
+pub returns-in_err-rights : goal.returns-in_err-rights
+returns-in_err-rights c =
+    let f = as-took c.in_ok-roles.ensures in
+    let g = as-took c.in_ok-users.ensures in
+    let h = as-took c.in_ok-sessions.ensures in
+    stops_as c.from_residual-in_err-rights.ensures.1 (sections-stop-4 c.args.bytes.now f g h (as-stop c.in_err-rights.ensures))
 
-pub collections-fifth-requires : goal.collections-fifth-requires
-collections-fifth-requires c =
-    let f = as-took c.roles-first.ensures c.in-Took.is in
-    let g = as-took c.users-second.ensures c.in-Took-second.is in
-    let t = as-took c.rights-fourth.ensures c.in-Took-fourth.is in
-    record { at_in_bounds = t.within; roles_bound = (f.holds.few, g.holds.few, t.holds.few); whole = c.rights-fourth.auto.words ∙ c.sessions-third.auto.words ∙ c.users-second.auto.words ∙ c.roles-first.auto.words ∙ c.requires }
+pub collections-requires : goal.collections-requires
+collections-requires c =
+    let f = as-took c.in_ok-roles.ensures in
+    let g = as-took c.in_ok-users.ensures in
+    let t = as-took c.in_ok-rights.ensures in
+    record { at_in_bounds = t.within; roles_bound = (f.holds.few, g.holds.few, t.holds.few); whole = c.rights.auto.words ∙ c.sessions.auto.words ∙ c.users.auto.words ∙ c.roles.auto.words ∙ c.requires }
 
-pub shape_of-words-in_default-fifth : goal.shape_of-words-in_default-fifth
-shape_of-words-in_default-fifth c =
-    c.collections-fifth.auto.words ∙ c.rights-fourth.auto.words ∙ c.sessions-third.auto.words ∙ c.users-second.auto.words
-    ∙ c.roles-first.auto.words
+pub shape_of-words-in_err-held : goal.shape_of-words-in_err-held
+shape_of-words-in_err-held c =
+    c.collections.auto.words ∙ c.rights.auto.words ∙ c.sessions.auto.words ∙ c.users.auto.words
+    ∙ c.roles.auto.words
 
-pub returns-in_default-fifth : goal.returns-in_default-fifth
-returns-in_default-fifth c =
-    let f = as-took c.roles-first.ensures c.in-Took.is in
-    let g = as-took c.users-second.ensures c.in-Took-second.is in
-    let h = as-took c.sessions-third.ensures c.in-Took-third.is in
-    let t = as-took c.rights-fourth.ensures c.in-Took-fourth.is in
-    stops_as c.in_default-fifth.is (sections-stop-5 c.args.bytes.now f g h t (as-stop c.collections-fifth.ensures c.in_default-fifth.is))
+pub returns-in_err-held : goal.returns-in_err-held
+returns-in_err-held c =
+    let f = as-took c.in_ok-roles.ensures in
+    let g = as-took c.in_ok-users.ensures in
+    let h = as-took c.in_ok-sessions.ensures in
+    let t = as-took c.in_ok-rights.ensures in
+    stops_as c.from_residual-in_err-held.ensures.1 (sections-stop-5 c.args.bytes.now f g h t (as-stop c.in_err-held.ensures))
 
 pub done-requires : goal.done-requires
 done-requires c =
-    let z = as-took c.collections-fifth.ensures c.in-Took-fifth.is in record {
+    let z = as-took c.in_ok-held.ensures in record {
       at_in_bounds = z.within;
-      whole = c.collections-fifth.auto.words ∙ c.rights-fourth.auto.words ∙ c.sessions-third.auto.words
-          ∙ c.users-second.auto.words ∙ c.roles-first.auto.words ∙ c.requires;
+      whole = c.collections.auto.words ∙ c.rights.auto.words ∙ c.sessions.auto.words
+          ∙ c.users.auto.words ∙ c.roles.auto.words ∙ c.requires;
     }
 
 pub shape_of-words : goal.shape_of-words
 shape_of-words c =
-    c.done.auto.words ∙ c.collections-fifth.auto.words ∙ c.rights-fourth.auto.words ∙ c.sessions-third.auto.words
-    ∙ c.users-second.auto.words ∙ c.roles-first.auto.words
+    c.done.auto.words ∙ c.collections.auto.words ∙ c.rights.auto.words ∙ c.sessions.auto.words
+    ∙ c.users.auto.words ∙ c.roles.auto.words
 
 pub returns : goal.returns
 returns c =
-    let f = as-took c.roles-first.ensures c.in-Took.is in
-    let g = as-took c.users-second.ensures c.in-Took-second.is in
-    let h = as-took c.sessions-third.ensures c.in-Took-third.is in
-    let t = as-took c.rights-fourth.ensures c.in-Took-fourth.is in
-    let z = as-took c.collections-fifth.ensures c.in-Took-fifth.is in
-    let whole = c.sessions-third.auto.words ∙ c.users-second.auto.words ∙ c.roles-first.auto.words ∙ c.requires in
+    let f = as-took c.in_ok-roles.ensures in
+    let g = as-took c.in_ok-users.ensures in
+    let h = as-took c.in_ok-sessions.ensures in
+    let t = as-took c.in_ok-rights.ensures in
+    let z = as-took c.in_ok-held.ensures in
+    let whole = c.sessions.auto.words ∙ c.users.auto.words ∙ c.roles.auto.words ∙ c.requires in
     sections-all c.args.bytes.now f g h t z whole c.done.ensures

@@ -11,21 +11,21 @@ pub loop-i-init : goal.loop-i-init
 loop-i-init c =
     sessions-none (session_row c.args.users c.args.roles) c.args.n c.args.bytes.now c.args.at c.args.words.now c.requires.at_in_bounds
 
-pub session_row-row-requires : goal.session_row-row-requires
-session_row-row-requires c =
+pub session_row-requires : goal.session_row-requires
+session_row-requires c =
     record { at_in_bounds = c.loop-i.invariant.along.within; n_bound = c.requires.n_le_room.1 }
 
-pub shape_of-words-in_default : goal.shape_of-words-in_default
-shape_of-words-in_default c =
+pub shape_of-words-in_err-row : goal.shape_of-words-in_err-row
+shape_of-words-in_err-row c =
     c.loop-i.invariant.long
 
-pub returns-in_default : goal.returns-in_default
-returns-in_default c =
-    stops_as c.in_default.is (along-stop (session_row c.args.users c.args.roles) c.args.n c.loop-i.invariant.along c.loop-i-test.true (as-stop c.session_row-row.ensures c.in_default.is))
+pub returns-in_err-row : goal.returns-in_err-row
+returns-in_err-row c =
+    stops_as c.from_residual.ensures.1 (along-stop (session_row c.args.users c.args.roles) c.args.n c.loop-i.invariant.along (omega arith) (as-stop c.in_err-row.ensures))
 
 pub bounds-bytes-from : goal.bounds-bytes-from
 bounds-bytes-from c =
-    (as-took c.session_row-row.ensures c.in-Took.is).holds.complete
+    (as-took c.in_ok-row.ensures).holds.complete
 
 pub overflow_cast-bytes : goal.overflow_cast-bytes
 overflow_cast-bytes c =
@@ -57,12 +57,12 @@ bounds-words-i-in-loop-i c =
 
 pub loop-i-preserved : goal.loop-i-preserved
 loop-i-preserved c =
-    sessions-more (session_row c.args.users c.args.roles) c.args.n c.loop-i.invariant c.loop-i-test.true c.requires.n_le_room.0 c.item.ensures
-    (as-took c.session_row-row.ensures c.in-Took.is)
+    sessions-more (session_row c.args.users c.args.roles) c.args.n c.loop-i.invariant (omega arith) c.requires.n_le_room.0 c.item.ensures
+    (as-took c.in_ok-row.ensures)
 
 pub shape_of-words : goal.shape_of-words
 shape_of-words c = c.loop-i.invariant.long
 
 pub returns : goal.returns
 returns c =
-    storing-all (session_row c.args.users c.args.roles) c.args.n c.loop-i.invariant c.loop-i-test.false
+    storing-all (session_row c.args.users c.args.roles) c.args.n c.loop-i.invariant (omega arith)

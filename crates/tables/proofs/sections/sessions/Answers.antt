@@ -9,14 +9,14 @@ use Rattle.tables.proofs.ReadLaws.{as-took, as-stop, stops_as, reads_as}
 use Rattle.tables.proofs.SectionLaws.{section-stop, section-on, counted}
 use Rattle.tables.proofs.sections.sessions.Goals as goal
 
-pub returns-in_default : goal.returns-in_default
-returns-in_default c =
-    stops_as c.in_default.is
-    (section-stop c.args.bytes.now c.args.at (λ n. session_row c.args.users c.args.roles) (as-stop c.count-read.ensures c.in_default.is))
+pub returns-in_err-count : goal.returns-in_err-count
+returns-in_err-count c =
+    stops_as c.from_residual.ensures.1
+    (section-stop c.args.bytes.now c.args.at (λ n. session_row c.args.users c.args.roles) (as-stop c.in_err-count.ensures))
 
 pub session_rows-requires : goal.session_rows-requires
 session_rows-requires c =
-    let g = as-took c.count-read.ensures c.in-Took.is in
+    let g = as-took c.in_ok-count.ensures in
     record { at_in_bounds = g.within; n_le_room = (g.holds.few, c.requires.roles_bound.0); whole = simp length-set c.requires.roles_bound.1 }
 
 pub shape_of-words : goal.shape_of-words
@@ -25,6 +25,6 @@ shape_of-words c =
 
 pub returns : goal.returns
 returns c =
-    let g = as-took c.count-read.ensures c.in-Took.is in
+    let g = as-took c.in_ok-count.ensures in
     section-on c.args.bytes.now c.args.at (λ n. session_row c.args.users c.args.roles) g
     (reads_as c.session_rows.ensures (λ ss v x. counted put_sessions c.args.words.now session_count_at _ g.holds.few x))

@@ -15,22 +15,22 @@ pub loop-i-init : goal.loop-i-init
 loop-i-init c =
     users-none (user_row c.args.roles) c.args.n c.args.bytes.now c.args.at c.args.words.now c.requires.at_in_bounds
 
-pub marked_row-row-requires : goal.marked_row-row-requires
-marked_row-row-requires c =
+pub marked_row-requires : goal.marked_row-requires
+marked_row-requires c =
     record { at_in_bounds = c.loop-i.invariant.rows.along.within; n_bound = c.requires.n_le_room.1 }
 
-pub shape_of-words-in_default : goal.shape_of-words-in_default
-shape_of-words-in_default c =
+pub shape_of-words-in_err-row : goal.shape_of-words-in_err-row
+shape_of-words-in_err-row c =
     c.loop-i.invariant.rows.long
 
-pub returns-in_default : goal.returns-in_default
-returns-in_default c =
-    let stopped = user-stops c.args.roles (drop c.loop-i.from c.args.bytes.now) (as-stop c.marked_row-row.ensures c.in_default.is) in
-    stops_as c.in_default.is (along-stop (user_row c.args.roles) c.args.n c.loop-i.invariant.rows.along c.loop-i-test.true stopped)
+pub returns-in_err-row : goal.returns-in_err-row
+returns-in_err-row c =
+    let stopped = user-stops c.args.roles (drop c.loop-i.from c.args.bytes.now) (as-stop c.in_err-row.ensures) in
+    stops_as c.from_residual.ensures.1 (along-stop (user_row c.args.roles) c.args.n c.loop-i.invariant.rows.along (omega arith) stopped)
 
 pub bounds-bytes-from : goal.bounds-bytes-from
 bounds-bytes-from c =
-    (as-took c.marked_row-row.ensures c.in-Took.is).holds.complete
+    (as-took c.in_ok-row.ensures).holds.complete
 
 pub overflow_add-words : goal.overflow_add-words
 overflow_add-words c =
@@ -46,11 +46,11 @@ bounds-words-i c =
 
 pub loop-i-preserved : goal.loop-i-preserved
 loop-i-preserved c =
-    let got = user-got c.args.bytes.now c.loop-i.from c.args.roles (as-took c.marked_row-row.ensures c.in-Took.is) in
+    let got = user-got c.args.bytes.now c.loop-i.from c.args.roles (as-took c.in_ok-row.ensures) in
     elim c.if-bytes-from-eq-ENTERED.branch [
-      | then-bytes-from-eq-ENTERED w ↦ users-in (user_row c.args.roles) c.args.n c.loop-i.invariant c.loop-i-test.true c.requires.n_le_room.0 got w.if-bytes-from-eq-ENTERED.true
+      | then-bytes-from-eq-ENTERED w ↦ users-in (user_row c.args.roles) c.args.n c.loop-i.invariant (omega arith) c.requires.n_le_room.0 got w.if-bytes-from-eq-ENTERED.true
           (w.present-is ∙ w.join-present.ensures ∙ ap (join_of c.loop-i.present) w.item.ensures)
-      | else-bytes-from-eq-ENTERED w ↦ users-out (user_row c.args.roles) c.args.n c.loop-i.invariant c.loop-i-test.true got w.if-bytes-from-eq-ENTERED.false w.present-is
+      | else-bytes-from-eq-ENTERED w ↦ users-out (user_row c.args.roles) c.args.n c.loop-i.invariant (omega arith) got w.if-bytes-from-eq-ENTERED.false w.present-is
     ]
 
 pub bounds-words-2 : goal.bounds-words-2
@@ -63,4 +63,4 @@ shape_of-words c =
 
 pub returns : goal.returns
 returns c =
-    users-all (user_row c.args.roles) c.args.n c.loop-i.invariant c.loop-i-test.false
+    users-all (user_row c.args.roles) c.args.n c.loop-i.invariant (omega arith)

@@ -1,6 +1,5 @@
 -- `tables::twins::apart`: each word passed is new, and its slot is taken.
 -- Assumes nothing.
-use Prim.Native.Nat.{◌-◌}
 use lib.ListN.{length}
 use Rattle.tables.specs.Code.Reads.{new_at, SlotsTaken}
 use Rattle.tables.proofs.AllLaws.{Passed}
@@ -8,6 +7,3 @@ use Rattle.tables.proofs.twins.apart.Given as goal
 
 abbrev pub invariant-loop-i : goal.invariant-loop-i
 invariant-loop-i l = Passed (length l.words) (new_at l.words) l.i × SlotsTaken l.words l.i l.taken
-
-abbrev pub decreases-loop-i : goal.decreases-loop-i
-decreases-loop-i l = length l.words - l.i
