@@ -1,15 +1,16 @@
 -- What the chains and the loops over an order say: by the definitions' own recursion, or turn by turn.
 -- Assumes nothing.
 use mathlib.Core.Path.{◌≡◌, refl, sym, ap, ◌∙◌}
-use mathlib.Core.Bool.{Bool, true, false, cond, not, ◌&&◌, and-true}
+use mathlib.Core.Bool.{Bool, true, false, cond, not, ◌&&◌, and-true, and_assoc}
 use mathlib.Core.List.{List, [], ◌∷◌, ◌++◌}
 use Prim.Native.Nat.{zero, ℕ, suc, ◌+◌, ◌-◌, ◌<◌, ◌≤◌}
-use lib.ListN.{take, set, length, get_or, drop, drop_of_length-le, length-drop}
+use lib.ListN.{take, set, length, get_or, drop, drop_of_length-le}
 use native.Mathlib.Nat.{add-zero}
 use native.Mathlib.Numerals.{add-one}
 use native.Mathlib.Omega.{arith}
-use lib.Seq.{take-length, take-suc, take-suc-set}
+use lib.Seq.{take-suc, take-suc-set}
 use lib.Dec.{eqb, ltb}
+use Rattle.std.proofs.lemmas.List.{take_rest}
 use Rattle.std.specs.List.{filter, list_all, range_with_len}
 use Rattle.words.specs.Words.{gate, has}
 use Rattle.walks.specs.Order.{variable_of, variables_of, is_small, count, is_once, is_free, is_after, named_by}
@@ -35,10 +36,6 @@ count-filter u (v ∷ s) = go (eqb u v) (count-filter u s)
     go true ih = omega arith
     go false ih = omega arith
 
-and-assoc : (a b c : Bool) → (a && (b && c)) ≡ ((a && b) && c)
-and-assoc true b c = refl
-and-assoc false b c = refl
-
 -- from the number a on
 once-from : (s : List ℕ) (a n : ℕ) → (is_once a s && list_all (λ k. eqb (count k s) 1) (range_with_len a n)) ≡ is_once (a + n) s
 unfolding is_once
@@ -47,14 +44,11 @@ once-from s a (suc n) =
     let rest : Bool = list_all (λ k. eqb (count k s) 1) (range_with_len (a + 1) n) in
     let up : suc a ≡ a + 1 = omega arith in
     let end : a + 1 + n ≡ a + suc n = omega arith in
-    and-assoc (is_once a s) (eqb (count a s) 1) rest ∙ ap (λ (k : ℕ). is_once k s && rest) up ∙ once-from s (a + 1) n ∙ ap (λ (k : ℕ). is_once k s) end
+    sym (and_assoc (is_once a s) (eqb (count a s) 1) rest) ∙ ap (λ (k : ℕ). is_once k s && rest) up ∙ once-from s (a + 1) n ∙ ap (λ (k : ℕ). is_once k s) end
 
 pub all-once : (s : List ℕ) (n : ℕ) → list_all (λ k. eqb (count k s) 1) (range_with_len 0 n) ≡ is_once n s
 unfolding is_once
 all-once s n = let end : 0 + n ≡ n = omega arith in once-from s 0 n ∙ ap (λ (k : ℕ). is_once k s) end
-
-rest-lent : (s : List ℕ) (i : ℕ) → take (length s - i) (drop i s) ≡ drop i s
-rest-lent s i = rw (← length-drop i s) (take-length (drop i s))
 
 -- a turn at i, where the list from i on is lent
 module _ (s : List ℕ) (i : ℕ) (names : ℕ → ℕ → Bool) where
@@ -67,7 +61,7 @@ module _ (s : List ℕ) (i : ℕ) (names : ℕ → ℕ → Bool) where
 
   after_is : i < length s → (is_free names (get_or s i 0) lent && is_after names (drop (i + 1) s)) ≡ is_after names (drop i s)
   unfolding is_after
-  after_is h = rw (rest-lent s i, at s i h)
+  after_is h = rw (take_rest s i, at s i h)
 
   pub after_stop : i < length s → is_free names (get_or s i 0) lent ≡ false → false ≡ is_after names (drop i s)
   after_stop h e = sym (ap (λ (t : Bool). t && is_after names (drop (i + 1) s)) e) ∙ after_is h
