@@ -108,8 +108,7 @@ pub fn holds_among(plan: &[u64], cache: &[u64], level: usize, from: usize, to: u
     requires { Runs plan.now × (length cache.now ≡ plan_room) × (from ≤ to) × (to ≤ get_or plan.now clauses_at 0) }
     ensures { HoldsAmong plan.now cache.now level from to result }
 {
-    let mut i = from;
-    while i < to {
+    for i in from..to {
         if plan[LEVELS + i] as usize == level {
             let word = plan[CLAUSES + i];
             let first = (word % NODE_ROOM) as u32;
@@ -118,7 +117,6 @@ pub fn holds_among(plan: &[u64], cache: &[u64], level: usize, from: usize, to: u
                 return false;
             }
         }
-        i += 1;
     }
     true
 }
