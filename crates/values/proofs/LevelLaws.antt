@@ -2,21 +2,25 @@
 -- Assumes nothing.
 use mathlib.Core.Path.{◌≡◌, sym, ap, ◌∙◌}
 use mathlib.Core.Bool.{Bool, true}
-use mathlib.Core.List.{List}
 use mathlib.Core.Logic.{⊎_elim}
 use Prim.Native.Nat.{ℕ, ◌+◌, ◌-◌, ◌<◌, ◌≤◌}
 use native.Mathlib.Nat.{eq-or-lt_of_le}
 use native.Mathlib.Omega.{arith}
 use lib.ListN.{length, get_or}
-use Rattle.words.specs.Words.{has}
+use Rattle.std.proofs.Common.{Iter, List, [], ◌∷◌, reverse}
+use Rattle.std.proofs.lemmas.List.{length-reverse, reverse-append}
+use Rattle.std.proofs.lemmas.Iterator.{YieldsList}
+use Rattle.std.proofs.lemmas.Iterator.Consumers.{YieldsList-from_shown}
+use Rattle.std.specs.Slice.Iter.{iter_rest, iter_steps_back}
 use Rattle.values.specs.Sets.{names_in}
 use Rattle.values.specs.Code.Levels.{Level, Levels}
 use Rattle.values.specs.Code.Cache.{Stored}
 use Rattle.values.proofs.ReadsLaws.{value-reads}
 
--- The word has no variable of the order from i on.
-abbrev pub Beyond : List ℕ → ℕ → ℕ → Type 0
-Beyond order word i = (j : ℕ) → i ≤ j → j < length order → has word (get_or order j 0) ≡ true → ⊥
+-- What a slice gives from its end.
+pub from-the-back : {s : Iter ℕ} (order : List ℕ) → iter_rest s ≡ order → YieldsList iter_steps_back (λ y. y.now) s (reverse order)
+from-the-back {s} order e = rw (← e) (YieldsList-from_shown iter_steps_back (λ y. y.now) (λ u. reverse (iter_rest u)) (λ u t p. length-reverse _ ∙ p.0)
+    (λ u x t p. ap reverse p ∙ reverse-append (iter_rest t) (x.now ∷ [])) s)
 
 -- What names no more has no higher level.
 pub level-below : (order : List ℕ) (p q : ℕ → Bool) (r s : ℕ) → Level order p r → Level order q s → ((u : ℕ) → p u ≡ true → q u ≡ true) → r ≤ s

@@ -16,12 +16,10 @@ pub fn level(word: u64, order: &[u8]) -> u8
     requires { (length order.now ≤ choices_limit) × ((i : ℕ) → i < length order.now → get_or order.now i 0 < 64) }
     ensures { Level order.now (has word) result }
 {
-    for i in (0..order.len()).rev() {
-        if words::contains(word, order[i] as usize) {
-            return i as u8 + 1;
-        }
-    }
-    0
+    order
+        .iter()
+        .rposition(|v| words::contains(word, *v as usize))
+        .map_or(0, |i| i as u8 + 1)
 }
 
 // For each node the level of what its term names.
@@ -30,8 +28,8 @@ pub fn levels(names: &[u64], n: usize, order: &[u8]) -> [u8; RULE_LIMIT]
     ensures { (ns vs : List ℕ) → NamesTo ns n vs names.now n → Levels ns n vs order.now result }
 {
     let mut found = [0u8; RULE_LIMIT];
-    for k in 0..n {
-        found[k] = level(names[k], order);
+    for (k, word) in names[..n].iter().enumerate() {
+        found[k] = level(*word, order);
     }
     found
 }

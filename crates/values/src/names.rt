@@ -48,8 +48,7 @@ pub fn terms(nodes: &[u32], n: usize, vars: &[u32], found: &mut [u64])
     ensures { NamesTo nodes.now n vars.now found.new n }
 {
     for k in 0..n {
-        let word = named(nodes, n, vars, &found[..], k);
-        found[k] = word;
+        found[k] = named(nodes, n, vars, found, k);
     }
 }
 

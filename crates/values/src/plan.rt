@@ -97,8 +97,7 @@ pub fn settle(t: &[u64], plan: &[u64], choice: u64, cache: &mut [u64], level: us
     let mut k = plan[STARTS + level] as usize;
     while k < n {
         let word = plan[k];
-        let value = step(t, word, choice, &cache[..]);
-        cache[k] = value;
+        cache[k] = step(t, word, choice, cache);
         k = (word / NEXT_UNIT) as usize;
     }
 }
