@@ -18,7 +18,7 @@ pub fn level(word: u64, order: &[u8]) -> u8
 {
     order
         .iter()
-        .rposition(|v| words::contains(word, *v as usize))
+        .rposition(|&v| words::contains(word, v as usize))
         .map_or(0, |i| i as u8 + 1)
 }
 
@@ -28,8 +28,8 @@ pub fn levels(names: &[u64], n: usize, order: &[u8]) -> [u8; RULE_LIMIT]
     ensures { (ns vs : List ℕ) → NamesTo ns n vs names.now n → Levels ns n vs order.now result }
 {
     let mut found = [0u8; RULE_LIMIT];
-    for (k, word) in names[..n].iter().enumerate() {
-        found[k] = level(*word, order);
+    for (k, &word) in names[..n].iter().enumerate() {
+        found[k] = level(word, order);
     }
     found
 }

@@ -58,8 +58,8 @@ pub fn sets(found: &[u64], vars: &[u32]) -> [u64; CHOICES_LIMIT]
     ensures { SetsNamed found.now vars.now result }
 {
     let mut words = [0u64; CHOICES_LIMIT];
-    for (v, node) in vars.iter().enumerate() {
-        words[v] = found[*node as usize];
+    for (v, &node) in vars.iter().enumerate() {
+        words[v] = found[node as usize];
     }
     words
 }

@@ -32,8 +32,8 @@ pub fn variables(order: &[u8]) -> [u8; 8]
     ensures { take (length order.now) result ≡ variables_of order.now }
 {
     let mut vs = [255u8; 8];
-    for (i, b) in order.iter().enumerate() {
-        vs[i] = variable_of(*b);
+    for (i, &b) in order.iter().enumerate() {
+        vs[i] = variable_of(b);
     }
     vs
 }
@@ -42,14 +42,14 @@ pub fn variables(order: &[u8]) -> [u8; 8]
 fn small(order: &[u8], n: usize) -> bool
     ensures { result ≡ is_small n order.now }
 {
-    order.iter().all(|v| (*v as usize) < n)
+    order.iter().all(|&v| (v as usize) < n)
 }
 
 // How often u stands in the order.
 fn times(order: &[u8], u: usize) -> usize
     ensures { result ≡ count u order.now }
 {
-    order.iter().filter(|v| u == **v as usize).count()
+    order.iter().filter(|&&v| u == v as usize).count()
 }
 
 // Each variable below n stands in the order once.
@@ -65,7 +65,7 @@ fn free(names: &[u64], v: usize, later: &[u8]) -> bool
     ensures { result ≡ is_free (named_by names.now) v later.now }
 {
     let word = names[v];
-    later.iter().all(|w| !words::contains(word, *w as usize))
+    later.iter().all(|&w| !words::contains(word, w as usize))
 }
 
 // Every variable of the order comes after those its set names.
@@ -73,8 +73,8 @@ fn after(names: &[u64], order: &[u8]) -> bool
     requires { (length names.now ≡ 8) × ((k : ℕ) → get_or order.now k 0 < 8) }
     ensures { result ≡ is_after (named_by names.now) order.now }
 {
-    for (i, v) in order.iter().enumerate() {
-        if !free(names, *v as usize, &order[i..]) {
+    for (i, &v) in order.iter().enumerate() {
+        if !free(names, v as usize, &order[i..]) {
             return false;
         }
     }
