@@ -45,11 +45,6 @@ unfolding skip
 only-got true s = refl
 only-got false s = refl
 
--- The digit of a variable is no `v`.
-writes-digit : (u m : ℕ) (r : Bytes) → m < choices_limit → writes u ((49 + m) ∷ r) ≡ writes u r
-unfolding writes begins skip
-writes-digit u m r h = rw (ne_eqb 118 (49 + m) (omega arith))
-
 writes-variable : (u m : ℕ) (r : Bytes) → m < choices_limit → writes u (118 ∷ (49 + m) ∷ r) ≡ (eqb m u || writes u r)
 unfolding writes begins skip
 writes-variable u m r h = rw (only-got (eqb (49 + u) (49 + m)) r, same-digit u m, ne_eqb 118 (49 + m) (omega arith))

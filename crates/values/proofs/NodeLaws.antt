@@ -160,8 +160,5 @@ module _ {ns : List ℕ} {n : ℕ} (d : Tidy ns n) {k : ℕ} (h : k < n) where
   pub left_in : first_call ≤ op_at ns k → left_at ns k < n
   left_in l = omega (arith, left_below d h refl refl l)
 
-  pub right-in : first_pair ≤ op_at ns k → op_at ns k < first_empty → right_at ns k < n
-  right-in l m = omega (arith, right-below d h l m)
-
   pub right-in₂ : first_counted ≤ op_at ns k → right_at ns k < n
   right-in₂ l = omega (arith, right-below₂ d h l)

@@ -16,6 +16,7 @@ use syntax::nodes::{
     DONE, MEET, OPERATIONS, PERMISSIONS, PERMISSIONS_STAR, ROLES, ROLES_STAR, SESSIONS, USER,
 };
 
+#[tactic(auto, unfolding(crate::specs::Values::call_value, crate::specs::Code::Nodes::sort_at))]
 fn user(t: &[u64], kind: u8, w: u64) -> u64
     requires { Whole t.now }
     ensures { (T : Tables) → Fits T → t.now ≡ flat T → kind < kinds_fit → result ≡ call_value T user (kind_of kind) w }
@@ -27,6 +28,7 @@ fn user(t: &[u64], kind: u8, w: u64) -> u64
     }
 }
 
+#[tactic(auto, unfolding(crate::specs::Values::call_value, crate::specs::Code::Nodes::sort_at))]
 fn roles(t: &[u64], kind: u8, w: u64) -> u64
     requires { Whole t.now }
     ensures { (T : Tables) → Fits T → t.now ≡ flat T → kind < kinds_fit → result ≡ call_value T roles (kind_of kind) w }
@@ -41,6 +43,7 @@ fn roles(t: &[u64], kind: u8, w: u64) -> u64
 }
 
 // `roles*`
+#[tactic(auto, unfolding(crate::specs::Values::call_value, crate::specs::Code::Nodes::sort_at))]
 fn ranked(t: &[u64], kind: u8, w: u64) -> u64
     requires { Whole t.now }
     ensures { (T : Tables) → Fits T → t.now ≡ flat T → kind < kinds_fit → result ≡ call_value T roles* (kind_of kind) w }
@@ -55,6 +58,7 @@ fn ranked(t: &[u64], kind: u8, w: u64) -> u64
 }
 
 // The function with the number op of a value of that kind.
+#[tactic(auto, unfolding(crate::specs::Code::Nodes::fn_at, crate::specs::Values::call_value))]
 pub fn call(t: &[u64], op: u32, kind: u8, w: u64) -> u64
     requires { (Whole t.now) × (first_call ≤ op) × (op < oe_op) }
     ensures { (T : Tables) → Fits T → t.now ≡ flat T → kind < kinds_fit → result ≡ call_value T (fn_at op) (kind_of kind) w }
@@ -81,6 +85,7 @@ pub fn call(t: &[u64], op: u32, kind: u8, w: u64) -> u64
 }
 
 // A call of two terms, `&` and `+`, of two values.
+#[tactic(auto, unfolding(crate::specs::Code::Nodes::pair_at, crate::specs::Values::two_value, crate::specs::Values::call2_value, crate::specs::Values::op_value))]
 pub fn two(t: &[u64], op: u32, v: u64, w: u64) -> u64
     requires { (Whole t.now) × (first_pair ≤ op) × (op < member_op) }
     ensures { (T : Tables) → Fits T → t.now ≡ flat T → result ≡ two_value T (pair_at op) v w }

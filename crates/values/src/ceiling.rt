@@ -34,10 +34,8 @@ pub fn ceiling(t: &[u64], kinds: &[u8], vars: &[u32]) -> u64
     ensures { CeilingBy t.now kinds.now vars.now result }
 {
     let mut found = 1;
-    let mut i = 0;
-    while i < vars.len() {
-        found = found * (count(t, kind_at(kinds, vars[i] as usize)) as u64);
-        i += 1;
+    for &node in vars {
+        found *= count(t, kind_at(kinds, node as usize)) as u64;
     }
     found
 }

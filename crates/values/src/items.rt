@@ -56,10 +56,7 @@ pub fn one(t: &[u64], kind: u8, x: usize) -> u64
     if kind < FIRST_COLLECTION {
         return words::item(x);
     }
-    if NO_KIND <= kind {
-        return 0;
-    }
-    if layout::ROOM <= x {
+    if NO_KIND <= kind || layout::ROOM <= x {
         return 0;
     }
     let k = (kind - FIRST_COLLECTION) as usize;
@@ -72,14 +69,11 @@ pub fn is_sort(kind: u8, sort: u8) -> bool
     requires { sort < first_set }
     ensures { kind < kinds_fit → result ≡ of_sort (sort_at sort) (kind_of kind) }
 {
-    if kind < FIRST_COLLECTION {
-        kind % FIRST_SET == sort
-    } else {
-        false
-    }
+    kind < FIRST_COLLECTION && kind % FIRST_SET == sort
 }
 
 // `<` `<=` `>` `>=` `=` `!=` by number.
+#[tactic(auto, unfolding(crate::specs::Truth::compared, crate::specs::Code::Nodes::cmp_at))]
 pub fn compare(d: usize, a: usize, b: usize) -> bool
     requires { d < 6 }
     ensures { result ≡ compared (cmp_at d) a b }

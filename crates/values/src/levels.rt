@@ -16,15 +16,10 @@ pub fn level(word: u64, order: &[u8]) -> u8
     requires { (length order.now ≤ choices_limit) × ((i : ℕ) → i < length order.now → get_or order.now i 0 < 64) }
     ensures { Level order.now (has word) result }
 {
-    let mut i = order.len();
-    while 0 < i {
-        let v = order[i - 1] as usize;
-        if words::contains(word, v) {
-            return i as u8;
-        }
-        i -= 1;
-    }
-    0
+    order
+        .iter()
+        .rposition(|&v| words::contains(word, v as usize))
+        .map_or(0, |i| i as u8 + 1)
 }
 
 // For each node the level of what its term names.
@@ -33,10 +28,8 @@ pub fn levels(names: &[u64], n: usize, order: &[u8]) -> [u8; RULE_LIMIT]
     ensures { (ns vs : List ℕ) → NamesTo ns n vs names.now n → Levels ns n vs order.now result }
 {
     let mut found = [0u8; RULE_LIMIT];
-    let mut k = 0;
-    while k < n {
-        found[k] = level(names[k], order);
-        k += 1;
+    for (k, &word) in names[..n].iter().enumerate() {
+        found[k] = level(word, order);
     }
     found
 }
@@ -48,9 +41,7 @@ pub fn chain(levels: &[u8], n: usize, next: &mut [u32]) -> [u32; LEVELS]
 {
     let end = n as u32;
     let mut first = [end; LEVELS];
-    let mut k = n;
-    while 0 < k {
-        k -= 1;
+    for k in (0..n).rev() {
         let d = levels[k] as usize;
         next[k] = first[d];
         first[d] = k as u32;

@@ -25,10 +25,7 @@ fn named(nodes: &[u32], n: usize, vars: &[u32], found: &[u64], k: usize) -> u64
 {
     let node = nodes[k];
     let op = operation(node);
-    if op < FIRST_CALL {
-        return 0;
-    }
-    if MEMBER <= op {
+    if op < FIRST_CALL || MEMBER <= op {
         return 0;
     }
     let below = left(node);
@@ -50,11 +47,8 @@ pub fn terms(nodes: &[u32], n: usize, vars: &[u32], found: &mut [u64])
     requires { Tidy nodes.now n × (n ≤ rule_limit) × (n ≤ length found.old) }
     ensures { NamesTo nodes.now n vars.now found.new n }
 {
-    let mut k = 0;
-    while k < n {
-        let word = named(nodes, n, vars, &found[..], k);
-        found[k] = word;
-        k += 1;
+    for k in 0..n {
+        found[k] = named(nodes, n, vars, found, k);
     }
 }
 
@@ -64,10 +58,8 @@ pub fn sets(found: &[u64], vars: &[u32]) -> [u64; CHOICES_LIMIT]
     ensures { SetsNamed found.now vars.now result }
 {
     let mut words = [0u64; CHOICES_LIMIT];
-    let mut v = 0;
-    while v < vars.len() {
-        words[v] = found[vars[v] as usize];
-        v += 1;
+    for (v, &node) in vars.iter().enumerate() {
+        words[v] = found[node as usize];
     }
     words
 }

@@ -97,8 +97,7 @@ pub fn settle(t: &[u64], plan: &[u64], choice: u64, cache: &mut [u64], level: us
     let mut k = plan[STARTS + level] as usize;
     while k < n {
         let word = plan[k];
-        let value = step(t, word, choice, &cache[..]);
-        cache[k] = value;
+        cache[k] = step(t, word, choice, cache);
         k = (word / NEXT_UNIT) as usize;
     }
 }
@@ -108,8 +107,7 @@ pub fn holds_among(plan: &[u64], cache: &[u64], level: usize, from: usize, to: u
     requires { Runs plan.now × (length cache.now ≡ plan_room) × (from ≤ to) × (to ≤ get_or plan.now clauses_at 0) }
     ensures { HoldsAmong plan.now cache.now level from to result }
 {
-    let mut i = from;
-    while i < to {
+    for i in from..to {
         if plan[LEVELS + i] as usize == level {
             let word = plan[CLAUSES + i];
             let first = (word % NODE_ROOM) as u32;
@@ -118,7 +116,6 @@ pub fn holds_among(plan: &[u64], cache: &[u64], level: usize, from: usize, to: u
                 return false;
             }
         }
-        i += 1;
     }
     true
 }

@@ -17,10 +17,8 @@ fn test(names: &[u64], node: u32) -> u64
         return 0;
     }
     let a = names[nodes::left(node) as usize];
-    if IS_EMPTY <= op {
-        if op < FIRST_COUNTED {
-            return a;
-        }
+    if IS_EMPTY <= op && op < FIRST_COUNTED {
+        return a;
     }
     words::join(a, names[nodes::right(node) as usize])
 }

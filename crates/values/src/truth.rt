@@ -10,6 +10,7 @@ use syntax::nodes;
 use syntax::nodes::{FIRST_COUNTED, FIRST_NUMBERED, IS, IS_EMPTY, MEMBER, WHEN};
 
 // `@`, `=` and `!=` of two values. An element is in a set where they have an item in common.
+#[tactic(auto, unfolding(crate::specs::Code::Nodes::related_at))]
 fn related(op: u32, a: u64, b: u64) -> bool
     ensures { result ≡ related_at op a b }
 {
@@ -23,6 +24,7 @@ fn related(op: u32, a: u64, b: u64) -> bool
 }
 
 // `={}` and `!={}`.
+#[tactic(auto, unfolding(crate::specs::Code::Nodes::empty_at))]
 fn empty(op: u32, a: u64) -> bool
     ensures { result ≡ empty_at op a }
 {
@@ -34,10 +36,7 @@ fn test(node: u32, cache: &[u64]) -> bool
     ensures { TestOf node cache.now result }
 {
     let op = nodes::operation(node);
-    if op < MEMBER {
-        return false;
-    }
-    if WHEN <= op {
+    if op < MEMBER || WHEN <= op {
         return false;
     }
     let left = nodes::left(node) as usize;
@@ -66,10 +65,7 @@ pub fn clause(first: u32, second: u32, cache: &[u64]) -> bool
     if second == 0 {
         return test(first, cache);
     }
-    if test(first, cache) {
-        return test(second, cache);
-    }
-    true
+    !test(first, cache) || test(second, cache)
 }
 
 // The nodes of a clause's tests, the second 0 where there is one test.

@@ -1,16 +1,19 @@
 -- A choice in one word of 8 bytes: an item is put, and two words that are equal under a context's mask are choices alike.
 -- Assumes nothing.
 use mathlib.Core.Path.{◌≡◌, refl, sym, ap, ap₂, ◌∙◌}
+use mathlib.Core.List.{List, ◌∷◌}
 use mathlib.Core.Bool.{Bool, true, false, not, ◌&&◌, ◌||◌, true≢false, and-true, or-false}
 use Prim.Native.Nat.{ℕ, zero, suc, ◌+◌, ◌*◌, ◌-◌, ◌/◌, ◌%◌, ◌^◌, ◌<◌, ◌≤◌}
 use native.Mathlib.Decide.{ℕ_discrete, dec_lt}
-use native.Mathlib.Nat.{mod-lt, add-zero}
+use native.Mathlib.Nat.{mod-lt, add-zero, div-one, div-div-eq-div-mul}
+use native.Mathlib.Numerals.{unary_clauses}
 use native.Mathlib.Omega.{arith}
 use lib.Dec.{eqb, lit<}
 use lib.ListN.{length, get_or, set, length-set, get_or-eq_default}
 use lib.Pow.{pow_pos, shr-shr, shl-shr, shl_exact, low}
 use lib.Seq.{get_or-set_same, get_or-set_other, ext_get_or}
 use borrow.Author.Tests.{eq-eqb, ne_eqb, lt-ltb}
+use Rattle.std.specs.Int.{bytes_low_first, to_le_bytes, w64, byte_at as byte_at_place}
 use Rattle.words.specs.Words.{has, all_of, meet_of, join_of, less_of}
 use Rattle.words.proofs.WordsLaws.{has-mod, has-out, has-zero, same_bits, has_meet, has_join, has-less, has_all, all_ones}
 use Rattle.walks.specs.Choices.{nothing_chosen}
@@ -26,6 +29,22 @@ bytes-length (suc n) w = ap suc (bytes-length n (w / 256))
 pub nothing-word : choice_of 18446744073709551615 ≡ nothing_chosen
 unfolding bytes_from
 nothing-word = refl
+
+-- the bytes of a word, as std has them
+low-first : (i n w : ℕ) → bytes_low_first i n w ≡ bytes_from n (w / 256 ^ i)
+unfolding bytes_from
+low-first i zero w = refl
+low-first i (suc n) w = ap₂ (λ (b : ℕ) (bs : List ℕ). b ∷ bs) (first i) (low-first (suc i) n w ∙ ap (bytes_from n) next)
+  where
+    first : (i : ℕ) → byte_at_place i w ≡ w / 256 ^ i % 256
+    first zero = ap (λ (t : ℕ). t % 256) (sym (div-one w))
+    first (suc i) = refl
+
+    next : w / 256 ^ suc i ≡ w / 256 ^ i / 256
+    next = simp unary_clauses (sym (div-div-eq-div-mul w (256 ^ i) 256))
+
+pub le-bytes : (w : ℕ) → to_le_bytes w64 w ≡ choice_of w
+le-bytes w = low-first 0 8 w ∙ ap choice_of (div-one w)
 
 -- ---- the bits of a byte
 
@@ -68,10 +87,6 @@ alike-key word mask m w u h = go (dec_lt u 8)
         let la : length (choice_of (meet_of w mask)) ≤ u = omega (arith, bytes-length 8 (meet_of w mask)) in
         let lb : length (choice_of w) ≤ u = omega (arith, bytes-length 8 w) in
         get_or-eq_default (choice_of (meet_of w mask)) 0 la ∙ sym (get_or-eq_default (choice_of w) 0 lb)
-
--- so two words that are equal under the mask are choices alike
-pub alike_masked : (word mask : ℕ) → Masks word mask → (a b : ℕ) → meet_of a mask ≡ meet_of b mask → Alike word (choice_of a) (choice_of b)
-alike_masked word mask m a b e u h = sym (alike-key word mask m a u h) ∙ ap (λ (t : ℕ). get_or (choice_of t) u 0) e ∙ alike-key word mask m b u h
 
 -- ---- an item is put
 
@@ -141,9 +156,6 @@ module _ (w v x : ℕ) (lv : v < 8) (lx : x < 256) where
           ∙ sym (get_or-set_other (choice_of w) v u x 0 ne)
 
 -- ---- a mask is joined byte by byte
-
-pub masks-start : (word : ℕ) → MasksTo 0 word 0
-masks-start word u i l k h = absurd (omega arith)
 
 pub masks-in : (n word mask : ℕ) → n < 8 → MasksTo n word mask → MasksTo (n + 1) word (join_of mask (255 * 2 ^ (8 * n)))
 masks-in n word mask ln m u i l k h =

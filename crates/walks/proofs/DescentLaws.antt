@@ -77,9 +77,6 @@ module _ (s : Sets) (b : List ℕ → Bool) where
 
 module _ (s : Sets) (names : ℕ → ℕ → Bool) (law : Reads s names) (b : List ℕ → Bool) (n : ℕ) (order : List ℕ) (once : Once n order) (after : After names order) where
   module _ (base : List ℕ) where
-    pub descending-start : 0 < walk 64 s (if_breaks b) order base → Descending s b order base 0 base
-    descending-start l = record { first = refl; some = l }
-
     -- THE LAW of descent: below, the others may be counted along any admissible order that begins as the caller's does.
     pub descending-step : (own : List ℕ) → Once n own → After names own → (d : ℕ) → d < length order → take (d + 1) own ≡ take (d + 1) order
         → (w : ℕ) (c : List ℕ) → ((x : ℕ) → s (get_or order d 0) c x ≡ has w x) → (x : ℕ) → Least w (below_at s (if_breaks b) own d c) x

@@ -50,15 +50,6 @@ module _ (kept : List ℕ) (k full breaking choice : ℕ) (fits : 3 * k + 2 < le
       ∙ get_or-set_other one (3 * k + 1) (3 * j + i) breaking 0 (λ e. ne (omega arith))
       ∙ get_or-set_other kept (3 * k) (3 * j + i) (full + 1) 0 (λ e. ne (omega arith))
 
--- one number more is what it should be: that of another list, or of a slot which was not written
-pub put_next : (found : List ℕ) (is : ℕ → ℕ) (i : ℕ) → i < length found → ((j : ℕ) → j < i → get_or found j 0 ≡ is j) → (x : ℕ) → x ≡ is i
-    → (j : ℕ) → j < i + 1 → get_or (set found i x) j 0 ≡ is j
-put_next found is i l h x e j m = go (ℕ_discrete j i)
-  where
-    go : Dec (j ≡ i) → get_or (set found i x) j 0 ≡ is j
-    go (yes q) = rw q (get_or-set_same found i x 0 l ∙ e)
-    go (no ne) = get_or-set_other found i j x 0 ne ∙ h j (omega arith)
-
 module _ (s : Sets) (K : Clauses) (levels order contexts : List ℕ) where
   -- nothing was written
   pub kept-none : (kept : List ℕ) → Unwritten (length kept) kept → KeptRight s K levels order contexts kept

@@ -1,94 +1,73 @@
--- What a turn of each loop over an order does: the answer from i on, by the answer from i + 1 on.
+-- What the chains and the loops over an order say: by the definitions' own recursion, or turn by turn.
 -- Assumes nothing.
 use mathlib.Core.Path.{◌≡◌, refl, sym, ap, ◌∙◌}
-use mathlib.Core.Bool.{Bool, true, false, ◌&&◌, and-true, and-false}
+use mathlib.Core.Bool.{Bool, true, false, cond, not, ◌&&◌, and-true, and_assoc}
 use mathlib.Core.List.{List, [], ◌∷◌, ◌++◌}
-use Prim.Native.Nat.{zero, ◌-◌, ℕ, suc, ◌+◌, ◌<◌, ◌≤◌}
+use Prim.Native.Nat.{zero, ℕ, suc, ◌+◌, ◌-◌, ◌<◌, ◌≤◌}
 use lib.ListN.{take, set, length, get_or, drop, drop_of_length-le}
+use native.Mathlib.Nat.{add-zero}
 use native.Mathlib.Numerals.{add-one}
 use native.Mathlib.Omega.{arith}
 use lib.Seq.{take-suc, take-suc-set}
-use lib.Dec.{eqb}
-use borrow.Author.Tests.{eq-eqb, ne_eqb, lt-ltb, le-ltb}
-use Rattle.words.specs.Words.{gate}
-use Rattle.walks.specs.Order.{variable_of, variables_of, is_small, count, is_once, is_free, is_after}
+use lib.Dec.{eqb, ltb}
+use Rattle.std.proofs.lemmas.List.{take_rest}
+use Rattle.std.specs.List.{filter, list_all, range_with_len}
+use Rattle.words.specs.Words.{gate, has}
+use Rattle.walks.specs.Order.{variable_of, variables_of, is_small, count, is_once, is_free, is_after, named_by}
 use Rattle.walks.proofs.OrderLaws.{at}
 
-module _ (s : List ℕ) (i : ℕ) where
-  module _ (names : ℕ → ℕ → Bool) (v : ℕ) where
-    pub free-end : length s ≤ i → is_free names v (drop i s) ≡ true
-    unfolding is_free
-    free-end h = rw (drop_of_length-le s h)
+-- what `all` and a filter say of a list is what the definitions say
+pub all-small : (n : ℕ) (s : List ℕ) → list_all (λ v. ltb v n) s ≡ is_small n s
+unfolding is_small
+all-small n [] = refl
+all-small n (v ∷ s) = ap (λ (b : Bool). ltb v n && b) (all-small n s)
 
-    pub free-stop : i < length s → names v (get_or s i 0) ≡ true → is_free names v (drop i s) ≡ false
-    unfolding is_free
-    free-stop h e = rw (at s i h, e)
+pub all-free : (words : List ℕ) (v : ℕ) (s : List ℕ) → list_all (λ w. not (has (get_or words v 0) w)) s ≡ is_free (named_by words) v s
+unfolding is_free
+all-free words v [] = refl
+all-free words v (w ∷ s) = ap (λ (b : Bool). not (has (get_or words v 0) w) && b) (all-free words v s)
 
-    pub free-go : i < length s → names v (get_or s i 0) ≡ false → is_free names v (drop (i + 1) s) ≡ is_free names v (drop i s)
-    unfolding is_free
-    free-go h e = rw (at s i h, e)
+pub count-filter : (u : ℕ) (s : List ℕ) → length (filter (λ v. eqb u v) s) ≡ count u s
+unfolding count
+count-filter u [] = refl
+count-filter u (v ∷ s) = go (eqb u v) (count-filter u s)
+  where
+    go : (b : Bool) → length (filter (λ w. eqb u w) s) ≡ count u s → length (cond b (v ∷ filter (λ w. eqb u w) s) (filter (λ w. eqb u w) s)) ≡ gate b 1 + count u s
+    go true ih = omega arith
+    go false ih = omega arith
 
-  module _ (names : ℕ → ℕ → Bool) where
-    pub after-end : length s ≤ i → is_after names (drop i s) ≡ true
-    unfolding is_after
-    after-end h = rw (drop_of_length-le s h)
-
-    after_is : i < length s → is_after names (drop i s) ≡ (is_free names (get_or s i 0) (drop i s) && is_after names (drop (i + 1) s))
-    unfolding is_after
-    after_is h = rw (at s i h)
-
-    pub after_stop : i < length s → is_free names (get_or s i 0) (drop i s) ≡ false → is_after names (drop i s) ≡ false
-    after_stop h e = after_is h ∙ ap (λ (t : Bool). t && is_after names (drop (i + 1) s)) e
-
-    pub after-go : i < length s → is_free names (get_or s i 0) (drop i s) ≡ true → is_after names (drop (i + 1) s) ≡ is_after names (drop i s)
-    after-go h e = sym (after_is h ∙ ap (λ (t : Bool). t && is_after names (drop (i + 1) s)) e)
-
-  module _ (n : ℕ) where
-    pub small-end : length s ≤ i → is_small n (drop i s) ≡ true
-    unfolding is_small
-    small-end h = rw (drop_of_length-le s h)
-
-    pub small-stop : i < length s → n ≤ get_or s i 0 → is_small n (drop i s) ≡ false
-    unfolding is_small
-    small-stop h e = rw (at s i h, le-ltb (get_or s i 0) n e)
-
-    pub small-go : i < length s → get_or s i 0 < n → is_small n (drop (i + 1) s) ≡ is_small n (drop i s)
-    unfolding is_small
-    small-go h e = rw (at s i h, lt-ltb (get_or s i 0) n e)
-
-  module _ (u : ℕ) where
-    pub count-end : length s ≤ i → count u (drop i s) ≡ 0
-    unfolding count
-    count-end h = rw (drop_of_length-le s h)
-
-    count-is : i < length s → count u (drop i s) ≡ gate (eqb u (get_or s i 0)) 1 + count u (drop (i + 1) s)
-    unfolding count
-    count-is h = rw (at s i h)
-
-    pub count-hit : i < length s → u ≡ get_or s i 0 → count u (drop i s) ≡ 1 + count u (drop (i + 1) s)
-    count-hit h e = count-is h ∙ ap (λ (t : Bool). gate t 1 + count u (drop (i + 1) s)) (eq-eqb u (get_or s i 0) e)
-
-    pub count-miss : i < length s → (u ≡ get_or s i 0 → ⊥) → count u (drop i s) ≡ 0 + count u (drop (i + 1) s)
-    count-miss h e = count-is h ∙ ap (λ (t : Bool). gate t 1 + count u (drop (i + 1) s)) (ne_eqb u (get_or s i 0) e)
-
-pub once-stop : (s : List ℕ) (k : ℕ) → (count k s ≡ 1 → ⊥) → is_once (suc k) s ≡ false
+-- from the number a on
+once-from : (s : List ℕ) (a n : ℕ) → (is_once a s && list_all (λ k. eqb (count k s) 1) (range_with_len a n)) ≡ is_once (a + n) s
 unfolding is_once
-once-stop s k e = rw (ne_eqb (count k s) 1 e) (and-false (is_once k s))
+once-from s a zero = rw (add-zero a) (and-true (is_once a s))
+once-from s a (suc n) =
+    let rest : Bool = list_all (λ k. eqb (count k s) 1) (range_with_len (a + 1) n) in
+    let up : suc a ≡ a + 1 = omega arith in
+    let end : a + 1 + n ≡ a + suc n = omega arith in
+    sym (and_assoc (is_once a s) (eqb (count a s) 1) rest) ∙ ap (λ (k : ℕ). is_once k s && rest) up ∙ once-from s (a + 1) n ∙ ap (λ (k : ℕ). is_once k s) end
 
-pub once-go : (s : List ℕ) (k : ℕ) → count k s ≡ 1 → is_once k s ≡ is_once (suc k) s
+pub all-once : (s : List ℕ) (n : ℕ) → list_all (λ k. eqb (count k s) 1) (range_with_len 0 n) ≡ is_once n s
 unfolding is_once
-once-go s k e = rw (eq-eqb (count k s) 1 e) (sym (and-true (is_once k s)))
+all-once s n = let end : 0 + n ≡ n = omega arith in once-from s 0 n ∙ ap (λ (k : ℕ). is_once k s) end
 
-pub once-none : (s : List ℕ) → is_once 0 s ≡ true
-unfolding is_once
-once-none s = refl
+-- a turn at i, where the list from i on is lent
+module _ (s : List ℕ) (i : ℕ) (names : ℕ → ℕ → Bool) where
+  abbrev lent : List ℕ
+  lent = take (length s - i) (drop i s)
 
-pub number-none : (b : ℕ) → b ≡ 0 → 255 ≡ variable_of b
-number-none b e = rw e
+  pub after-end : length s ≤ i → is_after names (drop i s) ≡ true
+  unfolding is_after
+  after-end h = rw (drop_of_length-le s h)
 
-pub number-one : (b : ℕ) → (b ≡ 0 → ⊥) → b - 1 ≡ variable_of b
-number-one zero ne = absurd (ne refl)
-number-one (suc b) ne = omega arith
+  after_is : i < length s → (is_free names (get_or s i 0) lent && is_after names (drop (i + 1) s)) ≡ is_after names (drop i s)
+  unfolding is_after
+  after_is h = rw (take_rest s i, at s i h)
+
+  pub after_stop : i < length s → is_free names (get_or s i 0) lent ≡ false → false ≡ is_after names (drop i s)
+  after_stop h e = sym (ap (λ (t : Bool). t && is_after names (drop (i + 1) s)) e) ∙ after_is h
+
+  pub after-go : i < length s → is_free names (get_or s i 0) lent ≡ true → is_after names (drop (i + 1) s) ≡ is_after names (drop i s)
+  after-go h e = sym (ap (λ (t : Bool). t && is_after names (drop (i + 1) s)) e) ∙ after_is h
 
 variables-snoc : (s : List ℕ) (x : ℕ) → variables_of (s ++ (x ∷ [])) ≡ variables_of s ++ (variable_of x ∷ [])
 unfolding variables_of

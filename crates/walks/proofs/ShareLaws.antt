@@ -50,9 +50,6 @@ module _ (full breaking : ℕ) (pos : 0 < full) where
   below : rest < full
   below = mod-lt (100 * breaking) pos
 
-  pub whole-most : breaking ≤ full → whole ≤ 100
-  whole-most l = le_of_mul-le-mul_right (omega (arith, parts)) pos
-
   pub share-down : 2 * rest < full → IsShare full breaking whole
   share-down h = record {
     idle = λ e. omega (arith, pos);

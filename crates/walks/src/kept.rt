@@ -3,7 +3,7 @@ ghost use Rattle.std.specs.Prelude.{◌≡◌, ◌+◌, ◌-◌, ◌*◌, ◌^�
 ghost use Rattle.walks.specs.Code.Kept.{choice_of, Masks, Hit, Keeping, Unwritten};
 
 // The word of no choice: each byte is 255.
-pub const NOTHING: u64 = 18446744073709551615;
+pub const NOTHING: u64 = u64::MAX;
 
 // What is kept of a full count is one more than it, so that a slot of zeros is one that was not written.
 const UNWRITTEN: u64 = 0;
@@ -40,13 +40,7 @@ pub fn byte(choice: u64, v: usize) -> usize
 pub fn bytes(choice: u64) -> [u8; 8]
     ensures { result ≡ choice_of choice }
 {
-    let mut found = [0u8; BITS];
-    let mut v = 0;
-    while v < BITS {
-        found[v] = ((choice >> (BITS * v)) % (BYTE + 1)) as u8;
-        v += 1;
-    }
-    found
+    choice.to_le_bytes()
 }
 
 // The choice with x put at the variable v.
@@ -66,12 +60,10 @@ pub fn spread(word: u64) -> u64
         return 0;
     }
     let mut mask = 0;
-    let mut u = 0;
-    while u < 8 {
+    for u in 0..8 {
         if words::contains(word, u) {
             mask = words::join(mask, BYTE << (BITS * u));
         }
-        u += 1;
     }
     mask
 }
@@ -82,13 +74,7 @@ pub fn hit(kept: &[u64], slot: usize, key: u64) -> bool
     ensures { Hit kept.now slot key result }
 {
     let at = ENTRY * slot;
-    if kept.len() <= at + 2 {
-        return false;
-    }
-    if kept[at] == UNWRITTEN {
-        return false;
-    }
-    kept[at + 2] == key
+    at + 2 < kept.len() && kept[at] != UNWRITTEN && kept[at + 2] == key
 }
 
 // What the slot has, which was written.
@@ -120,9 +106,5 @@ pub fn keep(kept: &mut [u64], slot: usize, counts: Counts, key: u64)
 pub fn clear(kept: &mut [u64])
     ensures { (length kept.new ≡ length kept.old) × Unwritten (length kept.old) kept.new }
 {
-    let mut i = 0;
-    while i < kept.len() {
-        kept[i] = UNWRITTEN;
-        i += 1;
-    }
+    kept.fill(UNWRITTEN);
 }

@@ -2,7 +2,7 @@
 // Nothing here knows tables or rules: what a variable's set names is a word of variables.
 #![tactic(auto)]
 
-ghost use Rattle.std.specs.Prelude.{◌≡◌, true, ℕ, ◌<◌, ◌≤◌, ◌^◌, length, get_or, drop, take};
+ghost use Rattle.std.specs.Prelude.{◌≡◌, true, ℕ, ◌<◌, ◌≤◌, ◌^◌, length, get_or, take};
 ghost use Rattle.walks.specs.Order.{count, is_small, is_once, is_free, is_after, is_order, named_by, variable_of, variables_of};
 ghost use Rattle.walks.specs.Share.{IsShare};
 
@@ -32,10 +32,8 @@ pub fn variables(order: &[u8]) -> [u8; 8]
     ensures { take (length order.now) result ≡ variables_of order.now }
 {
     let mut vs = [255u8; 8];
-    let mut i = 0;
-    while i < order.len() {
-        vs[i] = variable_of(order[i]);
-        i += 1;
+    for (i, &b) in order.iter().enumerate() {
+        vs[i] = variable_of(b);
     }
     vs
 }
@@ -44,62 +42,30 @@ pub fn variables(order: &[u8]) -> [u8; 8]
 fn small(order: &[u8], n: usize) -> bool
     ensures { result ≡ is_small n order.now }
 {
-    let mut i = 0;
-    while i < order.len() {
-        let v = order[i] as usize;
-        if n <= v {
-            return false;
-        }
-        i += 1;
-    }
-    true
+    order.iter().all(|&v| (v as usize) < n)
 }
 
 // How often u stands in the order.
 fn times(order: &[u8], u: usize) -> usize
     ensures { result ≡ count u order.now }
 {
-    let mut found = 0;
-    let mut i = 0;
-    while i < order.len() {
-        let v = order[i] as usize;
-        if u == v {
-            found += 1;
-        }
-        i += 1;
-    }
-    found
+    order.iter().filter(|&&v| u == v as usize).count()
 }
 
 // Each variable below n stands in the order once.
 fn once(order: &[u8], n: usize) -> bool
     ensures { result ≡ is_once n order.now }
 {
-    let mut k = n;
-    while 0 < k {
-        k -= 1;
-        if times(order, k) != 1 {
-            return false;
-        }
-    }
-    true
+    (0..n).all(|k| times(order, k) == 1)
 }
 
 // The set of v names nothing of the order from there on.
-fn free(names: &[u64], order: &[u8], v: usize, from: usize) -> bool
-    requires { (v < length names.now) × (from ≤ length order.now) × ((k : ℕ) → get_or order.now k 0 < 8) }
-    ensures { result ≡ is_free (named_by names.now) v (drop from order.now) }
+fn free(names: &[u64], v: usize, later: &[u8]) -> bool
+    requires { (v < length names.now) × ((k : ℕ) → get_or later.now k 0 < 8) }
+    ensures { result ≡ is_free (named_by names.now) v later.now }
 {
     let word = names[v];
-    let mut i = from;
-    while i < order.len() {
-        let w = order[i] as usize;
-        if words::contains(word, w) {
-            return false;
-        }
-        i += 1;
-    }
-    true
+    later.iter().all(|&w| !words::contains(word, w as usize))
 }
 
 // Every variable of the order comes after those its set names.
@@ -107,12 +73,8 @@ fn after(names: &[u64], order: &[u8]) -> bool
     requires { (length names.now ≡ 8) × ((k : ℕ) → get_or order.now k 0 < 8) }
     ensures { result ≡ is_after (named_by names.now) order.now }
 {
-    let mut i = 0;
-    while i < order.len() {
-        let v = order[i] as usize;
-        if free(names, order, v, i) {
-            i += 1;
-        } else {
+    for (i, &v) in order.iter().enumerate() {
+        if !free(names, v as usize, &order[i..]) {
             return false;
         }
     }
@@ -124,13 +86,7 @@ pub fn ordered(names: &[u64], order: &[u8], n: usize) -> bool
     requires { (length names.now ≡ 8) × (n ≤ 8) }
     ensures { result ≡ is_order (named_by names.now) n order.now }
 {
-    if small(order, n) {
-        if once(order, n) {
-            return after(names, order);
-        }
-        return false;
-    }
-    false
+    small(order, n) && once(order, n) && after(names, order)
 }
 
 // Whether two orders begin with the same k variables.
@@ -138,14 +94,7 @@ pub fn begins_alike(a: &[u8], b: &[u8], k: usize) -> bool
     requires { (k ≤ length a.now) × (k ≤ length b.now) }
     ensures { result ≡ true → take k a.now ≡ take k b.now }
 {
-    let mut i = 0;
-    while i < k {
-        if a[i] != b[i] {
-            return false;
-        }
-        i += 1;
-    }
-    true
+    a[..k] == b[..k]
 }
 
 // 100 × breaking / full to the nearest whole, an exact half to the even neighbour; 255 where there is none.

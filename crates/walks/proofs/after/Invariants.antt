@@ -1,14 +1,9 @@
 -- `walks::after` meets its contract. The loop's invariant: the answer from i on is the answer.
 -- Assumes nothing.
 use mathlib.Core.Path.{◌≡◌}
-use Prim.Native.Nat.{◌≤◌, ◌-◌}
-use lib.ListN.{length, drop}
-use Rattle.walks.specs.Order.{is_after}
-use Rattle.walks.specs.Order.{named_by}
+use lib.ListN.{drop}
+use Rattle.walks.specs.Order.{is_after, named_by}
 use Rattle.walks.proofs.after.Given as goal
 
 abbrev pub invariant-loop-i : goal.invariant-loop-i
-invariant-loop-i l = (l.i ≤ length l.order) × (is_after (named_by l.names) (drop l.i l.order) ≡ is_after (named_by l.names) l.order)
-
-abbrev pub decreases-loop-i : goal.decreases-loop-i
-decreases-loop-i l = length l.order - l.i
+invariant-loop-i l = is_after (named_by l.names) (drop l.i l.order) ≡ is_after (named_by l.names) l.order

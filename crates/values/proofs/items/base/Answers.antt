@@ -1,20 +1,12 @@
 -- `values::items::base` meets its contract: the word of the users present, or as many items as are counted.
 -- Assumes nothing.
 use mathlib.Core.Path.{ap, ◌∙◌}
-use native.Mathlib.Omega.{arith}
 use mathlib.Core.List.{List}
 use Prim.Native.Nat.{ℕ}
 use lib.ListN.{get_or}
 use Rattle.words.specs.Words.{all_of}
-use Rattle.values.proofs.ItemLaws.{item_places, item-place, user-items, base-items}
-use borrow.Author.Rules.{rules}
+use Rattle.values.proofs.ItemLaws.{item_places, user-items, base-items}
 use Rattle.values.proofs.items.base.Goals as goal
-
-pub offset_bounds-t-at : goal.offset_bounds-t-at
-offset_bounds-t-at c = let low = item-place c.args.op c.requires.1 in search rules
-
-pub bounds-t-at : goal.bounds-t-at
-bounds-t-at c = let low = item-place c.args.op c.requires.1 in omega (arith, c.requires.0)
 
 pub returns-then-op-eq-USERS : goal.returns-then-op-eq-USERS
 returns-then-op-eq-USERS c = λ T e. user-items T c.args.op e c.if-op-eq-USERS.true

@@ -2,12 +2,12 @@
 -- Assumes nothing.
 use mathlib.Core.Path.{ap, ◌∙◌}
 use mathlib.Core.List.{List}
+use mathlib.Core.Logic.{inl, inr}
 use Prim.Native.Nat.{ℕ, ◌-◌}
 use native.Mathlib.Omega.{arith}
 use lib.ListN.{get_or}
 use Prim.Native.Nat.{◌+◌}
-use Rattle.values.proofs.ItemLaws.{collection_places, collection-place, one-item, one_none, one_word, one-far}
-use borrow.Author.Rules.{rules}
+use Rattle.values.proofs.ItemLaws.{collection_places, one-item, one_none, one_word, one-far}
 use Rattle.rules.specs.Code.Numbers.{first_collection}
 use Rattle.values.proofs.items.one.Goals as goal
 
@@ -15,19 +15,11 @@ pub returns-then-kind-lt-FIRST_COLLECTION : goal.returns-then-kind-lt-FIRST_COLL
 returns-then-kind-lt-FIRST_COLLECTION c = λ T f e l. c.item.ensures ∙ one-item T c.args.x c.args.kind c.if-kind-lt-FIRST_COLLECTION.true
 
 pub returns-then-kind-ge-NO_KIND : goal.returns-then-kind-ge-NO_KIND
-returns-then-kind-ge-NO_KIND c = λ T f e l. one_none T c.args.x c.args.kind (omega (arith, c.if-kind-ge-NO_KIND.true))
-
-pub returns-then-x-ge-ROOM : goal.returns-then-x-ge-ROOM
-returns-then-x-ge-ROOM c = λ T f e l. one-far T c.args.x c.args.kind c.if-kind-lt-FIRST_COLLECTION.false c.if-kind-ge-NO_KIND.false f c.if-x-ge-ROOM.true
-
-pub overflow_add-at : goal.overflow_add-at
-overflow_add-at c = let low = collection-place (c.args.kind - first_collection) (omega arith) in search rules
-
-pub offset_bounds-t-at : goal.offset_bounds-t-at
-offset_bounds-t-at c = let low = collection-place (c.args.kind - first_collection) (omega arith) in search rules
-
-pub bounds-t-at : goal.bounds-t-at
-bounds-t-at c = let low = collection-place (c.args.kind - first_collection) (omega arith) in omega (arith, c.requires)
+returns-then-kind-ge-NO_KIND c = λ T f e l.
+    elim c.then-kind-ge-NO_KIND.either [
+      | inl h ↦ one_none T c.args.x c.args.kind (omega arith)
+      | inr h ↦ one-far T c.args.x c.args.kind c.if-kind-lt-FIRST_COLLECTION.false h.0 f h.1
+    ]
 
 pub returns : goal.returns
 returns c = λ T f e l.

@@ -1,5 +1,6 @@
 -- `values::names::named` meets its contract.
 -- Assumes nothing.
+use mathlib.Core.Logic.{inl, inr}
 use Prim.Native.Nat.{◌≤◌, ◌<◌}
 use native.Mathlib.Omega.{arith}
 use Rattle.syntax.specs.Code.Nodes.{first_pair, first_empty}
@@ -11,11 +12,11 @@ use Rattle.values.proofs.names.named.Goals as goal
 
 pub returns-then-op-lt-FIRST_CALL : goal.returns-then-op-lt-FIRST_CALL
 returns-then-op-lt-FIRST_CALL c =
-    λ σ w t x u l. names-base c.requires.0 w c.args.k c.requires.1 t x u l c.operation-op.ensures c.if-op-lt-FIRST_CALL.true
-
-pub returns-then-op-ge-MEMBER : goal.returns-then-op-ge-MEMBER
-returns-then-op-ge-MEMBER c =
-    λ σ w t x u l. absurd (omega (arith, term-small c.args.nodes.now c.args.k t x, c.operation-op.ensures, c.if-op-ge-MEMBER.true))
+    λ σ w t x u l.
+    elim c.then-op-lt-FIRST_CALL.either [
+      | inl h ↦ names-base c.requires.0 w c.args.k c.requires.1 t x u l c.operation-op.ensures h
+      | inr h ↦ absurd (omega (arith, term-small c.args.nodes.now c.args.k t x, c.operation-op.ensures, h.1))
+    ]
 
 pub returns-then-op-eq-OE : goal.returns-then-op-eq-OE
 returns-then-op-eq-OE c =

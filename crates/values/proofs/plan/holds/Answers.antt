@@ -1,20 +1,11 @@
 -- `values::plan::holds` meets its contract.
 -- Assumes nothing.
 use mathlib.Core.Path.{sym, ◌∙◌}
-use native.Mathlib.Omega.{arith}
 use lib.ListN.{drop}
 use Rattle.values.specs.Code.Clauses.{clause_count}
 use Rattle.values.specs.Code.Plan.{levels_from}
 use Rattle.values.proofs.PlanLaws.{holds-all}
 use Rattle.values.proofs.plan.holds.Goals as goal
-
-pub bounds-plan-849 : goal.bounds-plan-849
-bounds-plan-849 c =
-    omega (arith, c.requires.0.long)
-
-pub holds_among-requires : goal.holds_among-requires
-holds_among-requires c =
-    (c.requires.0, c.requires.1, omega arith, omega arith)
 
 pub returns : goal.returns
 returns c =

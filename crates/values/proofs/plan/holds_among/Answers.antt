@@ -9,87 +9,40 @@ use lib.Seq.{get_or-drop}
 use Rattle.syntax.specs.Rule.{rule_vars}
 use Rattle.values.specs.Code.Clauses.{clause_count, clause_at}
 use Rattle.values.specs.Code.Plan.{levels_from}
-use Rattle.values.proofs.TruthLaws.{low-more}
 use Rattle.values.proofs.PlanLaws.{holds-start, holds-true, holds-false, holds-out}
 use Rattle.values.proofs.plan.holds_among.Goals as goal
 use Rattle.values.proofs.plan.holds_among.Goals.{then-plan-i+else-not-clause, else-plan-i}
 
 pub loop-i-init : goal.loop-i-init
 loop-i-init c =
-    (omega arith, c.requires.2, λ ns n ρ C T d K. holds-start T ρ (drop levels_from c.args.plan.now) c.args.level c.args.from d)
-
-pub overflow_add-i : goal.overflow_add-i
-overflow_add-i c =
-    omega (arith, c.requires.0.few_clauses, c.requires.3, c.loop-i-test.true)
-
-pub offset_bounds-plan-i : goal.offset_bounds-plan-i
-offset_bounds-plan-i c =
-    omega (arith, c.requires.0.few_clauses, c.requires.3, c.loop-i-test.true)
-
-pub bounds-plan-i : goal.bounds-plan-i
-bounds-plan-i c =
-    omega (arith, c.requires.0.few_clauses, c.requires.0.long, c.requires.3, c.loop-i-test.true)
-
-pub overflow_add-word : goal.overflow_add-word
-overflow_add-word c =
-    omega (arith, c.requires.0.few_clauses, c.requires.3, c.loop-i-test.true)
-
-pub offset_bounds-plan-i-then-plan-i : goal.offset_bounds-plan-i-then-plan-i
-offset_bounds-plan-i-then-plan-i c =
-    omega (arith, c.requires.0.few_clauses, c.requires.3, c.loop-i-test.true)
-
-pub bounds-plan-i-then-plan-i : goal.bounds-plan-i-then-plan-i
-bounds-plan-i-then-plan-i c =
-    omega (arith, c.requires.0.few_clauses, c.requires.0.long, c.requires.3, c.loop-i-test.true)
-
-pub overflow_cast-first : goal.overflow_cast-first
-overflow_cast-first c = omega arith
-
-pub overflow_cast-second : goal.overflow_cast-second
-overflow_cast-second c =
-    omega (arith, c.shared_slice_known-then-plan-i-1.given (256 + c.loop-i.i))
-
-pub clause-requires : goal.clause-requires
-clause-requires c =
-    (low-more (c.requires.0.firsts c.loop-i.i (omega (arith, c.loop-i-test.true, c.requires.3))) (omega (arith, c.requires.1)), low-more (c.requires.0.seconds c.loop-i.i (omega (arith, c.loop-i-test.true, c.requires.3))) (omega (arith, c.requires.1)))
+    λ ns n ρ C T d K. holds-start T ρ (drop levels_from c.args.plan.now) c.args.level c.args.from d
 
 pub returns-then-not-clause : goal.returns-then-not-clause
 returns-then-not-clause c =
     λ ns n ρ C T d K.
     let i : ℕ = c.loop-i.i in
-    let h : i < clause_count ρ = omega (arith, C.many, c.requires.3, c.loop-i-test.true) in
+    let h : i < clause_count ρ = omega (arith, C.many, c.requires.3) in
     let P : List ℕ = c.args.plan.now in
     let at : get_or (drop levels_from P) i 0 ≡ get_or P (levels_from + i) 0 = get_or-drop levels_from P i 0 in
-    holds-false T ρ (drop levels_from P) c.args.level c.args.from d c.args.to i c.loop-i-test.true c.clause.result c.loop-i.invariant.0 (at ∙ c.if-plan-i.true)
+    holds-false T ρ (drop levels_from P) c.args.level c.args.from d c.args.to i (omega arith) c.clause.result (omega arith) (at ∙ c.if-plan-i.true)
     (c.clause.ensures ns n (clause_at ρ i) (C.each i h) T (rule_vars [] ρ) d (K i h (at ∙ c.if-plan-i.true))) c.if-not-clause.true
 
-pub overflow_add-i-in-loop-i : goal.overflow_add-i-in-loop-i
-overflow_add-i-in-loop-i c =
-    omega (arith, c.requires.0.few_clauses, c.requires.3, c.loop-i-test.true)
-
-pub loop-i-smaller : goal.loop-i-smaller
-loop-i-smaller c =
-    omega (arith, c.loop-i-test.true)
-
 pub loop-i-preserved : goal.loop-i-preserved
-loop-i-preserved c = (
-  omega (arith, c.loop-i.invariant.0),
-  omega (arith, c.loop-i-test.true),
-  λ ns n ρ C T d K.
-      let i : ℕ = c.loop-i.i in
-      let h : i < clause_count ρ = omega (arith, C.many, c.requires.3, c.loop-i-test.true) in
-      let P : List ℕ = c.args.plan.now in
-      let at : get_or (drop levels_from P) i 0 ≡ get_or P (levels_from + i) 0 = get_or-drop levels_from P i 0 in
-      let q = c.loop-i.invariant.2 ns n ρ C T d K in
-      elim c.if-plan-i.branch [
-        | then-plan-i+else-not-clause w ↦ holds-true T ρ (drop levels_from P) c.args.level c.args.from d i q w.clause.result c.loop-i.invariant.0 (at ∙ w.if-plan-i.true)
-            (w.clause.ensures ns n (clause_at ρ i) (C.each i h) T (rule_vars [] ρ) d (K i h (at ∙ w.if-plan-i.true))) w.if-not-clause.false
-        | else-plan-i w ↦ holds-out T ρ (drop levels_from P) c.args.level c.args.from d i q (λ e. w.if-plan-i.false (sym at ∙ e))
-      ],
-)
+loop-i-preserved c =
+    λ ns n ρ C T d K.
+    let i : ℕ = c.loop-i.i in
+    let h : i < clause_count ρ = omega (arith, C.many, c.requires.3) in
+    let P : List ℕ = c.args.plan.now in
+    let at : get_or (drop levels_from P) i 0 ≡ get_or P (levels_from + i) 0 = get_or-drop levels_from P i 0 in
+    let q = c.loop-i.invariant ns n ρ C T d K in
+    elim c.if-plan-i.branch [
+      | then-plan-i+else-not-clause w ↦ holds-true T ρ (drop levels_from P) c.args.level c.args.from d i q w.clause.result (omega arith) (at ∙ w.if-plan-i.true)
+          (w.clause.ensures ns n (clause_at ρ i) (C.each i h) T (rule_vars [] ρ) d (K i h (at ∙ w.if-plan-i.true))) w.if-not-clause.false
+      | else-plan-i w ↦ holds-out T ρ (drop levels_from P) c.args.level c.args.from d i q (λ e. w.if-plan-i.false (sym at ∙ e))
+    ]
 
 pub returns : goal.returns
 returns c =
     λ ns n ρ C T d K.
-    let done : c.loop-i.i ≡ c.args.to = omega (arith, c.loop-i.invariant.1, c.loop-i-test.false) in
-    rw (← done) (c.loop-i.invariant.2 ns n ρ C T d K)
+    let done : c.loop-i.i ≡ c.args.to = omega arith in
+    rw (← done) (c.loop-i.invariant ns n ρ C T d K)

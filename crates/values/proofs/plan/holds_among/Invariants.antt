@@ -3,7 +3,7 @@
 use mathlib.Core.Path.{◌≡◌}
 use mathlib.Core.Bool.{true, not}
 use mathlib.Core.List.{List, []}
-use Prim.Native.Nat.{ℕ, ◌-◌, ◌<◌, ◌≤◌}
+use Prim.Native.Nat.{ℕ, ◌<◌}
 use lib.ListN.{get_or, drop}
 use Rattle.tables.specs.Tables.{Tables}
 use Rattle.syntax.specs.Rule.{Rule, rule_vars}
@@ -14,9 +14,6 @@ use Rattle.values.proofs.PlanLaws.{false_among}
 use Rattle.values.proofs.plan.holds_among.Given as goal
 
 abbrev pub invariant-loop-i : goal.invariant-loop-i
-invariant-loop-i l = (l.from ≤ l.i) × (l.i ≤ l.to) × ((ns : List ℕ) (n : ℕ) (ρ : Rule) → ClausesIn l.plan ns n ρ → (T : Tables) (c : List ℕ)
+invariant-loop-i l = (ns : List ℕ) (n : ℕ) (ρ : Rule) → ClausesIn l.plan ns n ρ → (T : Tables) (c : List ℕ)
     → ((j : ℕ) → j < clause_count ρ → get_or (drop levels_from l.plan) j 0 ≡ l.level → ValuedIn ns n l.cache T (rule_vars [] ρ) c (clause_names (rule_vars [] ρ) (clause_at ρ j)))
-    → false_among T ρ (drop levels_from l.plan) l.level l.from c l.i ≡ not true)
-
-abbrev pub decreases-loop-i : goal.decreases-loop-i
-decreases-loop-i l = l.to - l.i
+    → false_among T ρ (drop levels_from l.plan) l.level l.from c l.i ≡ not true

@@ -18,10 +18,6 @@ pub returns-then-op-eq-OE : goal.returns-then-op-eq-OE
 returns-then-op-eq-OE c =
     λ ns n ks vs next k d long h S T σ w a x F. step-one d long h S w (choice_of c.args.choice) a x _ c.operation-op.ensures c.chosen.result c.one.result c.if-op-eq-OE.true c.chosen.ensures (c.one.ensures T w.fits w.words)
 
-pub bounds-cache-left : goal.bounds-cache-left
-bounds-cache-left c =
-    omega (arith, c.requires.1.left (omega (arith, c.if-op-lt-FIRST_CALL.false, c.operation-op.ensures)), c.left-left.ensures)
-
 pub returns-then-op-lt-OE : goal.returns-then-op-lt-OE
 returns-then-op-lt-OE c =
     λ ns n ks vs next k d long h S T σ w a x F. step_call d long h S w (choice_of c.args.choice) a x _ c.operation-op.ensures c.args.cache.now F c.left-left.result c.left-left.ensures c.call.result c.if-op-lt-FIRST_CALL.false c.if-op-lt-OE.true (c.call.ensures T w.fits w.words)

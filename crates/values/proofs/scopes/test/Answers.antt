@@ -1,5 +1,6 @@
 -- `values::scopes::test` meets its contract.
 -- Assumes nothing.
+use mathlib.Core.Logic.{inl, inr}
 use mathlib.Core.Path.{refl}
 use native.Mathlib.Omega.{arith}
 use Prim.Native.Nat.{◌<◌}
@@ -7,14 +8,9 @@ use Rattle.syntax.specs.Code.Nodes.{right_of}
 use Rattle.values.proofs.TruthLaws.{of_range, low-two, low-two₂}
 use Rattle.values.proofs.ScopeLaws.{scope-one, scope-two}
 use Rattle.values.proofs.scopes.test.Goals as goal
-use Rattle.values.proofs.scopes.test.Goals.{then-op-ge-IS_EMPTY+else-op-lt-FIRST_COUNTED, else-op-ge-IS_EMPTY}
 
 pub returns-then-op-lt-MEMBER : goal.returns-then-op-lt-MEMBER
 returns-then-op-lt-MEMBER c = λ ns n vs N low σ w p x u l. absurd (omega (arith, (of_range x _ _ _ c.operation-op.ensures refl refl).least, c.if-op-lt-MEMBER.true))
-
-pub bounds-names-left : goal.bounds-names-left
-bounds-names-left c =
-    omega (arith, c.requires.left (omega (arith, c.if-op-lt-MEMBER.false, c.operation-op.ensures)), c.left.ensures)
 
 pub returns-then-op-lt-FIRST_COUNTED : goal.returns-then-op-lt-FIRST_COUNTED
 returns-then-op-lt-FIRST_COUNTED c =
@@ -24,21 +20,21 @@ returns-then-op-lt-FIRST_COUNTED c =
 
 pub bounds-names-right : goal.bounds-names-right
 bounds-names-right c =
-    elim c.if-op-ge-IS_EMPTY.branch [
-      | then-op-ge-IS_EMPTY+else-op-lt-FIRST_COUNTED h ↦ omega (arith, low-two₂ c.requires (omega (arith, h.if-op-lt-FIRST_COUNTED.false, c.operation-op.ensures)), c.right.ensures)
-      | else-op-ge-IS_EMPTY h ↦ omega (arith, low-two c.requires (omega (arith, c.if-op-lt-MEMBER.false, c.operation-op.ensures)) (omega (arith, h.if-op-ge-IS_EMPTY.false, c.operation-op.ensures)), c.right.ensures)
+    elim c.else-op-ge-IS_EMPTY.either [
+      | inl h ↦ omega (arith, low-two₂ c.requires (omega (arith, h.1, c.operation-op.ensures)), c.right.ensures)
+      | inr h ↦ omega (arith, low-two c.requires (omega (arith, c.if-op-lt-MEMBER.false, c.operation-op.ensures)) (omega (arith, h, c.operation-op.ensures)), c.right.ensures)
     ]
 
 pub returns : goal.returns
 returns c =
     λ ns n vs N low σ w p x u l.
     let a = low.left (omega (arith, c.if-op-lt-MEMBER.false, c.operation-op.ensures)) in
-    let b : right_of c.args.node < n = elim c.if-op-ge-IS_EMPTY.branch [
-      | then-op-ge-IS_EMPTY+else-op-lt-FIRST_COUNTED h ↦ low-two₂ low (omega (arith, h.if-op-lt-FIRST_COUNTED.false, c.operation-op.ensures))
-      | else-op-ge-IS_EMPTY h ↦ low-two low (omega (arith, c.if-op-lt-MEMBER.false, c.operation-op.ensures)) (omega (arith, h.if-op-ge-IS_EMPTY.false, c.operation-op.ensures))
+    let b : right_of c.args.node < n = elim c.else-op-ge-IS_EMPTY.either [
+      | inl h ↦ low-two₂ low (omega (arith, h.1, c.operation-op.ensures))
+      | inr h ↦ low-two low (omega (arith, c.if-op-lt-MEMBER.false, c.operation-op.ensures)) (omega (arith, h, c.operation-op.ensures))
     ] in
-    scope-two x σ u _ _ _ c.operation-op.ensures c.left.ensures c.right.ensures (λ m. elim c.if-op-ge-IS_EMPTY.branch [
-      | then-op-ge-IS_EMPTY+else-op-lt-FIRST_COUNTED h ↦ h.if-op-lt-FIRST_COUNTED.false
-      | else-op-ge-IS_EMPTY h ↦ absurd (omega (arith, h.if-op-ge-IS_EMPTY.false))
+    scope-two x σ u _ _ _ c.operation-op.ensures c.left.ensures c.right.ensures (λ m. elim c.else-op-ge-IS_EMPTY.either [
+      | inl h ↦ h.1
+      | inr h ↦ absurd (omega arith)
     ]) l
     _ _ c.join.result (λ s y. N _ (omega (arith, a, c.left.ensures)) σ w s y u l) (λ s y. N _ (omega (arith, b, c.right.ensures)) σ w s y u l) c.join.ensures

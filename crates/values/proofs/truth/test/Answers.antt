@@ -1,19 +1,18 @@
 -- `values::truth::test` meets its contract: each arm is a range of numbers.
 -- Assumes nothing.
+use mathlib.Core.Logic.{inl, inr}
 use mathlib.Core.Path.{refl}
 use native.Mathlib.Omega.{arith}
 use Rattle.values.proofs.TruthLaws.{of_range, of-related, of-empty, of_number, of-count, low-two, low-two₂}
 use Rattle.values.proofs.truth.test.Goals as goal
 
 pub returns-then-op-lt-MEMBER : goal.returns-then-op-lt-MEMBER
-returns-then-op-lt-MEMBER c = λ ns n p x T σ d K. absurd (omega (arith, (of_range x _ _ _ c.operation-op.ensures refl refl).least, c.if-op-lt-MEMBER.true))
-
-pub returns-then-op-ge-WHEN : goal.returns-then-op-ge-WHEN
-returns-then-op-ge-WHEN c = λ ns n p x T σ d K. absurd (omega (arith, (of_range x _ _ _ c.operation-op.ensures refl refl).most, c.if-op-ge-WHEN.true))
-
-pub bounds-cache-left : goal.bounds-cache-left
-bounds-cache-left c =
-    omega (arith, c.requires.left (omega (arith, c.if-op-lt-MEMBER.false, c.operation-op.ensures)), c.left-left.ensures)
+returns-then-op-lt-MEMBER c = λ ns n p x T σ d K.
+    let within = of_range x _ _ _ c.operation-op.ensures refl refl in
+    elim c.then-op-lt-MEMBER.either [
+      | inl h ↦ absurd (omega (arith, within.least, h))
+      | inr h ↦ absurd (omega (arith, within.most, h.1))
+    ]
 
 pub bounds-cache-right : goal.bounds-cache-right
 bounds-cache-right c =

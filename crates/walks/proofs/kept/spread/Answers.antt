@@ -6,39 +6,16 @@ use Prim.Native.Nat.{ℕ}
 use native.Mathlib.Omega.{arith}
 use Rattle.words.specs.Words.{has}
 use Rattle.words.proofs.WordsLaws.{has-zero}
-use Rattle.walks.proofs.BytesLaws.{masks-start, masks-next, masks-out}
+use Rattle.walks.proofs.BytesLaws.{masks-next, masks-out}
 use Rattle.walks.proofs.kept.spread.Goals as goal
 use Rattle.walks.proofs.kept.spread.Goals.{then-contains, else-contains}
 
 pub returns-then-word-eq0 : goal.returns-then-word-eq0
 returns-then-word-eq0 c = λ u i l m h. absurd (true≢false (sym h ∙ ap (λ (w : ℕ). has w u) c.if-word-eq0.true ∙ has-zero u))
 
-pub loop-u-init : goal.loop-u-init
-loop-u-init c = (omega arith, masks-start _)
-
-pub contains-requires : goal.contains-requires
-contains-requires c = omega arith
-
-pub overflow_mul-u : goal.overflow_mul-u
-overflow_mul-u c = omega arith
-
-pub overflow_shl-u : goal.overflow_shl-u
-overflow_shl-u c = omega arith
-
-pub overflow_add-u : goal.overflow_add-u
-overflow_add-u c = omega arith
-
-pub loop-u-smaller : goal.loop-u-smaller
-loop-u-smaller c = omega arith
-
 pub loop-u-preserved : goal.loop-u-preserved
-loop-u-preserved c = (
-  omega arith,
-  elim c.if-contains.branch [
-    | then-contains w ↦ masks-next _ _ _ _ c.loop-u-test.true c.loop-u.invariant.1 (w.mask-is ∙ w.join-mask.ensures)
-    | else-contains w ↦ rw w.mask-is (masks-out _ _ _ (sym c.contains.ensures ∙ w.if-contains.false) c.loop-u.invariant.1)
-  ],
-)
-
-pub returns : goal.returns
-returns c = λ u i l. c.loop-u.invariant.1 u i (omega arith)
+loop-u-preserved c =
+    elim c.if-contains.branch [
+      | then-contains w ↦ masks-next _ _ _ _ (omega arith) c.loop-u.invariant (w.mask-is ∙ w.join-mask.ensures)
+      | else-contains w ↦ rw w.mask-is (masks-out _ _ _ (sym c.contains.ensures ∙ w.if-contains.false) c.loop-u.invariant)
+    ]
