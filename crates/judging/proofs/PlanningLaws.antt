@@ -40,11 +40,8 @@ filled_more {old} {new} {at} {i} {P} F l v p = record {
     go j k (yes e) = rw (e, get_or-set_same new (at + i) v 0 (omega (arith, F.long))) p
     go j k (no ne) = rw (get_or-set_other new (at + i) (at + j) v 0 (λ q. ne (omega arith))) (F.inside j (omega arith))
 
--- at the front
-pub filled-front : {old new : List ℕ} {i : ℕ} {P : ℕ → ℕ → Type 0} → Filled old new 0 i P → i < length old → (v : ℕ) → P i v → Filled old (set new i v) 0 (i + 1) P
-filled-front {old} {new} {i} {P} F l v p =
-    let z : 0 + i ≡ i = omega arith in
-    subst (λ (k : ℕ). Filled old (set new k v) 0 (i + 1) P) z (filled_more F (omega arith) v p)
+pub filled-as : {old new : List ℕ} {at n : ℕ} {P Q : ℕ → ℕ → Type 0} → Filled old new at n P → ((i w : ℕ) → i < n → P i w → Q i w) → Filled old new at n Q
+filled-as F f = record { long = F.long; inside = λ i l. f i _ l (F.inside i l); outside = F.outside }
 
 -- ---- the words
 

@@ -129,8 +129,7 @@ fn descend(
 {
     let mut choice = kept::NOTHING;
     let mut at = mode;
-    let mut depth = 0;
-    while depth < order.len() {
+    for depth in 0..order.len() {
         let here = turn(
             t,
             parsed,
@@ -147,7 +146,6 @@ fn descend(
         let x = least(t, &plan[..], here, order.len() - depth, choice, cache, kept);
         choice = kept::put(choice, order[depth] as usize, x);
         at = enter(t, &plan[..], here, depth + 1, choice, cache);
-        depth += 1;
     }
     choice
 }

@@ -34,13 +34,6 @@ pub bounds-scopes-i : goal.bounds-scopes-i
 bounds-scopes-i c =
     omega (arith, c.requires.1, c.requires.2, c.loop-i-test.true)
 
-pub overflow_add-i-in-loop-i : goal.overflow_add-i-in-loop-i
-overflow_add-i-in-loop-i c =
-    omega (arith, c.requires.2, c.loop-i-test.true)
-
-pub loop-i-smaller : goal.loop-i-smaller
-loop-i-smaller c = omega (arith, c.loop-i-test.true)
-
 pub loop-i-preserved : goal.loop-i-preserved
 loop-i-preserved c =
     let P : List ℕ = c.args.plan.now in

@@ -11,7 +11,7 @@ use Rattle.judging.proofs.PlanningLaws.{joined-left, joined-right, joined_small}
 use Rattle.judging.proofs.planning.by_sets.Goals as goal
 
 pub loop-j-init : goal.loop-j-init
-loop-j-init c = (omega arith, omega arith, λ i l k m. absurd (omega arith))
+loop-j-init c = (omega arith, λ i l k m. absurd (omega arith))
 
 pub bounds-order-j : goal.bounds-order-j
 bounds-order-j c = omega (arith, c.loop-j-test.true)
@@ -26,26 +26,18 @@ pub bounds-names-order : goal.bounds-names-order
 bounds-names-order c =
     omega (arith, c.requires.0, c.requires.2 c.loop-j.j c.loop-j-test.true)
 
-pub overflow_add-j : goal.overflow_add-j
-overflow_add-j c =
-    omega (arith, c.requires.1, c.loop-j-test.true)
-
-pub loop-j-smaller : goal.loop-j-smaller
-loop-j-smaller c = omega (arith, c.loop-j-test.true)
-
 pub loop-j-preserved : goal.loop-j-preserved
 loop-j-preserved c =
     let w : ℕ = get_or c.args.names.now (get_or c.args.order.now c.loop-j.j 0) 0 in
     let fit : w < 2 ^ 64 = omega (arith, c.shared_slice_known-in-loop-j-2-1.given (get_or c.args.order.now c.loop-j.j 0)) in (
-      omega (arith, c.loop-j.invariant.0),
       joined_small c.loop-j.found w c.join-found.result c.join-found.ensures,
       λ i l k m.
           let at_most : i ≤ c.loop-j.j = omega arith in
           ⊎_elim
           (λ (e : i ≡ c.loop-j.j). rw e (joined-right c.loop-j.found w c.join-found.result c.join-found.ensures fit))
-          (λ (e : i < c.loop-j.j). joined-left c.loop-j.found w c.join-found.result (has (get_or c.args.names.now (get_or c.args.order.now i 0) 0)) c.join-found.ensures c.loop-j.invariant.1 (c.loop-j.invariant.2 i l e m))
+          (λ (e : i < c.loop-j.j). joined-left c.loop-j.found w c.join-found.result (has (get_or c.args.names.now (get_or c.args.order.now i 0) 0)) c.join-found.ensures c.loop-j.invariant.0 (c.loop-j.invariant.1 i l e m))
           (eq-or-lt_of_le at_most),
     )
 
 pub returns : goal.returns
-returns c = (c.loop-j.invariant.1, λ i l k. c.loop-j.invariant.2 i l (omega (arith, c.loop-j-test.false)) k)
+returns c = (c.loop-j.invariant.0, λ i l k. c.loop-j.invariant.1 i l (omega (arith, c.loop-j-test.false)) k)

@@ -7,7 +7,4 @@ use Rattle.walks.specs.Code.Context.{Covers}
 use Rattle.judging.proofs.planning.by_sets.Given as goal
 
 abbrev pub invariant-loop-j : goal.invariant-loop-j
-invariant-loop-j l = (l.d ≤ l.j) × (l.found < 2 ^ 64) × ((i : ℕ) → l.d ≤ i → i < l.j → i < length l.order → Covers l.found (has (get_or l.names (get_or l.order i 0) 0)))
-
-abbrev pub decreases-loop-j : goal.decreases-loop-j
-decreases-loop-j l = length l.order - l.j
+invariant-loop-j l = (l.found < 2 ^ 64) × ((i : ℕ) → l.d ≤ i → i < l.j → i < length l.order → Covers l.found (has (get_or l.names (get_or l.order i 0) 0)))

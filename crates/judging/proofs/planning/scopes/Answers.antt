@@ -11,7 +11,7 @@ use Rattle.rules.proofs.NodeLaws.{more-at}
 use Rattle.judging.proofs.planning.scopes.Goals as goal
 
 pub loop-i-init : goal.loop-i-init
-loop-i-init c = (omega arith, refl, λ ns n vs N low j l. absurd (omega arith))
+loop-i-init c = (refl, λ ns n vs N low j l. absurd (omega arith))
 
 pub overflow_add-w : goal.overflow_add-w
 overflow_add-w c =
@@ -42,29 +42,20 @@ offset_bounds-found-i c =
 
 pub bounds-found-i : goal.bounds-found-i
 bounds-found-i c =
-    omega (arith, c.requires.1, c.requires.2, c.loop-i-test.true, c.loop-i.invariant.1)
-
-pub overflow_add-i : goal.overflow_add-i
-overflow_add-i c =
-    omega (arith, c.requires.1, c.loop-i-test.true)
-
-pub loop-i-smaller : goal.loop-i-smaller
-loop-i-smaller c =
-    omega (arith, c.loop-i-test.true)
+    omega (arith, c.requires.1, c.requires.2, c.loop-i-test.true, c.loop-i.invariant.0)
 
 pub loop-i-preserved : goal.loop-i-preserved
 loop-i-preserved c =
     let i : ℕ = c.loop-i.i in
     let P : List ℕ = c.args.plan.now in (
-      omega (arith, c.loop-i-test.true),
-      length-set c.loop-i.found i c.clause.result ∙ c.loop-i.invariant.1,
+      length-set c.loop-i.found i c.clause.result ∙ c.loop-i.invariant.0,
       λ ns n vs N low. more-at (λ (j r : ℕ). ClauseNamesOf ns n vs (first_in (get_or P (clauses_from + j) 0)) (second_in (get_or P (clauses_from + j) 0)) r)
-          c.loop-i.found i c.clause.result 0 (omega (arith, c.requires.1, c.requires.2, c.loop-i-test.true, c.loop-i.invariant.1)) (c.loop-i.invariant.2 ns n vs N low)
+          c.loop-i.found i c.clause.result 0 (omega (arith, c.requires.1, c.requires.2, c.loop-i-test.true, c.loop-i.invariant.0)) (c.loop-i.invariant.1 ns n vs N low)
           (c.clause.ensures ns n vs N (low.firsts i c.loop-i-test.true) (low.seconds i c.loop-i-test.true)),
     )
 
 pub shape_of-found : goal.shape_of-found
-shape_of-found c = c.loop-i.invariant.1
+shape_of-found c = c.loop-i.invariant.0
 
 pub returns : goal.returns
-returns c = λ ns n vs N low i l. c.loop-i.invariant.2 ns n vs N low i (omega (arith, c.loop-i-test.false))
+returns c = λ ns n vs N low i l. c.loop-i.invariant.1 ns n vs N low i (omega (arith, c.loop-i-test.false))

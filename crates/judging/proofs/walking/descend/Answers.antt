@@ -11,11 +11,11 @@ use Rattle.judging.proofs.walking.descend.Goals as goal
 
 pub loop-depth-init : goal.loop-depth-init
 loop-depth-init c =
-    (omega arith, c.requires.2, λ T ρ C some. record { first = refl; some = some })
+    (c.requires.2, λ T ρ C some. record { first = refl; some = some })
 
 pub turn-here-requires : goal.turn-here-requires
 turn-here-requires c =
-    (c.requires.0, c.requires.1, c.loop-depth-test.true, stands_here c.loop-depth.invariant.1)
+    (c.requires.0, c.requires.1, c.loop-depth-test.true, stands_here c.loop-depth.invariant.0)
 
 pub overflow_sub-order : goal.overflow_sub-order
 overflow_sub-order c =
@@ -45,39 +45,30 @@ pub enter-at-requires : goal.enter-at-requires
 enter-at-requires c =
     (c.requires.0.lent.ready.whole, plan-runs (c.turn-here.ensures.ready c.requires.0.lent.tables c.requires.0.lent.rule c.requires.0.lent.is_case).along.planned, c.least-x.ensures.1.room ∙ c.turn-here.ensures.room, omega (arith, c.loop-depth-test.true, c.requires.1.list.short), c.turn-here.ensures.small)
 
-pub overflow_add-depth-in-loop-depth : goal.overflow_add-depth-in-loop-depth
-overflow_add-depth-in-loop-depth c =
-    omega (arith, c.loop-depth-test.true, c.requires.1.list.short)
-
-pub loop-depth-smaller : goal.loop-depth-smaller
-loop-depth-smaller c =
-    omega (arith, c.loop-depth-test.true)
-
 pub loop-depth-preserved : goal.loop-depth-preserved
 loop-depth-preserved c =
     let left : length c.args.order.now - c.loop-depth.depth + c.loop-depth.depth ≡ length c.args.order.now = omega (arith, c.loop-depth-test.true) in (
-      omega (arith, c.loop-depth-test.true),
       record {
         small = c.enter-at.ensures.modes;
         long = c.turn-here.ensures.long;
         room = c.enter-at.ensures.room ∙ c.least-x.ensures.1.room ∙ c.turn-here.ensures.room;
-        slots = c.least-x.ensures.1.slots ∙ c.turn-here.ensures.slots ∙ c.loop-depth.invariant.1.slots;
+        slots = c.least-x.ensures.1.slots ∙ c.turn-here.ensures.slots ∙ c.loop-depth.invariant.0.slots;
         ready = λ T ρ C. ready-next (once-for c.requires.0 c.requires.1 C) (after-for c.requires.0 c.requires.1 C) c.put-choice.result c.least-x.result c.loop-depth-test.true (c.turn-here.ensures.ready T ρ C) c.put-choice.ensures _ left c.least-x.ensures.1 c.enter-at.ensures;
       },
-      λ T ρ C some. descending-next (once-for c.requires.0 c.requires.1 C) (after-for c.requires.0 c.requires.1 C) c.put-choice.result c.least-x.result c.loop-depth-test.true (c.turn-here.ensures.ready T ρ C) c.put-choice.ensures _ left c.least-x.ensures.1 c.enter-at.ensures (c.loop-depth.invariant.2 T ρ C some),
+      λ T ρ C some. descending-next (once-for c.requires.0 c.requires.1 C) (after-for c.requires.0 c.requires.1 C) c.put-choice.result c.least-x.result c.loop-depth-test.true (c.turn-here.ensures.ready T ρ C) c.put-choice.ensures _ left c.least-x.ensures.1 c.enter-at.ensures (c.loop-depth.invariant.1 T ρ C some),
     )
 
 pub shape_of-plan : goal.shape_of-plan
 shape_of-plan c =
-    c.loop-depth.invariant.1.long ∙ sym c.requires.2.long
+    c.loop-depth.invariant.0.long ∙ sym c.requires.2.long
 
 pub shape_of-cache : goal.shape_of-cache
 shape_of-cache c =
-    c.loop-depth.invariant.1.room ∙ sym c.requires.2.room
+    c.loop-depth.invariant.0.room ∙ sym c.requires.2.room
 
 pub shape_of-kept : goal.shape_of-kept
-shape_of-kept c = c.loop-depth.invariant.1.slots
+shape_of-kept c = c.loop-depth.invariant.0.slots
 
 pub returns : goal.returns
 returns c =
-    let all : c.loop-depth.depth ≡ length c.args.order.now = omega (arith, c.loop-depth-test.false, c.loop-depth.invariant.0) in rw all at c.loop-depth.invariant.2
+    let all : c.loop-depth.depth ≡ length c.args.order.now = omega (arith, c.loop-depth-test.false, c.loop-depth.invariant.0) in rw all at c.loop-depth.invariant.1
