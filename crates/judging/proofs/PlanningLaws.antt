@@ -124,12 +124,9 @@ module _ (ns : List ℕ) (ρ : Rule) (i at : ℕ) where
   pub rest-last : Rest ns ρ i at → (op_at ns at ≡ also_op → ⊥) → HoldsClause ns at (clause_at ρ i) × (clause_count ρ ≡ i + 1)
   rest-last R o = last-parts R.rule R.holds R.many R.same o
 
-pub clause-made : {ns : List ℕ} {n root i k first second : ℕ} → first < 4294967296 → TestsAt ns n k first second
-    → ((ρ : Rule) → HoldsRule ns root ρ → HoldsClause ns k (clause_at ρ i)) → ClauseWord ns n root i (first + 4294967296 * second)
-clause-made {ns} {n} {root} {i} {k} {first} {second} l t h =
-    let a : first_in (first + 4294967296 * second) ≡ first = omega arith in
-    let b : second_in (first + 4294967296 * second) ≡ second = omega arith in
-    record { low = rw a t.low; low₂ = rw b t.low₂; clause = λ ρ x m. rw (a, b) (t.tests (clause_at ρ i) (h ρ x)) }
+pub clause-made : {ns : List ℕ} {n root i k w : ℕ} → TestsAt ns n k (first_in w) (second_in w)
+    → ((ρ : Rule) → HoldsRule ns root ρ → HoldsClause ns k (clause_at ρ i)) → ClauseWord ns n root i w
+clause-made {i = i} t h = record { low = t.low; low₂ = t.low₂; clause = λ ρ x m. t.tests (clause_at ρ i) (h ρ x) }
 
 -- ---- words joined
 

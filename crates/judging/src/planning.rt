@@ -3,8 +3,9 @@ ghost use Rattle.std.specs.Prelude.{◌≡◌, ℕ, ◌+◌, ◌<◌, ◌≤◌,
 ghost use Rattle.words.specs.Words.{has};
 ghost use Rattle.syntax.specs.Code.Arena.{Tidy};
 ghost use Rattle.walks.specs.Code.Kept.{Masks};
+ghost use Rattle.values.specs.Code.Clauses.{TestsAt};
 ghost use Rattle.values.specs.Code.Levels.{Level};
-ghost use Rattle.values.specs.Code.Plan.{plan_length, plan_room, levels_from, starts_from, Step};
+ghost use Rattle.values.specs.Code.Plan.{plan_length, plan_room, levels_from, starts_from, first_in, second_in, Step};
 ghost use Rattle.judging.specs.Code.Planning.{order_from, sets_from, contexts_from, masks_from, scopes_from, Filled, Noted, Plannable, ClauseWords, ClausesLow, LevelsWithin, Scoped, SetsNamedFrom, ClausesNamed, ContextWord, Laid, Plans};
 
 use rules::RULE_LIMIT;
@@ -78,6 +79,15 @@ fn starts(plan: &mut [u64], first: &[u32])
     fill(plan, STARTS, 9, |d| first[d] as u64);
 }
 
+// The word of the clause of node k.
+fn clause(nodes: &[u32], n: usize, k: usize) -> u64
+    requires { Tidy nodes.now n × (k < n) }
+    ensures { TestsAt nodes.now n k (first_in result) (second_in result) }
+{
+    let tests = tests_at(nodes, n, k);
+    (tests.first as u64) + TEST_ROOM * (tests.second as u64)
+}
+
 // The clauses, by the nodes of their tests; how many there are.
 fn clauses(plan: &mut [u64], nodes: &[u32], n: usize, root: usize) -> usize
     requires { Tidy nodes.now n × (root < n) × (n ≤ plan_room) × (length plan.old ≡ plan_length) }
@@ -85,14 +95,13 @@ fn clauses(plan: &mut [u64], nodes: &[u32], n: usize, root: usize) -> usize
 {
     let mut at = root;
     let mut i = 0;
+    // Stays a while: it goes along the rule's nodes, and i counts its steps.
     while nodes::operation(nodes[at]) == ALSO {
-        let tests = tests_at(nodes, n, nodes::left(nodes[at]) as usize);
-        plan[CLAUSES + i] = (tests.first as u64) + TEST_ROOM * (tests.second as u64);
+        plan[CLAUSES + i] = clause(nodes, n, nodes::left(nodes[at]) as usize);
         at = nodes::right(nodes[at]) as usize;
         i += 1;
     }
-    let tests = tests_at(nodes, n, at);
-    plan[CLAUSES + i] = (tests.first as u64) + TEST_ROOM * (tests.second as u64);
+    plan[CLAUSES + i] = clause(nodes, n, at);
     i + 1
 }
 

@@ -1,11 +1,13 @@
 -- `judging::walking::whole` meets its contract.
 -- Assumes nothing.
-use mathlib.Core.Path.{refl}
+use mathlib.Core.Path.{◌≡◌, refl}
 use native.Mathlib.Omega.{arith}
+use lib.ListN.{length}
 use Rattle.judging.proofs.WalkingLaws.{once-for, after-for}
 use Rattle.judging.proofs.CountingLaws.{plan-runs}
 use Rattle.judging.proofs.DescendLaws.{stands-first, walks-bare}
 use Rattle.judging.proofs.NothingLaws.{none-counted}
+use borrow.Author.Rules.{rules}
 use Rattle.judging.proofs.walking.whole.Goals as goal
 
 pub lay_first-many-requires : goal.lay_first-many-requires
@@ -26,10 +28,11 @@ entered-mode-requires c =
 pub overflow_sub-result : goal.overflow_sub-result
 overflow_sub-result c = omega (arith, c.entered-mode.ensures.modes)
 
-pub returns-then-order-eq0 : goal.returns-then-order-eq0
-returns-then-order-eq0 c = λ T ρ C.
+pub returns-then-is_empty : goal.returns-then-is_empty
+returns-then-is_empty c = λ T ρ C.
     let A = c.lay_first-many.ensures.lays.along T ρ C in
-    walks-bare (once-for c.requires.0 c.requires.1 C) (after-for c.requires.0 c.requires.1 C) A c.if-order-eq0.true c.entered-mode.result c.entered-mode.ensures.modes (c.entered-mode.ensures.goes A.layout T ρ A.planned).1
+    let bare : length c.args.order.now ≡ 0 = search rules in
+    walks-bare (once-for c.requires.0 c.requires.1 C) (after-for c.requires.0 c.requires.1 C) A bare c.entered-mode.result c.entered-mode.ensures.modes (c.entered-mode.ensures.goes A.layout T ρ A.planned).1
 
 pub counted-requires : goal.counted-requires
 counted-requires c =
