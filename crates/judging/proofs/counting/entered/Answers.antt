@@ -15,19 +15,12 @@ pub loop-level-init : goal.loop-level-init
 loop-level-init c =
     (omega arith, refl, λ y T ρ P. (caches-none P c.args.choice c.requires.2, mode-start (clauses_of T ρ) (drop levels_from c.args.plan.now) (choice_of c.args.choice)))
 
-pub enter-mode-requires : goal.enter-mode-requires
-enter-mode-requires c =
-    (c.requires.0, c.requires.1, c.loop-level.invariant.1 ∙ c.requires.2, omega (arith, c.requires.3, c.loop-level-test.true), c.loop-level.invariant.0)
-
 pub loop-level-preserved : goal.loop-level-preserved
 loop-level-preserved c = (
   c.enter-mode.ensures.modes,
   c.enter-mode.ensures.room ∙ c.loop-level.invariant.1,
   λ y T ρ P. let r = c.loop-level.invariant.2 y T ρ P in let e = c.enter-mode.ensures.goes y T ρ P r.0 in (e.0, mode-next P e.1 r.1),
 )
-
-pub shape_of-cache : goal.shape_of-cache
-shape_of-cache c = c.loop-level.invariant.1
 
 pub returns-2 : goal.returns-2
 returns-2 c =

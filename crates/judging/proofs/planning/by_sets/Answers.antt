@@ -10,22 +10,6 @@ use Rattle.words.specs.Words.{has}
 use Rattle.judging.proofs.PlanningLaws.{joined-left, joined-right, joined_small}
 use Rattle.judging.proofs.planning.by_sets.Goals as goal
 
-pub loop-j-init : goal.loop-j-init
-loop-j-init c = (omega arith, λ i l k m. absurd (omega arith))
-
-pub bounds-order-j : goal.bounds-order-j
-bounds-order-j c = omega (arith, c.loop-j-test.true)
-
-pub overflow_cast-order : goal.overflow_cast-order
-overflow_cast-order c = omega (arith, c.shared_slice_known-in-loop-j-1.given c.loop-j.j)
-
-pub offset_bounds-names-order : goal.offset_bounds-names-order
-offset_bounds-names-order c = omega (arith, c.requires.2 c.loop-j.j c.loop-j-test.true)
-
-pub bounds-names-order : goal.bounds-names-order
-bounds-names-order c =
-    omega (arith, c.requires.0, c.requires.2 c.loop-j.j c.loop-j-test.true)
-
 pub loop-j-preserved : goal.loop-j-preserved
 loop-j-preserved c =
     let w : ℕ = get_or c.args.names.now (get_or c.args.order.now c.loop-j.j 0) 0 in
@@ -38,6 +22,3 @@ loop-j-preserved c =
           (λ (e : i < c.loop-j.j). joined-left c.loop-j.found w c.join-found.result (has (get_or c.args.names.now (get_or c.args.order.now i 0) 0)) c.join-found.ensures c.loop-j.invariant.0 (c.loop-j.invariant.1 i l e m))
           (eq-or-lt_of_le at_most),
     )
-
-pub returns : goal.returns
-returns c = (c.loop-j.invariant.0, λ i l k. c.loop-j.invariant.1 i l (omega (arith, c.loop-j-test.false)) k)
