@@ -2,14 +2,13 @@
 -- two sums are those of the items but those of rest, and the cache and what is kept are right. Assumes nothing.
 use mathlib.Core.Path.{◌≡◌, refl, ap, ◌∙◌}
 use native.Mathlib.Omega.{arith}
-use lib.ListN.{length, get_or, set}
+use lib.ListN.{length, set}
 use Rattle.words.proofs.LoopLaws.{lowest-item, less-smaller}
 use Rattle.walks.specs.Code.Kept.{choice_of}
 use Rattle.walks.proofs.KeptLaws.{keeping-length}
-use Rattle.judging.specs.Code.Planning.{sets_from}
 use Rattle.judging.specs.Code.Counting.{depth_of}
-use Rattle.judging.proofs.CountingLaws.{plan-runs, set-small, set-in, caches-on, counted-fits, below-whole, below_last, below-hit, below-write, items-start, items-next, items-room, items-end, turned}
-use Prim.Native.Nat.{ℕ, ◌<◌, ◌+◌, ◌-◌, ◌^◌}
+use Rattle.judging.proofs.CountingLaws.{plan-runs, set-in, caches-on, counted-fits, below-whole, below_last, below-hit, below-write, items-next, items-room, items-end, turned}
+use Prim.Native.Nat.{ℕ, ◌<◌, ◌+◌, ◌-◌}
 use Rattle.judging.proofs.counting.+below_items.Goals as goal
 
 pub below-returns-then-left-eq0 : goal.below-returns-then-left-eq0

@@ -1,7 +1,6 @@
 -- `judging::counting::entered` meets its contract. The invariant: the levels below this one were entered.
 -- Assumes nothing.
 use mathlib.Core.Path.{◌≡◌, refl, ◌∙◌}
-use Prim.Native.Nat.{◌+◌}
 use native.Mathlib.Omega.{arith}
 use lib.ListN.{drop}
 use Rattle.walks.specs.Code.Kept.{choice_of}

@@ -1,15 +1,14 @@
 -- `judging::counting::least` meets its contract. The invariant: below the items but those of rest nothing breaks, and the cache and what is
 -- kept are right. Assumes nothing.
-use mathlib.Core.Path.{◌≡◌, refl, ap, ◌∙◌}
-use Prim.Native.Nat.{ℕ, ◌+◌, ◌-◌, ◌<◌, ◌^◌}
+use mathlib.Core.Path.{◌≡◌, ap, ◌∙◌}
+use Prim.Native.Nat.{ℕ, ◌+◌, ◌-◌, ◌<◌}
 use native.Mathlib.Omega.{arith}
-use lib.ListN.{length, get_or, set}
+use lib.ListN.{length, set}
 use Rattle.words.proofs.LoopLaws.{lowest-item, less-smaller}
 use Rattle.walks.specs.Code.Kept.{choice_of}
-use Rattle.judging.specs.Code.Planning.{sets_from}
 use Rattle.judging.specs.Code.Counting.{depth_of}
-use Rattle.judging.proofs.CountingLaws.{plan-runs, set-small, set-in, caches-on, turned}
-use Rattle.judging.proofs.DescendLaws.{seeking-start, seeking-past, seeking-hit, breaks_below, below-is, least-some}
+use Rattle.judging.proofs.CountingLaws.{plan-runs, set-in, caches-on, turned}
+use Rattle.judging.proofs.DescendLaws.{seeking-past, seeking-hit, below-is, least-some}
 use Rattle.judging.proofs.counting.least.Goals as goal
 
 pub enter-next-requires : goal.enter-next-requires

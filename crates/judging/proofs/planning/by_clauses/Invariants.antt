@@ -1,6 +1,6 @@
 -- `judging::planning::by_clauses` meets its contract. The invariant: the word has those of the first i clauses above level d.
 -- Assumes nothing.
-use Prim.Native.Nat.{ℕ, ◌-◌, ◌<◌, ◌≤◌, ◌^◌}
+use Prim.Native.Nat.{ℕ, ◌<◌, ◌≤◌, ◌^◌}
 use lib.ListN.{get_or, drop}
 use Rattle.words.specs.Words.{has}
 use Rattle.walks.specs.Code.Context.{Covers}

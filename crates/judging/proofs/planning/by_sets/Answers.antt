@@ -13,7 +13,7 @@ use Rattle.judging.proofs.planning.by_sets.Goals as goal
 pub loop-j-preserved : goal.loop-j-preserved
 loop-j-preserved c =
     let w : ℕ = get_or c.args.names.now (get_or c.args.order.now c.loop-j.j 0) 0 in
-    let fit : w < 2 ^ 64 = omega (arith, c.shared_slice_known-in-loop-j-2-1.given (get_or c.args.order.now c.loop-j.j 0)) in (
+    let fit : w < 2 ^ 64 = omega (arith, c.type_inv.names (get_or c.args.order.now c.loop-j.j 0)) in (
       joined_small c.loop-j.found w c.join-found.result c.join-found.ensures,
       λ i l k m.
           let at_most : i ≤ c.loop-j.j = omega arith in

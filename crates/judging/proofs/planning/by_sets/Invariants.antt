@@ -1,6 +1,6 @@
 -- `judging::planning::by_sets` meets its contract. The invariant: the word has those from d to below j.
 -- Assumes nothing.
-use Prim.Native.Nat.{ℕ, ◌-◌, ◌<◌, ◌≤◌, ◌^◌}
+use Prim.Native.Nat.{ℕ, ◌<◌, ◌≤◌, ◌^◌}
 use lib.ListN.{length, get_or}
 use Rattle.words.specs.Words.{has}
 use Rattle.walks.specs.Code.Context.{Covers}

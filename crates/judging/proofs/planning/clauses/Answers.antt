@@ -2,10 +2,8 @@
 -- Assumes nothing.
 use mathlib.Core.Path.{sym, ◌∙◌}
 use native.Mathlib.Omega.{arith}
-use lib.ListN.{length-set}
-use Rattle.values.specs.Code.Plan.{clauses_from}
 use Rattle.values.proofs.NodeLaws.{left_in, right-below₂}
-use Rattle.judging.proofs.PlanningLaws.{filled_none, filled_more, rest-start, rest-also, rest-last, clause-made}
+use Rattle.judging.proofs.PlanningLaws.{filled_more, rest-also, rest-last, clause-made}
 use Rattle.judging.proofs.planning.clauses.Goals as goal
 
 pub clause-requires : goal.clause-requires

@@ -3,7 +3,7 @@
 use native.Mathlib.Omega.{arith}
 use lib.Seq.{get_or-drop}
 use Rattle.values.specs.Code.Plan.{levels_from}
-use Rattle.judging.proofs.PlanningLaws.{context-less, context-both}
+use Rattle.judging.proofs.PlanningLaws.{context-both}
 use Rattle.judging.proofs.planning.context.Goals as goal
 
 pub returns-then-order-at : goal.returns-then-order-at

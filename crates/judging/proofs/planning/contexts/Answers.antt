@@ -1,11 +1,8 @@
 -- `judging::planning::contexts` meets its contract. The invariant: the first ones are filled in.
 -- Assumes nothing.
-use mathlib.Core.Path.{◌≡◌, ◌∙◌}
-use Prim.Native.Nat.{◌+◌}
+use mathlib.Core.Path.{◌≡◌}
 use native.Mathlib.Omega.{arith}
-use Rattle.values.specs.Code.Plan.{levels_from}
-use Rattle.judging.specs.Code.Planning.{contexts_from}
-use Rattle.judging.proofs.PlanningLaws.{filled_none, filled_more, context-same, levels-same}
+use Rattle.judging.proofs.PlanningLaws.{filled_more, context-same, levels-same}
 use Rattle.judging.proofs.planning.contexts.Goals as goal
 
 pub loop-at-preserved : goal.loop-at-preserved

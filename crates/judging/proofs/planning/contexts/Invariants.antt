@@ -1,6 +1,5 @@
 -- `judging::planning::contexts` meets its contract. The invariant: the first ones are filled in.
 -- Assumes nothing.
-use Prim.Native.Nat.{◌-◌, ◌≤◌}
 use lib.ListN.{drop}
 use Rattle.values.specs.Code.Plan.{levels_from}
 use Rattle.judging.specs.Code.Planning.{contexts_from, Filled, ContextWord}

@@ -1,6 +1,6 @@
 -- `judging::planning::masks` meets its contract. The invariant: the first ones are filled in.
 -- Assumes nothing.
-use Prim.Native.Nat.{◌+◌, ◌-◌, ◌≤◌}
+use Prim.Native.Nat.{◌+◌}
 use lib.ListN.{get_or}
 use Rattle.walks.specs.Code.Kept.{Masks}
 use Rattle.judging.specs.Code.Planning.{contexts_from, masks_from, Filled}

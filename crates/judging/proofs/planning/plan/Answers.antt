@@ -1,11 +1,10 @@
 -- `judging::planning::plan` meets its contract: each part was filled in by its own function.
 -- Assumes nothing.
-use mathlib.Core.Path.{◌≡◌, refl, sym, ◌∙◌}
+use mathlib.Core.Path.{◌≡◌, refl, sym}
 use native.Mathlib.Omega.{arith}
-use lib.ListN.{length, take, length-set}
+use lib.ListN.{length, take}
 use lib.Seq.{length-take-le}
-use Rattle.values.proofs.TruthLaws.{low-more}
-use Rattle.judging.proofs.PlanningLaws.{noted-then, levels-in}
+use Rattle.judging.proofs.PlanningLaws.{noted-then}
 use Rattle.judging.proofs.PlannedLaws.{planned-by}
 use borrow.Author.Rules.{rules}
 use Rattle.judging.proofs.planning.plan.Goals as goal
@@ -23,9 +22,9 @@ slice_bounds-note-end c =
 pub note-requires : goal.note-requires
 note-requires c =
     let named-room : length c.scopes.new.found ≡ 256 = search rules in
-    let room = named-room in
     let taken : length (take 64 c.scopes.new.found) ≡ 64 = length-take-le 64 c.scopes.new.found (omega arith) in
-    (c.masks.ensures.long ∙ c.contexts.ensures.long ∙ c.sets.ensures.long ∙ c.places.ensures.long ∙ c.clause_levels.ensures.long ∙ c.clauses-many.ensures.filled.long ∙ c.starts.ensures.long ∙ c.steps.ensures.long ∙ c.requires.1, omega arith, omega arith)
+    let long : length c.masks.new.plan ≡ 1024 = search rules in
+    (long, omega arith, omega arith)
 
 pub returns : goal.returns
 returns c =

@@ -15,5 +15,5 @@ bounds-kinds-left c =
 pub returns : goal.returns
 returns c =
     step-made (get_or c.args.nodes.now c.args.k 0) (get_or c.args.kinds.now c.left-left.result 0) c.seek.result (get_or c.args.next.now c.args.k 0)
-    (omega (arith, c.shared_slice_known-5-1.given c.args.k)) (omega (arith, c.shared_slice_known-6-1.given c.left-left.result)) (omega (arith, c.seek.ensures.within, c.requires.0.few))
+    (omega (arith, c.type_inv.nodes c.args.k)) (omega (arith, c.type_inv.kinds c.left-left.result)) (omega (arith, c.seek.ensures.within, c.requires.0.few))
     c.pack-2.result c.pack-2.ensures refl refl (λ l. rw c.left-left.ensures) (λ l. rw (← c.left-left.ensures) (placed c.seek.ensures))

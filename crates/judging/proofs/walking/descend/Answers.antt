@@ -1,12 +1,12 @@
 -- `judging::walking::descend` meets its contract. The invariant: the choice has the items of the first breaking choice that were found, and all is ready.
 -- Assumes nothing.
-use mathlib.Core.Path.{◌≡◌, refl, sym, ◌∙◌}
+use mathlib.Core.Path.{◌≡◌, ◌∙◌}
 use Prim.Native.Nat.{◌+◌, ◌-◌}
 use native.Mathlib.Omega.{arith}
 use lib.ListN.{length}
 use Rattle.judging.proofs.WalkingLaws.{once-for, after-for}
 use Rattle.judging.proofs.CountingLaws.{plan-runs}
-use Rattle.judging.proofs.DescendLaws.{stands_here, standing-at, ready-next, descending-next}
+use Rattle.judging.proofs.DescendLaws.{standing-at, ready-next, descending-next}
 use Rattle.judging.proofs.walking.descend.Goals as goal
 
 pub least-x-requires : goal.least-x-requires
