@@ -148,8 +148,8 @@ pub fn by_sets(names: &[u64], order: &[u8], d: usize) -> u64
     ensures { (result < 2 ^ 64) × SetsNamedFrom names.now order.now d result }
 {
     let mut found = 0;
-    for j in d..order.len() {
-        found = words::join(found, names[order[j] as usize]);
+    for &v in order.iter().skip(d) {
+        found = words::join(found, names[v as usize]);
     }
     found
 }

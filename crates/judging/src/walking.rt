@@ -109,7 +109,7 @@ fn descend(
 {
     let mut choice = kept::NOTHING;
     let mut at = mode;
-    for depth in 0..order.len() {
+    for (depth, &v) in order.iter().enumerate() {
         let here = turn(
             t,
             parsed,
@@ -124,7 +124,7 @@ fn descend(
             kept,
         );
         let x = least(t, &plan[..], here, order.len() - depth, choice, cache, kept);
-        choice = kept::put(choice, order[depth] as usize, x);
+        choice = kept::put(choice, v as usize, x);
         at = enter(t, &plan[..], here, depth + 1, choice, cache);
     }
     choice
