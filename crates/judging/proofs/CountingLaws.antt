@@ -15,7 +15,7 @@ use Rattle.walks.specs.Code.Context.{Alike}
 use Rattle.walks.specs.Code.Kept.{choice_of, Counted, unwritten, Keeping}
 use Rattle.walks.proofs.BytesLaws.{bytes-length, alike-key}
 use Rattle.walks.proofs.KeptLaws.{kept-hit, kept_on}
-use Rattle.walks.proofs.TurningLaws.{turning-start, turning-step, turning-end, turning-room, turning-last, counted-small, counted-whole}
+use Rattle.walks.proofs.TurningLaws.{turning-step, turning-end, turning-room, turning-last, counted-small, counted-whole}
 use Rattle.values.specs.Values.{value}
 use Rattle.values.specs.Sets.{set_of, in_set, names, names_in}
 use Rattle.values.specs.Code.Levels.{Level}
@@ -151,9 +151,6 @@ module _ {ts plan : List ℕ} {y : Layout} {T : Tables} {ρ : Rule} (P : Planned
   -- ---- the loop over the items of the variable at depth d
 
   module _ (mode d choice w : ℕ) where
-    pub items-start : w < 2 ^ 64 → TurningAt plan y T ρ mode d choice w w 0 0
-    items-start l = turning-start (in_set T (rule_vars [] ρ)) (clauses_of T ρ) (drop levels_from plan) y.order mode d (choice_of choice) w l
-
     pub items-end : {rest full breaking : ℕ} → d < length y.order → ((x : ℕ) → in_set T (rule_vars [] ρ) (get_or y.order d 0) (choice_of choice) x ≡ has w x)
         → TurningAt plan y T ρ mode d choice w rest full breaking → rest ≡ 0 → CountedAt plan y T ρ mode d choice full breaking
     items-end l e t z = turning-end (in_set T (rule_vars [] ρ)) (clauses_of T ρ) (drop levels_from plan) y.order mode d (choice_of choice) w l e t z

@@ -4,7 +4,7 @@ use mathlib.Core.Path.{◌≡◌, refl, sym, ap, subst, ◌∙◌}
 use mathlib.Core.Bool.{Bool, true}
 use mathlib.Core.List.{List, []}
 use mathlib.Core.Option.{some}
-use Prim.Native.Nat.{ℕ, zero, suc, ◌+◌, ◌-◌, ◌<◌, ◌^◌}
+use Prim.Native.Nat.{ℕ, zero, suc, ◌+◌, ◌-◌, ◌<◌}
 use native.Mathlib.Omega.{arith}
 use lib.ListN.{length, get_or, set, drop, replicate, length-replicate, get_or-replicate}
 use lib.Seq.{get_or-take}
@@ -28,7 +28,7 @@ use Rattle.walks.proofs.KeptLaws.{kept-none}
 use Rattle.walks.proofs.LoopLaws.{alike_next}
 use Rattle.walks.proofs.OnceLaws.{once-length}
 use Rattle.walks.proofs.OrderLaws.{at}
-use Rattle.walks.proofs.SummedLaws.{summed-start, summed-step, summed-end, sought-start, sought-hit, sought-past, walk-items}
+use Rattle.walks.proofs.SummedLaws.{summed-step, summed-end, sought-hit, sought-past, walk-items}
 use Rattle.walks.proofs.TurningLaws.{item-breaking}
 use Rattle.values.specs.Sets.{in_set, names, breaks}
 use Rattle.values.specs.Code.Plan.{plan_room, levels_from}
@@ -43,9 +43,6 @@ use Rattle.judging.proofs.CountingLaws.{set-in, caches-on, below-whole}
 pub record Seeking (w : ℕ) (f : ℕ → ℕ) (rest : ℕ) : Type 0 where
   pub sum : Summed w f rest 0
   pub sought : Sought w f rest 0 0
-
-pub seeking-start : (w : ℕ) (f : ℕ → ℕ) → w < 2 ^ 64 → Seeking w f w
-seeking-start w f l = record { sum = summed-start w f l; sought = sought-start 0 }
 
 module _ {w : ℕ} {f : ℕ → ℕ} {rest : ℕ} (p : Seeking w f rest) where
   pub seeking-past : (x : ℕ) → x < 64 → has rest x ≡ true → f x ≡ 0 → Seeking w f (less_of rest (item_of x))

@@ -1,6 +1,6 @@
 -- Filling in a plan: one number more, the words of nodes and clauses, and the words that contexts are joined from.
 -- Assumes nothing.
-use mathlib.Core.Path.{◌≡◌, refl, sym, ap, subst, ◌∙◌}
+use mathlib.Core.Path.{◌≡◌, refl, sym, ap, ◌∙◌}
 use mathlib.Core.Bool.{Bool}
 use mathlib.Core.List.{List}
 use Prim.Native.Nat.{ℕ, suc, ◌+◌, ◌*◌, ◌/◌, ◌%◌, ◌<◌, ◌≤◌, ◌^◌}
@@ -18,10 +18,9 @@ use Rattle.walks.specs.Code.Context.{Covers}
 use Rattle.walks.proofs.ContextLaws.{covers-left, covers-right}
 use Rattle.rules.specs.Code.Variables.{place_in}
 use Rattle.values.specs.Code.Clauses.{clause_count, clause_at, TestsAt}
-use Rattle.values.specs.Code.Levels.{Level}
 use Rattle.values.specs.Code.Plan.{plan_room, levels_from, step_of, node_in, kind_in, variable_in, next_in, first_in, second_in, Step}
 use Rattle.values.proofs.TruthLaws.{test-range}
-use Rattle.judging.specs.Code.Planning.{order_from, sets_from, contexts_from, scopes_from, Filled, Noted, LevelsWithin, ClauseWord, SetsNamedFrom, ClausesNamed, ContextWord}
+use Rattle.judging.specs.Code.Planning.{contexts_from, Filled, Noted, ClauseWord, SetsNamedFrom, ClausesNamed, ContextWord}
 
 -- ---- one number more
 
@@ -40,11 +39,9 @@ filled_more {old} {new} {at} {i} {P} F l v p = record {
     go j k (yes e) = rw (e, get_or-set_same new (at + i) v 0 (omega (arith, F.long))) p
     go j k (no ne) = rw (get_or-set_other new (at + i) (at + j) v 0 (λ q. ne (omega arith))) (F.inside j (omega arith))
 
--- at the front
-pub filled-front : {old new : List ℕ} {i : ℕ} {P : ℕ → ℕ → Type 0} → Filled old new 0 i P → i < length old → (v : ℕ) → P i v → Filled old (set new i v) 0 (i + 1) P
-filled-front {old} {new} {i} {P} F l v p =
-    let z : 0 + i ≡ i = omega arith in
-    subst (λ (k : ℕ). Filled old (set new k v) 0 (i + 1) P) z (filled_more F (omega arith) v p)
+-- what holds of each word of a part
+pub filled-as : {old new : List ℕ} {at n : ℕ} {P Q : ℕ → ℕ → Type 0} → Filled old new at n P → ((i w : ℕ) → i < n → P i w → Q i w) → Filled old new at n Q
+filled-as F f = record { long = F.long; inside = λ i l. f i _ l (F.inside i l); outside = F.outside }
 
 -- ---- the words
 
@@ -85,9 +82,6 @@ pub record Rest (ns : List ℕ) (ρ : Rule) (i at : ℕ) : Type 0 where
   pub many : clause_count ρ ≡ i + clause_count rule
   pub same : (j : ℕ) → clause_at ρ (i + j) ≡ clause_at rule j
 
-pub rest-start : (ns : List ℕ) (ρ : Rule) (root : ℕ) → HoldsRule ns root ρ → Rest ns ρ 0 root
-rest-start ns ρ root x = record { rule = ρ; holds = x; many = omega arith; same = λ j. let e : 0 + j ≡ j = omega arith in ap (clause_at ρ) e }
-
 clause-op : (ns : List ℕ) (k : ℕ) (q : Clause) → HoldsClause ns k q → op_at ns k < also_op
 unfolding HoldsClause
 clause-op ns k (plain p) x = omega (arith, (test-range ns k p x).most)
@@ -127,12 +121,9 @@ module _ (ns : List ℕ) (ρ : Rule) (i at : ℕ) where
   pub rest-last : Rest ns ρ i at → (op_at ns at ≡ also_op → ⊥) → HoldsClause ns at (clause_at ρ i) × (clause_count ρ ≡ i + 1)
   rest-last R o = last-parts R.rule R.holds R.many R.same o
 
-pub clause-made : {ns : List ℕ} {n root i k first second : ℕ} → first < 4294967296 → TestsAt ns n k first second
-    → ((ρ : Rule) → HoldsRule ns root ρ → HoldsClause ns k (clause_at ρ i)) → ClauseWord ns n root i (first + 4294967296 * second)
-clause-made {ns} {n} {root} {i} {k} {first} {second} l t h =
-    let a : first_in (first + 4294967296 * second) ≡ first = omega arith in
-    let b : second_in (first + 4294967296 * second) ≡ second = omega arith in
-    record { low = rw a t.low; low₂ = rw b t.low₂; clause = λ ρ x m. rw (a, b) (t.tests (clause_at ρ i) (h ρ x)) }
+pub clause-made : {ns : List ℕ} {n root i k w : ℕ} → TestsAt ns n k (first_in w) (second_in w)
+    → ((ρ : Rule) → HoldsRule ns root ρ → HoldsClause ns k (clause_at ρ i)) → ClauseWord ns n root i w
+clause-made {i = i} t h = record { low = t.low; low₂ = t.low₂; clause = λ ρ x m. t.tests (clause_at ρ i) (h ρ x) }
 
 -- ---- words joined
 
@@ -146,9 +137,6 @@ pub joined_small : (a b r : ℕ) → r ≡ join_of a b → r < 2 ^ 64
 joined_small a b r e = rw e (join-lt a b)
 
 -- ---- what a context has
-
-pub context-less : (names levels scopes order : List ℕ) (many at r : ℕ) → at < 8 → SetsNamedFrom names order (at % 8) r → ContextWord names levels scopes order many at r
-context-less names levels scopes order many at r l h = record { sets = h; clauses = λ m. absurd (omega arith) }
 
 pub context-both : (names levels scopes order : List ℕ) (many at a b r : ℕ) → a < 2 ^ 64 → b < 2 ^ 64 → r ≡ join_of a b → SetsNamedFrom names order (at % 8) a
     → ClausesNamed levels scopes 0 many (at % 8) b → ContextWord names levels scopes order many at r
@@ -167,19 +155,7 @@ pub levels-same : (old new : List ℕ) (many k : ℕ) (P : ℕ → ℕ → Type 
 levels-same old new many k P l F i m =
     get_or-drop levels_from new i 0 ∙ F.outside (levels_from + i) (λ h. absurd (omega arith)) ∙ sym (get_or-drop levels_from old i 0)
 
--- They are still where they were put, none above that of the last variable.
-pub levels-in : {a b c d order : List ℕ} (scopes : List ℕ) {many m k : ℕ} {P Q : ℕ → ℕ → Type 0} → many ≤ plan_room → Filled a b levels_from many (λ i w. Level order (has (get_or scopes i 0)) w)
-    → Filled b c order_from m P → Filled c d sets_from k Q → LevelsWithin d many (length order)
-levels-in scopes l F G H i m =
-    rw (H.outside (levels_from + i) (λ h. absurd (omega arith)) ∙ G.outside (levels_from + i) (λ h. absurd (omega arith))) (F.inside i m).within
-
 -- ---- what is noted for the search
-
-pub noted-none : (old : List ℕ) → Noted old old
-noted-none old = record { long = refl; below = λ j l. refl }
-
-pub noted_more : {old new : List ℕ} → Noted old new → (at v : ℕ) → scopes_from ≤ at → Noted old (set new at v)
-noted_more {old} {new} N at v l = record { long = length-set new at v ∙ N.long; below = λ j m. get_or-set_other new at j v 0 (λ e. omega arith) ∙ N.below j m }
 
 pub noted-then : {a b c : List ℕ} → Noted a b → Noted b c → Noted a c
 noted-then N M = record { long = M.long ∙ N.long; below = λ j l. M.below j l ∙ N.below j l }

@@ -151,10 +151,8 @@ pub fn entered(t: &[u64], plan: &[u64], d: usize, choice: u64, cache: &mut [u64]
     ensures { EntersTo t.now plan.now d choice cache.old cache.new result }
 {
     let mut mode = 1;
-    let mut level = 0;
-    while level <= d {
+    for level in 0..=d {
         mode = enter(t, plan, mode, level, choice, cache);
-        level += 1;
     }
     mode
 }

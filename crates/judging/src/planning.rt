@@ -3,8 +3,9 @@ ghost use Rattle.std.specs.Prelude.{◌≡◌, ℕ, ◌+◌, ◌<◌, ◌≤◌,
 ghost use Rattle.words.specs.Words.{has};
 ghost use Rattle.syntax.specs.Code.Arena.{Tidy};
 ghost use Rattle.walks.specs.Code.Kept.{Masks};
+ghost use Rattle.values.specs.Code.Clauses.{TestsAt};
 ghost use Rattle.values.specs.Code.Levels.{Level};
-ghost use Rattle.values.specs.Code.Plan.{plan_length, plan_room, levels_from, starts_from, Step};
+ghost use Rattle.values.specs.Code.Plan.{plan_length, plan_room, levels_from, starts_from, first_in, second_in, Step};
 ghost use Rattle.judging.specs.Code.Planning.{order_from, sets_from, contexts_from, masks_from, scopes_from, Filled, Noted, Plannable, ClauseWords, ClausesLow, LevelsWithin, Scoped, SetsNamedFrom, ClausesNamed, ContextWord, Laid, Plans};
 
 use rules::RULE_LIMIT;
@@ -34,6 +35,16 @@ pub const VARIABLE_COUNT: usize = 850;
 
 const TEST_ROOM: u64 = 4294967296;
 
+// Fills in the n words of the plan from `at` on.
+fn fill<F: Fn(usize) -> u64>(plan: &mut [u64], at: usize, n: usize, f: F)
+    requires { (at + n ≤ length plan.old) × (length plan.old ≡ plan_length) × ((i : ℕ) → i < n → F.pre f i) }
+    ensures { Filled plan.old plan.new at n (F.post f) }
+{
+    for i in 0..n {
+        plan[at + i] = f(i);
+    }
+}
+
 // The word of node k.
 fn word(nodes: &[u32], n: usize, kinds: &[u8], vars: &[u32], next: &[u32], k: usize) -> u64
     requires { Plannable nodes.now n kinds.now vars.now next.now × (k < n) }
@@ -57,11 +68,7 @@ fn steps(plan: &mut [u64], nodes: &[u32], n: usize, kinds: &[u8], vars: &[u32], 
     requires { Plannable nodes.now n kinds.now vars.now next.now × (length plan.old ≡ plan_length) }
     ensures { Filled plan.old plan.new 0 n (Step nodes.now kinds.now vars.now next.now) }
 {
-    let mut k = 0;
-    while k < n {
-        plan[k] = word(nodes, n, kinds, vars, next, k);
-        k += 1;
-    }
+    fill(plan, 0, n, |k| word(nodes, n, kinds, vars, next, k));
 }
 
 // The first nodes of the levels.
@@ -69,11 +76,16 @@ fn starts(plan: &mut [u64], first: &[u32])
     requires { (length plan.old ≡ plan_length) × (length first.now ≡ 9) }
     ensures { Filled plan.old plan.new starts_from 9 (λ d w. w ≡ get_or first.now d 0) }
 {
-    let mut d = 0;
-    while d < 9 {
-        plan[STARTS + d] = first[d] as u64;
-        d += 1;
-    }
+    fill(plan, STARTS, 9, |d| first[d] as u64);
+}
+
+// The word of the clause of node k.
+fn clause(nodes: &[u32], n: usize, k: usize) -> u64
+    requires { Tidy nodes.now n × (k < n) }
+    ensures { TestsAt nodes.now n k (first_in result) (second_in result) }
+{
+    let tests = tests_at(nodes, n, k);
+    (tests.first as u64) + TEST_ROOM * (tests.second as u64)
 }
 
 // The clauses, by the nodes of their tests; how many there are.
@@ -83,14 +95,13 @@ fn clauses(plan: &mut [u64], nodes: &[u32], n: usize, root: usize) -> usize
 {
     let mut at = root;
     let mut i = 0;
+    // Stays a while: it goes along the rule's nodes, and i counts its steps.
     while nodes::operation(nodes[at]) == ALSO {
-        let tests = tests_at(nodes, n, nodes::left(nodes[at]) as usize);
-        plan[CLAUSES + i] = (tests.first as u64) + TEST_ROOM * (tests.second as u64);
+        plan[CLAUSES + i] = clause(nodes, n, nodes::left(nodes[at]) as usize);
         at = nodes::right(nodes[at]) as usize;
         i += 1;
     }
-    let tests = tests_at(nodes, n, at);
-    plan[CLAUSES + i] = (tests.first as u64) + TEST_ROOM * (tests.second as u64);
+    plan[CLAUSES + i] = clause(nodes, n, at);
     i + 1
 }
 
@@ -99,11 +110,9 @@ pub fn scopes(plan: &[u64], names: &[u64], many: usize, found: &mut [u64])
     requires { (length plan.now ≡ plan_length) × (many ≤ plan_room) × (length found.old ≡ plan_room) × ClausesLow plan.now many (length names.now) }
     ensures { Scoped plan.now names.now many found.new }
 {
-    let mut i = 0;
-    while i < many {
+    for i in 0..many {
         let w = plan[CLAUSES + i];
         found[i] = values::scopes::clause(names, (w % TEST_ROOM) as u32, (w / TEST_ROOM) as u32);
-        i += 1;
     }
 }
 
@@ -112,11 +121,9 @@ fn clause_levels(plan: &mut [u64], scopes: &[u64], many: usize, order: &[u8])
     requires { (length plan.old ≡ plan_length) × (many ≤ plan_room) × (length scopes.now ≡ plan_room) × (length order.now ≤ 8) × ((i : ℕ) → i < length order.now → get_or order.now i 0 < 64) }
     ensures { Filled plan.old plan.new levels_from many (λ i w. Level order.now (has (get_or scopes.now i 0)) w) }
 {
-    let mut i = 0;
-    while i < many {
-        plan[LEVELS + i] = values::levels::level(scopes[i], order) as u64;
-        i += 1;
-    }
+    fill(plan, LEVELS, many, |i| {
+        values::levels::level(scopes[i], order) as u64
+    });
 }
 
 // The variables in their order.
@@ -124,11 +131,7 @@ fn places(plan: &mut [u64], order: &[u8])
     requires { (length plan.old ≡ plan_length) × (length order.now ≤ 8) }
     ensures { Filled plan.old plan.new order_from (length order.now) (λ d w. w ≡ get_or order.now d 0) }
 {
-    let mut d = 0;
-    while d < order.len() {
-        plan[ORDER + d] = order[d] as u64;
-        d += 1;
-    }
+    fill(plan, ORDER, order.len(), |d| order[d] as u64);
 }
 
 // The nodes of their sets.
@@ -136,11 +139,7 @@ fn sets(plan: &mut [u64], vars: &[u32], order: &[u8])
     requires { (length plan.old ≡ plan_length) × (length order.now ≤ 8) × (length vars.now ≤ 8) × ((i : ℕ) → i < length order.now → get_or order.now i 0 < length vars.now) }
     ensures { Filled plan.old plan.new sets_from (length order.now) (λ d w. w ≡ get_or vars.now (get_or order.now d 0) 0) }
 {
-    let mut d = 0;
-    while d < order.len() {
-        plan[SETS + d] = vars[order[d] as usize] as u64;
-        d += 1;
-    }
+    fill(plan, SETS, order.len(), |d| vars[order[d] as usize] as u64);
 }
 
 // What the sets of the variables from depth d on name.
@@ -149,10 +148,8 @@ pub fn by_sets(names: &[u64], order: &[u8], d: usize) -> u64
     ensures { (result < 2 ^ 64) × SetsNamedFrom names.now order.now d result }
 {
     let mut found = 0;
-    let mut j = d;
-    while j < order.len() {
-        found = words::join(found, names[order[j] as usize]);
-        j += 1;
+    for &v in order.iter().skip(d) {
+        found = words::join(found, names[v as usize]);
     }
     found
 }
@@ -163,12 +160,10 @@ pub fn by_clauses(plan: &[u64], scopes: &[u64], from: usize, to: usize, d: usize
     ensures { (result < 2 ^ 64) × ClausesNamed (drop levels_from plan.now) scopes.now from to d result }
 {
     let mut found = 0;
-    let mut i = from;
-    while i < to {
+    for i in from..to {
         if d < plan[LEVELS + i] as usize {
             found = words::join(found, scopes[i]);
         }
-        i += 1;
     }
     found
 }
@@ -193,11 +188,8 @@ fn contexts(plan: &mut [u64], names: &[u64], scopes: &[u64], many: usize, order:
     requires { (length names.now ≡ 8) × (length plan.old ≡ plan_length) × (length scopes.now ≡ plan_room) × (many ≤ plan_room) × (length order.now ≤ 8) × ((i : ℕ) → i < length order.now → get_or order.now i 0 < 8) × LevelsWithin plan.old many (length order.now) }
     ensures { Filled plan.old plan.new contexts_from 16 (λ at w. ContextWord names.now (drop levels_from plan.old) scopes.now order.now many at w) }
 {
-    let mut at = 0;
-    while at < 16 {
-        let found = context(names, &plan[..], scopes, many, order, at);
-        plan[CONTEXTS + at] = found;
-        at += 1;
+    for at in 0..16 {
+        plan[CONTEXTS + at] = context(names, &plan[..], scopes, many, order, at);
     }
 }
 
@@ -206,11 +198,8 @@ fn masks(plan: &mut [u64])
     requires { length plan.old ≡ plan_length }
     ensures { Filled plan.old plan.new masks_from 16 (λ j w. Masks (get_or plan.old (contexts_from + j) 0) w) }
 {
-    let mut j = 0;
-    while j < 16 {
-        let mask = spread(plan[CONTEXTS + j]);
-        plan[MASKS + j] = mask;
-        j += 1;
+    for j in 0..16 {
+        plan[MASKS + j] = spread(plan[CONTEXTS + j]);
     }
 }
 
@@ -219,11 +208,7 @@ fn note(plan: &mut [u64], at: usize, found: &[u64])
     requires { (length plan.old ≡ plan_length) × (scopes_from ≤ at) × (at + length found.now ≤ plan_length) }
     ensures { Noted plan.old plan.new }
 {
-    let mut i = 0;
-    while i < found.len() {
-        plan[at + i] = found[i];
-        i += 1;
-    }
+    plan[at..at + found.len()].copy_from_slice(found);
 }
 
 // The kinds of the sets.
@@ -231,11 +216,7 @@ fn sorts(plan: &mut [u64], kinds: &[u8], vars: &[u32])
     requires { (length plan.old ≡ plan_length) × (length vars.now ≤ 8) × ((i : ℕ) → i < length vars.now → get_or vars.now i 0 < length kinds.now) }
     ensures { Noted plan.old plan.new }
 {
-    let mut v = 0;
-    while v < vars.len() {
-        plan[KINDS + v] = kinds[vars[v] as usize] as u64;
-        v += 1;
-    }
+    fill(plan, KINDS, vars.len(), |v| kinds[vars[v] as usize] as u64);
 }
 
 // The plan of a rule along an order, over whatever the lent words held.

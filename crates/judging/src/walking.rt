@@ -3,6 +3,7 @@
 ghost use Rattle.std.specs.Prelude.{◌≡◌, ◌+◌, ◌<◌, ◌≤◌, length};
 ghost use Rattle.values.specs.Code.Plan.{plan_length};
 ghost use Rattle.values.specs.Code.Multiplied.{CeilingBy};
+ghost use Rattle.judging.specs.Code.Planning.{Laid, Plans};
 ghost use Rattle.judging.specs.Code.Counting.{no_choice};
 ghost use Rattle.judging.specs.Code.Walking.{Ordered, Lays, Stands, Descends, CountsBy, WalksBy};
 ghost use Rattle.judging.specs.Code.Lent.{vars_of, LentBy};
@@ -17,41 +18,36 @@ use walks::{Tally, kept};
 // So few choices do with few slots.
 const FEW: u64 = 128;
 
+// Lays the plan along an order.
+fn lay_along(parsed: &Parsed, order: &[u8], plan: &mut [u64])
+    requires { Laid parsed.now.nodes parsed.now.n parsed.now.kinds (vars_of parsed.now) parsed.now.root order.now × (parsed.now.count ≤ 8) × (length plan.old ≡ plan_length) }
+    ensures { Plans parsed.now.nodes parsed.now.n parsed.now.kinds (vars_of parsed.now) parsed.now.root order.now plan.new }
+{
+    planning::plan(
+        &parsed.nodes,
+        parsed.n,
+        &parsed.kinds,
+        &parsed.vars[..parsed.count],
+        parsed.root,
+        order,
+        plan,
+    );
+}
+
 // Lays the plan along an order of our own that begins with the first `begun` variables of the caller's, where one was found, or along the caller's.
 fn lay(t: &[u64], parsed: Parsed, order: &[u8], begun: usize, plan: &mut [u64])
     requires { LentBy t.now parsed × Ordered parsed order.now × (begun ≤ length order.now) × (length plan.old ≡ plan_length) }
     ensures { Lays t.now parsed order.now begun plan.new }
 {
-    let kinds = parsed.kinds;
-    let all = parsed.vars;
     let count = parsed.count;
-    let vars = &all[..count];
     let found = orders::own(t, &plan[..], order, begun);
     let own = &found[..count];
-    let names = values::names::names(&parsed.nodes, parsed.n, vars);
-    if walks::ordered(&names, own, count) {
-        if walks::begins_alike(own, order, begun) {
-            planning::plan(
-                &parsed.nodes,
-                parsed.n,
-                &kinds,
-                vars,
-                parsed.root,
-                own,
-                plan,
-            );
-            return;
-        }
+    let names = values::names::names(&parsed.nodes, parsed.n, &parsed.vars[..count]);
+    if walks::ordered(&names, own, count) && walks::begins_alike(own, order, begun) {
+        lay_along(&parsed, own, plan);
+    } else {
+        lay_along(&parsed, order, plan);
     }
-    planning::plan(
-        &parsed.nodes,
-        parsed.n,
-        &kinds,
-        vars,
-        parsed.root,
-        order,
-        plan,
-    );
 }
 
 // The plan for the counts: along the caller's order, unless another is worth it. The ceiling on full choices.
@@ -60,27 +56,11 @@ pub fn lay_first(t: &[u64], parsed: Parsed, order: &[u8], plan: &mut [u64]) -> u
     ensures lays { Lays t.now parsed order.now 0 plan.new }
     ensures ceiling_by { CeilingBy t.now parsed.kinds (vars_of parsed) result }
 {
-    let kinds = parsed.kinds;
-    let all = parsed.vars;
-    let count = parsed.count;
-    let vars = &all[..count];
-    planning::plan(
-        &parsed.nodes,
-        parsed.n,
-        &kinds,
-        vars,
-        parsed.root,
-        order,
-        plan,
-    );
-    let many = ceiling(t, &kinds, vars);
-    if many < orders::SEARCHED_FROM {
-        return many;
+    lay_along(&parsed, order, plan);
+    let many = ceiling(t, &parsed.kinds, &parsed.vars[..parsed.count]);
+    if orders::SEARCHED_FROM <= many && orders::worth(t, &plan[..], order) {
+        lay(t, parsed, order, 0, plan);
     }
-    if !orders::worth(t, &plan[..], order) {
-        return many;
-    }
-    lay(t, parsed, order, 0, plan);
     many
 }
 
@@ -129,8 +109,7 @@ fn descend(
 {
     let mut choice = kept::NOTHING;
     let mut at = mode;
-    let mut depth = 0;
-    while depth < order.len() {
+    for (depth, &v) in order.iter().enumerate() {
         let here = turn(
             t,
             parsed,
@@ -145,9 +124,8 @@ fn descend(
             kept,
         );
         let x = least(t, &plan[..], here, order.len() - depth, choice, cache, kept);
-        choice = kept::put(choice, order[depth] as usize, x);
+        choice = kept::put(choice, v as usize, x);
         at = enter(t, &plan[..], here, depth + 1, choice, cache);
-        depth += 1;
     }
     choice
 }
@@ -194,7 +172,7 @@ pub fn whole(t: &[u64], parsed: Parsed, order: &[u8]) -> Tally
         return known(t, parsed, order, 0, 0);
     }
     let mode = entered(t, &plan, 0, kept::NOTHING, &mut cache);
-    if order.len() == 0 {
+    if order.is_empty() {
         return Tally {
             full: 1,
             breaking: (1 - mode) as u64,

@@ -9,6 +9,7 @@ ghost use Rattle.values.specs.Code.Plan.{plan_length, plan_room};
 ghost use Rattle.orders.specs.Code.Desk.{desk_length, most};
 
 use rules::{CHOICES_LIMIT, RULE_LIMIT};
+use std::array;
 use syntax::nodes;
 use syntax::nodes::{AO, FIRST_CALL, MEMBER, OE};
 use values::ceiling;
@@ -66,18 +67,19 @@ const SHARE: u64 = 1024;
 
 const TRIES_LIMIT: u64 = 1000;
 
-// The smaller of two numbers.
-fn capped(x: u64, top: u64) -> u64
-    ensures { result ≤ top }
-{
-    if x < top { x } else { top }
-}
-
 // As many runs of a loop over as many items.
 fn times(runs: u64, items: u64) -> u64
     ensures { result ≤ most }
 {
-    capped(capped(runs, MOST) * capped(items, WIDEST), MOST)
+    (runs.min(MOST) * items.min(WIDEST)).min(MOST)
+}
+
+// The words of what the clauses name.
+fn scopes(plan: &[u64]) -> &[u64]
+    requires { length plan.now ≡ plan_length }
+{
+    let many = (plan[CLAUSE_COUNT] as usize).min(SCOPE_ROOM);
+    &plan[SCOPES..SCOPES + many]
 }
 
 // What is left names where those variables are chosen: the sets of the others, and the clauses that name one of them.
@@ -85,20 +87,15 @@ fn context(plan: &[u64], n: usize, chosen: u64) -> u64
     requires { (length plan.now ≡ plan_length) × (n ≤ choices_limit) }
 {
     let mut found = 0;
-    let mut v = 0;
-    while v < n {
+    for (v, &set) in plan[NAMES..NAMES + n].iter().enumerate() {
         if !words::contains(chosen, v) {
-            found = words::join(found, plan[NAMES + v]);
+            found = words::join(found, set);
         }
-        v += 1;
     }
-    let many = words::least(plan[CLAUSE_COUNT] as usize, SCOPE_ROOM);
-    let mut i = 0;
-    while i < many {
-        if words::less(plan[SCOPES + i], chosen) != 0 {
-            found = words::join(found, plan[SCOPES + i]);
+    for &clause in scopes(plan) {
+        if words::less(clause, chosen) != 0 {
+            found = words::join(found, clause);
         }
-        i += 1;
     }
     words::meet(found, chosen)
 }
@@ -107,15 +104,9 @@ fn context(plan: &[u64], n: usize, chosen: u64) -> u64
 fn settled(plan: &[u64], chosen: u64) -> bool
     requires { length plan.now ≡ plan_length }
 {
-    let many = words::least(plan[CLAUSE_COUNT] as usize, SCOPE_ROOM);
-    let mut i = 0;
-    while i < many {
-        if words::less(plan[SCOPES + i], chosen) == 0 {
-            return true;
-        }
-        i += 1;
-    }
-    false
+    scopes(plan)
+        .iter()
+        .any(|&clause| words::less(clause, chosen) == 0)
 }
 
 // One more than the last of the first d places whose variable is in the word, or 0.
@@ -123,14 +114,10 @@ fn latest(desk: &[u64], d: usize, word: u64) -> usize
     requires { (length desk.now ≡ desk_length) × (d ≤ choices_limit) }
     ensures { result ≤ d }
 {
-    let mut j = d;
-    while 0 < j {
-        if words::contains(word, (desk[AT + j - 1] % VARIABLES) as usize) {
-            return j;
-        }
-        j -= 1;
-    }
-    0
+    desk[AT..AT + d]
+        .iter()
+        .rposition(|&v| words::contains(word, (v % VARIABLES) as usize))
+        .map_or(0, |j| j + 1)
 }
 
 // How many items the variable at the place j has.
@@ -163,14 +150,14 @@ fn runs(desk: &[u64], d: usize, word: u64) -> u64
     if b == 0 {
         return size;
     }
-    capped(times(tried(desk, b - 1), size), tried(desk, d - 1))
+    times(tried(desk, b - 1), size).min(tried(desk, d - 1))
 }
 
 // What an item of the variable v costs: evaluating it and, unless it is the last variable's, looking for what is kept below it.
 fn item_price(desk: &[u64], v: usize, last: bool) -> u64
     requires { (length desk.now ≡ desk_length) × (v < choices_limit) }
 {
-    let weight = capped(desk[WEIGHTS + v], MOST);
+    let weight = desk[WEIGHTS + v].min(MOST);
     if last {
         return weight;
     }
@@ -194,11 +181,7 @@ fn prefer(desk: &mut [u64], cost: u64)
     ensures { length desk.new ≡ desk_length }
 {
     desk[COST] = cost;
-    let mut i = 0;
-    while i < CHOICES_LIMIT {
-        desk[FOUND + i] = desk[AT + i];
-        i += 1;
-    }
+    desk.copy_within(AT..AT + CHOICES_LIMIT, FOUND);
 }
 
 // Whether the variable v may stand at depth d: it is not chosen, its set names chosen ones alone, and an order that has begun goes on so.
@@ -233,11 +216,10 @@ fn seek(plan: &[u64], desk: &mut [u64], n: usize, begun: usize, d: usize, chosen
     let here = runs(&desk[..], d, context(plan, n, chosen));
     let less = settled(plan, chosen);
     desk[RUNS + d] = here;
-    let mut v = 0;
-    while v < n {
+    for v in 0..n {
         if admits(plan, &desk[..], begun, d, v, chosen) {
             let each = item_price(&desk[..], v, d + 1 == n);
-            let next = capped(cost, MOST) + price(times(here, desk[SIZES + v]), each, less);
+            let next = cost.min(MOST) + price(times(here, desk[SIZES + v]), each, less);
             if next < desk[COST] {
                 desk[AT + d] = v as u64;
                 seek(
@@ -251,7 +233,6 @@ fn seek(plan: &[u64], desk: &mut [u64], n: usize, begun: usize, d: usize, chosen
                 );
             }
         }
-        v += 1;
     }
 }
 
@@ -267,13 +248,11 @@ fn lay_out(t: &[u64], plan: &[u64], order: &[u8], begun: usize, desk: &mut [u64]
     requires { Whole t.now × (length plan.now ≡ plan_length) × (length order.now ≤ choices_limit) × (begun ≤ choices_limit) × (length desk.old ≡ desk_length) }
     ensures { length desk.new ≡ desk_length }
 {
-    let mut i = 0;
-    while i < order.len() {
-        let v = (order[i] % LIMIT) as usize;
+    for (i, &variable) in order.iter().enumerate() {
+        let v = (variable % LIMIT) as usize;
         desk[AT + i] = v as u64;
         let size = items_of(t, plan, v);
         desk[SIZES + v] = if i + 1 < begun { 1 } else { size };
-        i += 1;
     }
 }
 
@@ -281,13 +260,7 @@ fn lay_out(t: &[u64], plan: &[u64], order: &[u8], begun: usize, desk: &mut [u64]
 fn cheapest(desk: &[u64]) -> [u8; CHOICES_LIMIT]
     requires { length desk.now ≡ desk_length }
 {
-    let mut own = [0u8; CHOICES_LIMIT];
-    let mut i = 0;
-    while i < CHOICES_LIMIT {
-        own[i] = (desk[FOUND + i] % VARIABLES) as u8;
-        i += 1;
-    }
-    own
+    array::from_fn(|i| (desk[FOUND + i] % VARIABLES) as u8)
 }
 
 // How much evaluating a node weighs.
@@ -309,12 +282,10 @@ fn add(desk: &mut [u64], word: u64, weight: u64)
     requires { (length desk.old ≡ desk_length) × (weight ≤ most) }
     ensures { length desk.new ≡ desk_length }
 {
-    let mut v = 0;
-    while v < CHOICES_LIMIT {
+    for v in 0..CHOICES_LIMIT {
         if words::contains(word, v) {
-            desk[WEIGHTS + v] = capped(desk[WEIGHTS + v], MOST) + weight;
+            desk[WEIGHTS + v] = desk[WEIGHTS + v].min(MOST) + weight;
         }
-        v += 1;
     }
 }
 
@@ -350,13 +321,10 @@ fn weigh(plan: &[u64], desk: &mut [u64])
     ensures { length desk.new ≡ desk_length }
 {
     let mut names = [0u64; RULE_LIMIT];
-    let many = words::least(plan[NODE_COUNT] as usize, RULE_LIMIT);
-    let mut k = 0;
-    while k < many {
-        let word = plan[k];
+    let many = (plan[NODE_COUNT] as usize).min(RULE_LIMIT);
+    for (k, &word) in plan[..many].iter().enumerate() {
         names[k] = named(word, &names);
         add(desk, names[k], weight(word));
-        k += 1;
     }
 }
 
@@ -379,7 +347,7 @@ pub fn own(t: &[u64], plan: &[u64], order: &[u8], begun: usize) -> [u8; CHOICES_
     let mut desk = [NODE; DESK];
     weigh(plan, &mut desk);
     let cost = reckon(t, plan, order, begun, &mut desk);
-    desk[TRIES] = capped(cost / SHARE, TRIES_LIMIT);
+    desk[TRIES] = (cost / SHARE).min(TRIES_LIMIT);
     seek(plan, &mut desk, order.len(), begun, 0, 0, 0);
     cheapest(&desk)
 }

@@ -2,18 +2,14 @@
 -- two sums are those of the items but those of rest, and the cache and what is kept are right. Assumes nothing.
 use mathlib.Core.Path.{◌≡◌, refl, ap, ◌∙◌}
 use native.Mathlib.Omega.{arith}
-use lib.ListN.{length, get_or, set}
+use lib.ListN.{length, set}
 use Rattle.words.proofs.LoopLaws.{lowest-item, less-smaller}
 use Rattle.walks.specs.Code.Kept.{choice_of}
 use Rattle.walks.proofs.KeptLaws.{keeping-length}
-use Rattle.judging.specs.Code.Planning.{sets_from}
 use Rattle.judging.specs.Code.Counting.{depth_of}
-use Rattle.judging.proofs.CountingLaws.{plan-runs, set-small, set-in, caches-on, counted-fits, below-whole, below_last, below-hit, below-write, items-start, items-next, items-room, items-end, turned}
-use Prim.Native.Nat.{ℕ, ◌<◌, ◌+◌, ◌-◌, ◌^◌}
+use Rattle.judging.proofs.CountingLaws.{plan-runs, set-in, caches-on, counted-fits, below-whole, below_last, below-hit, below-write, items-next, items-room, items-end, turned}
+use Prim.Native.Nat.{ℕ, ◌<◌, ◌+◌, ◌-◌}
 use Rattle.judging.proofs.counting.+below_items.Goals as goal
-
-pub below-overflow_sub-result : goal.below-overflow_sub-result
-below-overflow_sub-result t c = omega (arith, c.requires.modes)
 
 pub below-returns-then-left-eq0 : goal.below-returns-then-left-eq0
 below-returns-then-left-eq0 t c =
@@ -22,38 +18,6 @@ below-returns-then-left-eq0 t c =
       slots = refl;
       goes = λ y T ρ P st ke. (below-whole P c.args.mode (depth_of c.args.plan.now c.args.left) c.args.choice c.requires.modes (omega (arith, P.turns.many, c.if-left-eq0.true)), st, ke);
     }
-
-pub below-bounds-plan-850 : goal.below-bounds-plan-850
-below-bounds-plan-850 t c =
-    omega (arith, c.requires.planned.long)
-
-pub below-overflow_sub-d : goal.below-overflow_sub-d
-below-overflow_sub-d t c =
-    omega (arith, c.requires.within)
-
-pub below-overflow_add-mode : goal.below-overflow_add-mode
-below-overflow_add-mode t c =
-    omega (arith, c.requires.modes, c.requires.within, c.requires.planned.turns.many, c.requires.planned.turns.short)
-
-pub below-overflow_add-d : goal.below-overflow_add-d
-below-overflow_add-d t c =
-    omega (arith, c.requires.planned.turns.many, c.requires.planned.turns.short)
-
-pub below-offset_bounds-plan-d : goal.below-offset_bounds-plan-d
-below-offset_bounds-plan-d t c =
-    omega (arith, c.requires.planned.turns.many, c.requires.planned.turns.short)
-
-pub below-bounds-plan-d : goal.below-bounds-plan-d
-below-bounds-plan-d t c =
-    omega (arith, c.requires.planned.turns.many, c.requires.planned.turns.short, c.requires.planned.long)
-
-pub below-offset_bounds-cache-plan : goal.below-offset_bounds-cache-plan
-below-offset_bounds-cache-plan t c =
-    omega (arith, set-small c.requires.planned (depth_of c.args.plan.now c.args.left) (omega (arith, c.requires.planned.turns.many, c.requires.within, c.if-left-eq0.false)))
-
-pub below-bounds-cache-plan : goal.below-bounds-cache-plan
-below-bounds-cache-plan t c =
-    omega (arith, set-small c.requires.planned (depth_of c.args.plan.now c.args.left) (omega (arith, c.requires.planned.turns.many, c.requires.within, c.if-left-eq0.false)), c.requires.room)
 
 pub below-returns-then-mode-left-eq1 : goal.below-returns-then-mode-left-eq1
 below-returns-then-mode-left-eq1 t c =
@@ -67,41 +31,6 @@ below-returns-then-mode-left-eq1 t c =
         ke,
       );
     }
-
-pub below-overflow_mul-at : goal.below-overflow_mul-at
-below-overflow_mul-at t c =
-    omega (arith, c.requires.modes)
-
-pub below-overflow_add-at : goal.below-overflow_add-at
-below-overflow_add-at t c =
-    omega (arith, c.requires.modes, c.requires.planned.turns.many, c.requires.planned.turns.short)
-
-pub below-overflow_add-at-2 : goal.below-overflow_add-at-2
-below-overflow_add-at-2 t c =
-    omega (arith, c.requires.modes, c.requires.planned.turns.many, c.requires.planned.turns.short)
-
-pub below-offset_bounds-plan-at : goal.below-offset_bounds-plan-at
-below-offset_bounds-plan-at t c =
-    omega (arith, c.requires.modes, c.requires.planned.turns.many, c.requires.planned.turns.short)
-
-pub below-bounds-plan-at : goal.below-bounds-plan-at
-below-bounds-plan-at t c =
-    omega (arith, c.requires.modes, c.requires.planned.turns.many, c.requires.planned.turns.short, c.requires.planned.long, c.requires.within, c.if-left-eq0.false)
-
-pub below-slot-place-requires : goal.below-slot-place-requires
-below-slot-place-requires t c =
-    omega (arith, c.requires.modes, c.requires.planned.turns.many, c.requires.planned.turns.short, c.requires.within, c.if-left-eq0.false)
-
-pub below-hit-requires : goal.below-hit-requires
-below-hit-requires t c =
-    omega (arith, c.slot-place.ensures.is, c.slot-place.ensures.small, c.requires.modes, c.requires.planned.turns.many, c.requires.planned.turns.short, c.requires.within, c.if-left-eq0.false)
-
-pub below-taken-requires : goal.below-taken-requires
-below-taken-requires t c =
-    (omega (arith, c.slot-place.ensures.is, c.slot-place.ensures.small, c.requires.modes, c.requires.planned.turns.many, c.requires.planned.turns.short, c.requires.within, c.if-left-eq0.false), (c.hit.ensures c.if-hit.true).0, omega (arith, (c.hit.ensures c.if-hit.true).1))
-
-pub below-shape_of-kept-then-hit : goal.below-shape_of-kept-then-hit
-below-shape_of-kept-then-hit t c = refl
 
 pub below-returns-then-hit : goal.below-returns-then-hit
 below-returns-then-hit t c =
@@ -117,21 +46,9 @@ below-returns-then-hit t c =
       );
     }
 
-pub below-items-sum-requires : goal.below-items-sum-requires
-below-items-sum-requires t c =
-    (omega (arith, c.decreases), (c.requires, omega (arith, c.if-left-eq0.false)))
-
 pub below-keep-requires : goal.below-keep-requires
 below-keep-requires t c =
     (omega (arith, c.slot-place.ensures.is, c.slot-place.ensures.small, c.requires.modes, c.requires.planned.turns.many, c.requires.planned.turns.short, c.requires.within, c.if-left-eq0.false), counted-fits c.requires.planned c.args.choice (c.items-sum.ensures.goes c.requires.layout c.requires.tables c.requires.rule c.requires.planned c.requires.stored c.requires.keeps).0)
-
-pub below-shape_of-cache : goal.below-shape_of-cache
-below-shape_of-cache t c =
-    c.items-sum.ensures.room
-
-pub below-shape_of-kept : goal.below-shape_of-kept
-below-shape_of-kept t c =
-    keeping-length c.slot-place.result c.items-sum.result.full c.items-sum.result.breaking c.meet-key.result c.keep.ensures ∙ c.items-sum.ensures.slots
 
 pub below-returns : goal.below-returns
 below-returns t c =
@@ -144,67 +61,9 @@ below-returns t c =
           (r.0, r.1, below-write P c.args.mode d c.requires.modes (omega (arith, P.turns.many, c.requires.within, c.if-left-eq0.false)) c.slot-place.ensures c.args.choice c.meet-key.ensures r.2 r.0 c.keep.ensures);
     }
 
-pub items-bounds-plan-850 : goal.items-bounds-plan-850
-items-bounds-plan-850 t c = omega (arith, c.requires.0.planned.long)
-
-pub items-overflow_sub-d : goal.items-overflow_sub-d
-items-overflow_sub-d t c = omega (arith, c.requires.0.within)
-
-pub items-overflow_add-v : goal.items-overflow_add-v
-items-overflow_add-v t c = omega (arith, c.requires.0.planned.turns.many, c.requires.0.planned.turns.short)
-
-pub items-offset_bounds-plan-d : goal.items-offset_bounds-plan-d
-items-offset_bounds-plan-d t c = omega (arith, c.requires.0.planned.turns.many, c.requires.0.planned.turns.short)
-
-pub items-bounds-plan-d : goal.items-bounds-plan-d
-items-bounds-plan-d t c =
-    omega (arith, c.requires.0.planned.turns.many, c.requires.0.planned.turns.short, c.requires.0.planned.long)
-
-pub items-overflow_add-rest : goal.items-overflow_add-rest
-items-overflow_add-rest t c =
-    omega (arith, c.requires.0.planned.turns.many, c.requires.0.planned.turns.short)
-
-pub items-offset_bounds-plan-d-2 : goal.items-offset_bounds-plan-d-2
-items-offset_bounds-plan-d-2 t c =
-    omega (arith, c.requires.0.planned.turns.many, c.requires.0.planned.turns.short)
-
-pub items-bounds-plan-d-2 : goal.items-bounds-plan-d-2
-items-bounds-plan-d-2 t c =
-    omega (arith, c.requires.0.planned.turns.many, c.requires.0.planned.turns.short, c.requires.0.planned.long)
-
-pub items-offset_bounds-cache-plan : goal.items-offset_bounds-cache-plan
-items-offset_bounds-cache-plan t c =
-    omega (arith, set-small c.requires.0.planned (depth_of c.args.plan.now c.args.left) (omega (arith, c.requires.0.planned.turns.many, c.requires.0.within, c.requires.1)))
-
-pub items-bounds-cache-plan : goal.items-bounds-cache-plan
-items-bounds-cache-plan t c =
-    omega (arith, set-small c.requires.0.planned (depth_of c.args.plan.now c.args.left) (omega (arith, c.requires.0.planned.turns.many, c.requires.0.within, c.requires.1)), c.requires.0.room)
-
-pub items-loop-rest-init : goal.items-loop-rest-init
-items-loop-rest-init t c =
-    let d : ℕ = depth_of c.args.plan.now c.args.left in
-    let w : ℕ = get_or c.args.cache.now (get_or c.args.plan.now (sets_from + d) 0) 0 in
-    let fit : w < 2 ^ 64 = omega (arith, c.slice_known-3-1.given (get_or c.args.plan.now (sets_from + d) 0)) in
-    (refl, refl, fit, λ y T ρ P st ke. (items-start P c.args.mode d c.args.choice w fit, st, ke))
-
-pub items-put-chosen-requires : goal.items-put-chosen-requires
-items-put-chosen-requires t c =
-    let l = lowest-item c.loop-rest.invariant.2 c.loop-rest-test.true c.lowest-x.ensures in
-    let d : ℕ = depth_of c.args.plan.now c.args.left in
-    let lo : d < length c.requires.0.layout.order = omega (arith, c.requires.0.planned.turns.many, c.requires.0.within, c.requires.1) in
-    (omega (arith, c.requires.0.planned.turns.variables d lo, c.requires.0.planned.turns.known d lo, c.requires.0.planned.turns.few), omega arith)
-
-pub items-overflow_add-d : goal.items-overflow_add-d
-items-overflow_add-d t c =
-    omega (arith, c.requires.0.planned.turns.many, c.requires.0.planned.turns.short)
-
 pub items-enter-next-requires : goal.items-enter-next-requires
 items-enter-next-requires t c =
     (c.requires.0.planned.whole, plan-runs c.requires.0.planned, c.loop-rest.invariant.0 ∙ c.requires.0.room, omega (arith, c.requires.0.planned.turns.many, c.requires.0.planned.turns.short, c.requires.0.within, c.requires.1), c.requires.0.modes)
-
-pub items-overflow_sub-left : goal.items-overflow_sub-left
-items-overflow_sub-left t c =
-    omega (arith, c.requires.1)
 
 pub items-below-sum-requires : goal.items-below-sum-requires
 items-below-sum-requires t c =
@@ -268,12 +127,6 @@ items-loop-rest-preserved t c =
           let u = turned P c.args.choice c.lowest-x.result d (c.args.left - 1) lo deep c.put-chosen.ensures c.enter-next.ensures c.below-sum.ensures r.1 r.2 in
           (rw (c.less-rest.ensures, c.item.ensures) (items-next P c.args.mode d c.args.choice _ c.put-chosen.result c.lowest-x.result u.0 u.1 u.2 r.0 l (c.lowest-x.ensures.found l)), u.3, u.4),
     )
-
-pub items-shape_of-cache : goal.items-shape_of-cache
-items-shape_of-cache t c = c.loop-rest.invariant.0
-
-pub items-shape_of-kept : goal.items-shape_of-kept
-items-shape_of-kept t c = c.loop-rest.invariant.1
 
 pub items-returns : goal.items-returns
 items-returns t c =

@@ -1,7 +1,6 @@
 -- `judging::counting::entered` meets its contract. The invariant: the levels below this one were entered.
 -- Assumes nothing.
 use mathlib.Core.Path.{◌≡◌, refl, ◌∙◌}
-use Prim.Native.Nat.{◌+◌}
 use native.Mathlib.Omega.{arith}
 use lib.ListN.{drop}
 use Rattle.walks.specs.Code.Kept.{choice_of}
@@ -13,24 +12,19 @@ use Rattle.judging.proofs.counting.entered.Goals as goal
 
 pub loop-level-init : goal.loop-level-init
 loop-level-init c =
-    (omega arith, omega arith, refl, λ y T ρ P. (caches-none P c.args.choice c.requires.2, mode-start (clauses_of T ρ) (drop levels_from c.args.plan.now) (choice_of c.args.choice)))
-
-pub enter-mode-requires : goal.enter-mode-requires
-enter-mode-requires c =
-    (c.requires.0, c.requires.1, c.loop-level.invariant.2 ∙ c.requires.2, omega (arith, c.requires.3, c.loop-level-test.true), c.loop-level.invariant.0)
+    (omega arith, refl, λ y T ρ P. (caches-none P c.args.choice c.requires.2, mode-start (clauses_of T ρ) (drop levels_from c.args.plan.now) (choice_of c.args.choice)))
 
 pub loop-level-preserved : goal.loop-level-preserved
 loop-level-preserved c = (
   c.enter-mode.ensures.modes,
-  omega (arith, c.loop-level-test.true),
-  c.enter-mode.ensures.room ∙ c.loop-level.invariant.2,
-  λ y T ρ P. let r = c.loop-level.invariant.3 y T ρ P in let e = c.enter-mode.ensures.goes y T ρ P r.0 in (e.0, mode-next P e.1 r.1),
+  c.enter-mode.ensures.room ∙ c.loop-level.invariant.1,
+  λ y T ρ P. let r = c.loop-level.invariant.2 y T ρ P in let e = c.enter-mode.ensures.goes y T ρ P r.0 in (e.0, mode-next P e.1 r.1),
 )
 
-pub shape_of-cache : goal.shape_of-cache
-shape_of-cache c = c.loop-level.invariant.2
-
-pub returns : goal.returns
-returns c =
-    let all : c.loop-level.level ≡ c.args.d + 1 = omega (arith, c.loop-level-test.false, c.loop-level.invariant.1) in
-    record { modes = c.loop-level.invariant.0; room = c.loop-level.invariant.2; goes = λ y T ρ P. rw all at (c.loop-level.invariant.3 y T ρ P) }
+pub returns-2 : goal.returns-2
+returns-2 c =
+    let all : c.loop-level.level ≡ c.args.d = omega (arith, c.loop-level-test.true) in record {
+      modes = c.enter-mode.ensures.modes;
+      room = c.enter-mode.ensures.room ∙ c.loop-level.invariant.1;
+      goes = λ y T ρ P. let r = c.loop-level.invariant.2 y T ρ P in let e = c.enter-mode.ensures.goes y T ρ P r.0 in rw (← all) (e.0, mode-next P e.1 r.1);
+    }

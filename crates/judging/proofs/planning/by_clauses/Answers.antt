@@ -14,33 +14,6 @@ use Rattle.judging.proofs.PlanningLaws.{joined-left, joined-right, joined_small}
 use Rattle.judging.proofs.planning.by_clauses.Goals as goal
 use Rattle.judging.proofs.planning.by_clauses.Goals.{then-d-plan, else-d-plan}
 
-pub loop-i-init : goal.loop-i-init
-loop-i-init c = (omega arith, λ j b l k. absurd (omega arith))
-
-pub overflow_add-i : goal.overflow_add-i
-overflow_add-i c = omega (arith, c.requires.2, c.loop-i-test.true)
-
-pub offset_bounds-plan-i : goal.offset_bounds-plan-i
-offset_bounds-plan-i c = omega (arith, c.requires.2, c.loop-i-test.true)
-
-pub bounds-plan-i : goal.bounds-plan-i
-bounds-plan-i c = omega (arith, c.requires.0, c.requires.2, c.loop-i-test.true)
-
-pub offset_bounds-scopes-i : goal.offset_bounds-scopes-i
-offset_bounds-scopes-i c =
-    omega (arith, c.requires.2, c.loop-i-test.true)
-
-pub bounds-scopes-i : goal.bounds-scopes-i
-bounds-scopes-i c =
-    omega (arith, c.requires.1, c.requires.2, c.loop-i-test.true)
-
-pub overflow_add-i-in-loop-i : goal.overflow_add-i-in-loop-i
-overflow_add-i-in-loop-i c =
-    omega (arith, c.requires.2, c.loop-i-test.true)
-
-pub loop-i-smaller : goal.loop-i-smaller
-loop-i-smaller c = omega (arith, c.loop-i-test.true)
-
 pub loop-i-preserved : goal.loop-i-preserved
 loop-i-preserved c =
     let P : List ℕ = c.args.plan.now in
@@ -68,6 +41,3 @@ loop-i-preserved c =
             (eq-or-lt_of_le at_most),
       )
     ]
-
-pub returns : goal.returns
-returns c = (c.loop-i.invariant.0, λ j b l k. c.loop-i.invariant.1 j b (omega (arith, c.loop-i-test.false)) k)

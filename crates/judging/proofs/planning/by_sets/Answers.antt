@@ -1,51 +1,35 @@
--- `judging::planning::by_sets` meets its contract. The invariant: the word has those from d to below j.
+-- `judging::planning::by_sets` meets its contract. The invariant: the word has those of the variables that were passed.
 -- Assumes nothing.
-use mathlib.Core.Path.{◌≡◌}
+use mathlib.Core.Path.{◌≡◌, ◌∙◌}
+use mathlib.Core.List.{◌∷◌, []}
 use mathlib.Core.Logic.{⊎_elim}
-use Prim.Native.Nat.{ℕ, ◌<◌, ◌≤◌, ◌^◌}
+use Prim.Native.Nat.{ℕ, ◌+◌, ◌<◌, ◌≤◌, ◌^◌}
 use native.Mathlib.Nat.{eq-or-lt_of_le}
 use native.Mathlib.Omega.{arith}
-use lib.ListN.{get_or}
+use lib.ListN.{length, get_or, drop}
+use lib.Seq.{get_or-drop}
+use Rattle.std.proofs.Common.{◌++◌, length-append}
+use Rattle.std.proofs.lemmas.Grind.{get_or_default_zero}
+use Rattle.std.proofs.lemmas.Iterator.{YieldsList-from_slice}
+use Rattle.std.proofs.lemmas.Iterator.Adapters.{YieldsList-from_skip}
+use Rattle.std.proofs.lemmas.Iterator.Consumers.{YieldsList-turn}
 use Rattle.words.specs.Words.{has}
 use Rattle.judging.proofs.PlanningLaws.{joined-left, joined-right, joined_small}
 use Rattle.judging.proofs.planning.by_sets.Goals as goal
 
-pub loop-j-init : goal.loop-j-init
-loop-j-init c = (omega arith, omega arith, λ i l k m. absurd (omega arith))
-
-pub bounds-order-j : goal.bounds-order-j
-bounds-order-j c = omega (arith, c.loop-j-test.true)
-
-pub overflow_cast-order : goal.overflow_cast-order
-overflow_cast-order c = omega (arith, c.shared_slice_known-in-loop-j-1.given c.loop-j.j)
-
-pub offset_bounds-names-order : goal.offset_bounds-names-order
-offset_bounds-names-order c = omega (arith, c.requires.2 c.loop-j.j c.loop-j-test.true)
-
-pub bounds-names-order : goal.bounds-names-order
-bounds-names-order c =
-    omega (arith, c.requires.0, c.requires.2 c.loop-j.j c.loop-j-test.true)
-
-pub overflow_add-j : goal.overflow_add-j
-overflow_add-j c =
-    omega (arith, c.requires.1, c.loop-j-test.true)
-
-pub loop-j-smaller : goal.loop-j-smaller
-loop-j-smaller c = omega (arith, c.loop-j-test.true)
-
-pub loop-j-preserved : goal.loop-j-preserved
-loop-j-preserved c =
-    let w : ℕ = get_or c.args.names.now (get_or c.args.order.now c.loop-j.j 0) 0 in
-    let fit : w < 2 ^ 64 = omega (arith, c.shared_slice_known-in-loop-j-2-1.given (get_or c.args.order.now c.loop-j.j 0)) in (
-      omega (arith, c.loop-j.invariant.0),
-      joined_small c.loop-j.found w c.join-found.result c.join-found.ensures,
-      λ i l k m.
-          let at_most : i ≤ c.loop-j.j = omega arith in
+pub loop-v-preserved : goal.loop-v-preserved
+loop-v-preserved c =
+    let k : ℕ = length c.loop-v.yielded in
+    let more : length (c.loop-v.yielded ++ c.in-Some.field-0 ∷ []) ≡ k + 1 = search (arith, length-append) in
+    let turn = YieldsList-turn (YieldsList-from_skip c.args.d (YieldsList-from_slice c.args.order.now cc) cc) c.loop-v.yielded _ c.loop-v.yielded_by _ _ c.in-Some.field-0 c.in-Some.is c.next.ensures.steps in
+    let at : c.in-Some.field-0.now ≡ get_or c.args.order.now (c.args.d + k) 0 = turn.1 ∙ get_or_default_zero (drop c.args.d c.args.order.now) k _ turn.0 ∙ get_or-drop c.args.d c.args.order.now k 0 in
+    let w : ℕ = get_or c.args.names.now c.in-Some.field-0.now 0 in
+    let fit : w < 2 ^ 64 = omega (arith, c.type_inv.names c.in-Some.field-0.now) in (
+      joined_small c.loop-v.found w c.join-found.result c.join-found.ensures,
+      λ i l.
+          let at_most : i ≤ k = omega (arith, more) in
           ⊎_elim
-          (λ (e : i ≡ c.loop-j.j). rw e (joined-right c.loop-j.found w c.join-found.result c.join-found.ensures fit))
-          (λ (e : i < c.loop-j.j). joined-left c.loop-j.found w c.join-found.result (has (get_or c.args.names.now (get_or c.args.order.now i 0) 0)) c.join-found.ensures c.loop-j.invariant.1 (c.loop-j.invariant.2 i l e m))
+          (λ (q : i ≡ k). rw (q, ← at) (joined-right c.loop-v.found w c.join-found.result c.join-found.ensures fit))
+          (λ (q : i < k). joined-left c.loop-v.found w c.join-found.result (has (get_or c.args.names.now (get_or c.args.order.now (c.args.d + i) 0) 0)) c.join-found.ensures c.loop-v.invariant.0 (c.loop-v.invariant.1 i q))
           (eq-or-lt_of_le at_most),
     )
-
-pub returns : goal.returns
-returns c = (c.loop-j.invariant.1, λ i l k. c.loop-j.invariant.2 i l (omega (arith, c.loop-j-test.false)) k)

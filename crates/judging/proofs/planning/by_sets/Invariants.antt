@@ -1,13 +1,10 @@
--- `judging::planning::by_sets` meets its contract. The invariant: the word has those from d to below j.
+-- `judging::planning::by_sets` meets its contract. The invariant: the word has those of the variables that were passed.
 -- Assumes nothing.
-use Prim.Native.Nat.{ℕ, ◌-◌, ◌<◌, ◌≤◌, ◌^◌}
+use Prim.Native.Nat.{ℕ, ◌+◌, ◌<◌, ◌^◌}
 use lib.ListN.{length, get_or}
 use Rattle.words.specs.Words.{has}
 use Rattle.walks.specs.Code.Context.{Covers}
 use Rattle.judging.proofs.planning.by_sets.Given as goal
 
-abbrev pub invariant-loop-j : goal.invariant-loop-j
-invariant-loop-j l = (l.d ≤ l.j) × (l.found < 2 ^ 64) × ((i : ℕ) → l.d ≤ i → i < l.j → i < length l.order → Covers l.found (has (get_or l.names (get_or l.order i 0) 0)))
-
-abbrev pub decreases-loop-j : goal.decreases-loop-j
-decreases-loop-j l = length l.order - l.j
+abbrev pub invariant-loop-v : goal.invariant-loop-v
+invariant-loop-v l = (l.found < 2 ^ 64) × ((i : ℕ) → i < length l.yielded → Covers l.found (has (get_or l.names (get_or l.order (l.d + i) 0) 0)))

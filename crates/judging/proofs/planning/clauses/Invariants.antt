@@ -8,8 +8,8 @@ use Rattle.judging.specs.Code.Planning.{Filled, ClauseWord}
 use Rattle.judging.proofs.PlanningLaws.{Rest}
 use Rattle.judging.proofs.planning.clauses.Given as goal
 
-abbrev pub invariant-loop-tests : goal.invariant-loop-tests
-invariant-loop-tests l = (l.at < l.n) × (l.i + l.at ≤ l.root) × Filled l.initial.plan l.plan clauses_from l.i (ClauseWord l.nodes l.n l.root) × ((ρ : Rule) → HoldsRule l.nodes l.root ρ → Rest l.nodes ρ l.i l.at)
+abbrev pub invariant-loop-plan : goal.invariant-loop-plan
+invariant-loop-plan l = (l.at < l.n) × (l.i + l.at ≤ l.root) × Filled l.initial.plan l.plan clauses_from l.i (ClauseWord l.nodes l.n l.root) × ((ρ : Rule) → HoldsRule l.nodes l.root ρ → Rest l.nodes ρ l.i l.at)
 
-abbrev pub decreases-loop-tests : goal.decreases-loop-tests
-decreases-loop-tests l = l.at
+abbrev pub decreases-loop-plan : goal.decreases-loop-plan
+decreases-loop-plan l = l.at

@@ -1,13 +1,9 @@
 -- `judging::planning::contexts` meets its contract. The invariant: the first ones are filled in.
 -- Assumes nothing.
-use Prim.Native.Nat.{◌-◌, ◌≤◌}
 use lib.ListN.{drop}
 use Rattle.values.specs.Code.Plan.{levels_from}
 use Rattle.judging.specs.Code.Planning.{contexts_from, Filled, ContextWord}
 use Rattle.judging.proofs.planning.contexts.Given as goal
 
 abbrev pub invariant-loop-at : goal.invariant-loop-at
-invariant-loop-at l = (l.at ≤ 16) × Filled l.initial.plan l.plan contexts_from l.at (λ e w. ContextWord l.names (drop levels_from l.initial.plan) l.scopes l.order l.many e w)
-
-abbrev pub decreases-loop-at : goal.decreases-loop-at
-decreases-loop-at l = 16 - l.at
+invariant-loop-at l = Filled l.initial.plan l.plan contexts_from l.at (λ e w. ContextWord l.names (drop levels_from l.initial.plan) l.scopes l.order l.many e w)

@@ -8,25 +8,12 @@ use Rattle.values.proofs.NodeLaws.{left_in}
 use Rattle.judging.proofs.PlanningLaws.{step-made}
 use Rattle.judging.proofs.planning.word.Goals as goal
 
-pub pack-requires : goal.pack-requires
-pack-requires c =
-    (omega arith, omega (arith, c.requires.0.within c.args.k c.requires.1, c.requires.0.small))
-
-pub returns-then-operation-lt-FIRST_CALL : goal.returns-then-operation-lt-FIRST_CALL
-returns-then-operation-lt-FIRST_CALL c =
-    step-made (get_or c.args.nodes.now c.args.k 0) 0 0 (get_or c.args.next.now c.args.k 0) (omega (arith, c.shared_slice_known-5-1.given c.args.k)) (omega arith) (omega arith)
-    c.pack.result c.pack.ensures refl refl (λ l. absurd (omega (arith, c.operation.ensures, c.if-operation-lt-FIRST_CALL.true))) (λ l. absurd (omega (arith, c.operation.ensures, c.if-operation-lt-FIRST_CALL.true)))
-
 pub bounds-kinds-left : goal.bounds-kinds-left
 bounds-kinds-left c =
     omega (arith, left_in c.requires.0.tidy c.requires.1 (omega (arith, c.operation.ensures, c.if-operation-lt-FIRST_CALL.false)), c.left-left.ensures, c.requires.0.kinded)
 
-pub pack-requires-2 : goal.pack-requires-2
-pack-requires-2 c =
-    (omega (arith, c.seek.ensures.within, c.requires.0.few), omega (arith, c.requires.0.within c.args.k c.requires.1, c.requires.0.small))
-
 pub returns : goal.returns
 returns c =
     step-made (get_or c.args.nodes.now c.args.k 0) (get_or c.args.kinds.now c.left-left.result 0) c.seek.result (get_or c.args.next.now c.args.k 0)
-    (omega (arith, c.shared_slice_known-5-1.given c.args.k)) (omega (arith, c.shared_slice_known-6-1.given c.left-left.result)) (omega (arith, c.seek.ensures.within, c.requires.0.few))
+    (omega (arith, c.type_inv.nodes c.args.k)) (omega (arith, c.type_inv.kinds c.left-left.result)) (omega (arith, c.seek.ensures.within, c.requires.0.few))
     c.pack-2.result c.pack-2.ensures refl refl (λ l. rw c.left-left.ensures) (λ l. rw (← c.left-left.ensures) (placed c.seek.ensures))

@@ -12,14 +12,6 @@ pub below-sum-requires : goal.below-sum-requires
 below-sum-requires c =
     standing-at (once-for c.requires.0 c.requires.1 c.requires.0.lent.is_case) (after-for c.requires.0 c.requires.1 c.requires.0.lent.is_case) _ (c.requires.2.ready c.requires.0.lent.tables c.requires.0.lent.rule c.requires.0.lent.is_case) (omega arith) c.requires.2.small c.requires.2.room
 
-pub shape_of-cache-then-sum-eq0 : goal.shape_of-cache-then-sum-eq0
-shape_of-cache-then-sum-eq0 c =
-    c.below-sum.ensures.room
-
-pub shape_of-kept-then-sum-eq0 : goal.shape_of-kept-then-sum-eq0
-shape_of-kept-then-sum-eq0 c =
-    c.below-sum.ensures.slots
-
 pub returns-then-sum-eq0 : goal.returns-then-sum-eq0
 returns-then-sum-eq0 c =
     λ T ρ C.

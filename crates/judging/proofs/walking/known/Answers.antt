@@ -13,10 +13,6 @@ returns-then-breaking-eq0 c =
     let n = c.requires.2 T ρ C in
     known-none T ρ c.args.order.now (once-for c.requires.0 c.requires.1 C) (after-for c.requires.0 c.requires.1 C) n.0 n.1 c.if-breaking-eq0.true
 
-pub lay_first-requires : goal.lay_first-requires
-lay_first-requires c =
-    (c.requires.0, c.requires.1, refl)
-
 pub entered-mode-requires : goal.entered-mode-requires
 entered-mode-requires c =
     (c.requires.0.lent.ready.whole, plan-runs (c.lay_first.ensures.lays.along c.requires.0.lent.tables c.requires.0.lent.rule c.requires.0.lent.is_case).planned, refl, omega arith)

@@ -7,10 +7,6 @@ use Rattle.judging.proofs.CountingLaws.{plan-runs}
 use Rattle.judging.proofs.DescendLaws.{keeps-none, ready_on}
 use Rattle.judging.proofs.walking.turn.Goals as goal
 
-pub overflow_cast-order : goal.overflow_cast-order
-overflow_cast-order c =
-    omega (arith, c.shared_slice_known-3-1.given c.args.place.depth)
-
 pub returns-then-plan-d : goal.returns-then-plan-d
 returns-then-plan-d c =
     record { small = c.requires.3.small; long = c.requires.3.long; room = c.requires.3.room; slots = c.requires.3.slots; ready = λ T ρ C. ready_on (once-for c.requires.0 c.requires.1 C) (after-for c.requires.0 c.requires.1 C) c.requires.2 c.if-plan-d.true (c.requires.3.ready T ρ C) }

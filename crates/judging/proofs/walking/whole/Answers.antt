@@ -1,48 +1,33 @@
 -- `judging::walking::whole` meets its contract.
 -- Assumes nothing.
-use mathlib.Core.Path.{refl}
+use mathlib.Core.Path.{◌≡◌, refl}
 use native.Mathlib.Omega.{arith}
+use lib.ListN.{length}
 use Rattle.judging.proofs.WalkingLaws.{once-for, after-for}
 use Rattle.judging.proofs.CountingLaws.{plan-runs}
 use Rattle.judging.proofs.DescendLaws.{stands-first, walks-bare}
 use Rattle.judging.proofs.NothingLaws.{none-counted}
+use borrow.Author.Rules.{rules}
 use Rattle.judging.proofs.walking.whole.Goals as goal
-
-pub lay_first-many-requires : goal.lay_first-many-requires
-lay_first-many-requires c =
-    (c.requires.0, c.requires.1, refl)
 
 pub known-requires : goal.known-requires
 known-requires c =
     (c.requires.0, c.requires.1, none-counted c.requires.0 c.requires.1 c.lay_first-many.ensures.ceiling_by c.if-many-eq0.true)
 
-pub returns-then-many-eq0 : goal.returns-then-many-eq0
-returns-then-many-eq0 c = c.known.ensures
-
 pub entered-mode-requires : goal.entered-mode-requires
 entered-mode-requires c =
     (c.requires.0.lent.ready.whole, plan-runs (c.lay_first-many.ensures.lays.along c.requires.0.lent.tables c.requires.0.lent.rule c.requires.0.lent.is_case).planned, refl, omega arith)
 
-pub overflow_sub-result : goal.overflow_sub-result
-overflow_sub-result c = omega (arith, c.entered-mode.ensures.modes)
-
-pub returns-then-order-eq0 : goal.returns-then-order-eq0
-returns-then-order-eq0 c = λ T ρ C.
+pub returns-then-is_empty : goal.returns-then-is_empty
+returns-then-is_empty c = λ T ρ C.
     let A = c.lay_first-many.ensures.lays.along T ρ C in
-    walks-bare (once-for c.requires.0 c.requires.1 C) (after-for c.requires.0 c.requires.1 C) A c.if-order-eq0.true c.entered-mode.result c.entered-mode.ensures.modes (c.entered-mode.ensures.goes A.layout T ρ A.planned).1
+    let bare : length c.args.order.now ≡ 0 = search rules in
+    walks-bare (once-for c.requires.0 c.requires.1 C) (after-for c.requires.0 c.requires.1 C) A bare c.entered-mode.result c.entered-mode.ensures.modes (c.entered-mode.ensures.goes A.layout T ρ A.planned).1
 
 pub counted-requires : goal.counted-requires
 counted-requires c =
     (c.requires.0, c.requires.1, stands-first 384 c.lay_first-many.ensures.lays c.entered-mode.ensures refl)
 
-pub returns-then-many-lt-FEW : goal.returns-then-many-lt-FEW
-returns-then-many-lt-FEW c =
-    c.counted.ensures
-
 pub counted-requires-2 : goal.counted-requires-2
 counted-requires-2 c =
     (c.requires.0, c.requires.1, stands-first 3072 c.lay_first-many.ensures.lays c.entered-mode.ensures refl)
-
-pub returns : goal.returns
-returns c =
-    c.counted-2.ensures
