@@ -7,18 +7,18 @@ ghost use Rattle.changes.specs.declared.Change.TheVariants.{Opening, Closing};
 ghost use Rattle.rcl2000.specs.Calls.{Reduces, GivesBack, Judges, JudgesPage, GivesStep, Forecasts, Starts, Changes, ListsLine};
 ghost use Rattle.rcl2000.specs.Code.Reply.{reply_of, page_reply_of};
 
-use answers::Written;
+use answers::Refusal;
 use changes::Change;
 use pages::Answered;
 
 // The tracker's number of what was written.
-fn number(written: Written) -> u32
+fn number(written: Result<usize, Refusal>) -> u32
     requires { reply_of written < 4294967296 }
     ensures { result ≡ reply_of written }
 {
     match written {
-        Written::Refused(r) => 65536 * answers::number(r),
-        Written::Wrote(l) => l as u32,
+        Ok(l) => l as u32,
+        Err(r) => 65536 * u32::from(r),
     }
 }
 
@@ -49,7 +49,7 @@ fn page_number(answered: Answered) -> u32
     ensures { result ≡ page_reply_of answered }
 {
     match answered {
-        Answered::Refused { refusal, position } => 65536 * answers::number(refusal)
+        Answered::Refused { refusal, position } => 65536 * u32::from(refusal)
             + position as u32,
         Answered::Wrote(l) => l as u32,
     }
