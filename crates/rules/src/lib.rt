@@ -11,7 +11,6 @@ ghost use Rattle.rules.specs.Checked.{checked_number};
 ghost use Rattle.rules.specs.Code.Parsed.{ChecksText, ChecksTree, Finds, Blank, Parses};
 
 use answers::Refusal;
-use syntax::Whole;
 
 // A rule has at most so many bytes, so that its tree has at most so many nodes.
 pub const RULE_LIMIT: usize = 256;
@@ -95,10 +94,10 @@ pub fn find(s: &[u8], nodes: &mut [u32], kinds: &mut [u8], vars: &mut [u32]) -> 
     if let Checked::Refused(r) = check_text(s) {
         return Found::Rejected(r);
     }
-    let Whole::Root { node, n } = syntax::rule(s, nodes) else {
+    let Some(root) = syntax::rule(s, nodes) else {
         return Found::Rejected(Refusal::NotARule);
     };
-    check_tree(nodes, n, node, kinds, vars)
+    check_tree(nodes, root.n, root.node, kinds, vars)
 }
 
 // The answer to a text that is refused.
