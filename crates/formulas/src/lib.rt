@@ -15,7 +15,6 @@ use printer::rules::{write_formula, write_rule};
 use rules::kinds::NO_KIND;
 use rules::lengths::{formula_length, length_at, lengths};
 use rules::{CHOICES_LIMIT, RULE_LIMIT, Tree};
-use syntax::Whole;
 
 // No formula has more bytes, so that its tree has no more nodes.
 const FORMULA_LIMIT: usize = 4096;
@@ -64,15 +63,15 @@ pub fn rebuild(formula: &[u8], out: &mut [u8]) -> Result<usize, Refusal>
         return Err(Refusal::NoRulesFormula);
     }
     let mut nodes = [0u32; FORMULA_LIMIT];
-    let Whole::Root { node, n } = syntax::formula(formula, &mut nodes) else {
+    let Some(root) = syntax::formula(formula, &mut nodes) else {
         return Err(Refusal::NoRulesFormula);
     };
-    if rule_length(&nodes, n, node) > LENGTH_LIMIT {
+    if rule_length(&nodes, root.n, root.node) > LENGTH_LIMIT {
         return Err(Refusal::NoRulesFormula);
     }
     let none = [0u32; 1];
     let mut text = [0u8; RULE_LIMIT];
-    let l = write_rule(&nodes, node, &none[..0], &mut text);
+    let l = write_rule(&nodes, root.node, &none[..0], &mut text);
     let mut sheet = [0u8; FORMULA_LIMIT];
     let Ok(m) = reduce(&text[..l], &mut sheet) else {
         return Err(Refusal::NoRulesFormula);

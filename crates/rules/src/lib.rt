@@ -10,7 +10,6 @@ ghost use Rattle.answers.specs.Outcome.{outcome_number};
 ghost use Rattle.rules.specs.Code.Parsed.{ChecksText, ChecksTree, Finds, Parses};
 
 use answers::Refusal;
-use syntax::Whole;
 
 // A rule has at most so many bytes, so that its tree has at most so many nodes.
 pub const RULE_LIMIT: usize = 256;
@@ -84,10 +83,10 @@ pub fn find(s: &[u8], nodes: &mut [u32], kinds: &mut [u8], vars: &mut [u32]) -> 
     ensures { Finds s.now nodes.new kinds.new vars.new result }
 {
     check_text(s)?;
-    let Whole::Root { node, n } = syntax::rule(s, nodes) else {
+    let Some(root) = syntax::rule(s, nodes) else {
         return Err(Refusal::NotARule);
     };
-    check_tree(nodes, n, node, kinds, vars)
+    check_tree(nodes, root.n, root.node, kinds, vars)
 }
 
 // The rule that s is the text of, or the refusal. No entry point: the answer is nodes, which only the crates above read.

@@ -11,7 +11,6 @@ ghost use Rattle.sharing.specs.Code.Gathering.{Room, Sheaf, Adds, Bound, Copied,
 use answers::Refusal;
 use rules::kinds::NO_KIND;
 use rules::{CHOICES_LIMIT, Checked, Found, Parsed, RULE_LIMIT};
-use syntax::{Listed, Whole};
 
 // The lent nodes and the lent list have this length.
 pub const ROOM: usize = 512;
@@ -87,11 +86,11 @@ pub fn add(line: &[u8], nodes: &mut [u32], list: &mut [u32], vars: &mut [u32], s
     ensures { (κs : List Rule) → Sheaf κs nodes.old list.old vars.old size.n size.c size.count → Adds κs line.now nodes.new list.new vars.new size.n size.c size.count result }
 {
     let from = size.c;
-    let listed = syntax::clauses(line, nodes, size.n, &mut list[from..]);
-    let Listed::Clauses { count: more, n } = listed else {
+    let Some(listed) = syntax::clauses(line, nodes, size.n, &mut list[from..]) else {
         return Added::No;
     };
-    let c = from + more;
+    let n = listed.n;
+    let c = from + listed.count;
     if n + c > RULE_LIMIT {
         return Added::No;
     }
@@ -115,12 +114,9 @@ pub fn close(nodes: &[u32], list: &[u32], vars: &[u32], size: Size) -> Parsed
     let mut tree = [0u32; RULE_LIMIT];
     copy(nodes, size.n, &mut tree);
     let whole = syntax::join(&mut tree, size.n, list, size.c);
-    let Whole::Root { node, n: m } = whole else {
-        return rules::rejected(Refusal::NotARule);
-    };
     let mut kinds = [NO_KIND; RULE_LIMIT];
     let mut own = [0u32; CHOICES_LIMIT];
-    let found = rules::check_tree(&tree, m, node, &mut kinds, &mut own);
+    let found = rules::check_tree(&tree, whole.n, whole.node, &mut kinds, &mut own);
     let Found::Rule { n, root, count } = found else {
         return rules::rejected(Refusal::NotARule);
     };

@@ -9,20 +9,16 @@ use native.Mathlib.Nat.{eq-or-lt_of_le}
 use native.Mathlib.Omega.{arith}
 use lib.ListN.{length, get_or, drop, set, length-set, length-append, drop_of_length-le, get_or-append, get_or-eq_default}
 use lib.Seq.{drop-cons, get_or-set_same, get_or-set_other, get_or-append_seam}
+use Rattle.std.specs.Prelude.{Option as Maybe, Some, None}
 use Rattle.syntax.specs.Bytes.{Bytes, ascii, Read, fail, got, next, skip}
 use Rattle.syntax.specs.Term.{Choices}
 use Rattle.syntax.specs.Rule.{Clause, Rule, last, also, read_clause, read_rule, whole, rule_of}
 use Rattle.syntax.specs.Code.Arena.{Both, HoldsClause, HoldsRule, has_two, Tidy}
-use Rattle.syntax.specs.Code.Reading.{Arena, mk, Stays, Fresh, Interned, Put, put, Knows, Readable, Found, Agree, some_thing, graft, ClauseList}
-use Rattle.syntax.specs.Code.Reading.{Collected, Collects, no_clause, some_clauses, Joinable, JoinedAt, Joined, joined, Listing, Lists, no_list, some_list, Together, together}
+use Rattle.syntax.specs.Code.Reading.{Arena, mk, Stays, Fresh, Interned, Knows, Readable, Found, Agree, some_thing, graft, ClauseList}
+use Rattle.syntax.specs.Code.Reading.{Collected, Collects, no_clause, some_clauses, Joinable, JoinedAt, Joined, Listing, Lists, no_list, some_list}
 use Rattle.syntax.specs.declared.arena.Place.{Place}
-use Rattle.syntax.specs.declared.arena.Place.TheVariants.{Nothing, Got}
 use Rattle.syntax.specs.declared.tests.Clauses.{Clauses}
-use Rattle.syntax.specs.declared.tests.Clauses.TheVariants.{Nothing as NoClause, Several}
-use Rattle.syntax.specs.declared.Whole.{Whole}
-use Rattle.syntax.specs.declared.Whole.TheVariants.{Nothing as NoRoot, Root}
 use Rattle.syntax.specs.declared.Listed.{Listed}
-use Rattle.syntax.specs.declared.Listed.TheVariants.{Nothing as NoList, Clauses as Every}
 use Rattle.syntax.specs.Code.Nodes.{also_op, node_of, index_room}
 use Rattle.syntax.proofs.BytesLaws.{next_agree, next-next}
 use Rattle.syntax.proofs.ArenaLaws.{stays-refl, stays-trans, clause-later, rule-later, knows-later}
@@ -177,17 +173,14 @@ module _ {s : Bytes} {start K at c : ℕ} {vars list : List ℕ} {a₀ a : Arena
 
 -- What was collected.
 
-pub as-no-clause : {s : Bytes} {at : ℕ} {a : Arena} {ns list : List ℕ} {p : Clauses} {r : Read Rule} → Collects s at a ns list p r → p ≡ NoClause → r ≡ fail
-as-no-clause (no_clause e) q = e
-as-no-clause (some_clauses x) q = let z : ◌≡◌ {A = ℕ} 0 1 = cc in absurd (omega arith)
+pub as-no-clause : {s : Bytes} {at : ℕ} {a : Arena} {ns list : List ℕ} {r : Read Rule} → Collects s at a ns list None r → r ≡ fail
+as-no-clause (no_clause e) = e
 
-pub as-clauses : {s : Bytes} {at : ℕ} {a : Arena} {ns list : List ℕ} {p : Clauses} {r : Read Rule} {c e n : ℕ} → Collects s at a ns list p r → p ≡ Several c e n → Collected s at a (mk ns n) list c e r
-as-clauses (no_clause e) q = let z : ◌≡◌ {A = ℕ} 0 1 = cc in absurd (omega arith)
-as-clauses {c = c} {e = e} {n = n} (some_clauses {c = c'} {e = e'} {n = n'} x) q =
-    let qc : c' ≡ c = cc in
-    let qe : e' ≡ e = cc in
-    let qn : n' ≡ n = cc in
-    rw qc at (rw qe at (rw qn at x))
+pub uncollected : {s : Bytes} {at : ℕ} {a : Arena} {ns list : List ℕ} {p : Maybe Clauses} {r : Read Rule} → p ≡ None → r ≡ fail → Collects s at a ns list p r
+uncollected q e = rw q (no_clause e)
+
+pub as-clauses : {s : Bytes} {at : ℕ} {a : Arena} {ns list : List ℕ} {p : Clauses} {r : Read Rule} → Collects s at a ns list (Some p) r → Collected s at a (mk ns p.n) list p.count p.next r
+as-clauses (some_clauses x) = x
 
 module _ {s : Bytes} {at c e : ℕ} {a b : Arena} {list : List ℕ} {r : Read Rule} (x : Collected s at a b list c e r) where
   pub joinable : {vars : List ℕ} → Readable s at vars a → Joinable b list c e
@@ -200,15 +193,16 @@ module _ {s : Bytes} {at c e : ℕ} {a b : Arena} {list : List ℕ} {r : Read Ru
         tidy = x.tidy;
       }
 
-  pub rule_found : {ns : List ℕ} {p : Place} → Joined b list c e ns p → Agree HoldsRule s at a ns p r
-  rule_found (joined {k = k} {n = n} y) =
-      some_thing {k = k} {e = e} {n = n} (record {
+  pub rule_found : {ns : List ℕ} {p : Place} → Joined b list c e ns p → Agree HoldsRule s at a ns (Some p) r
+  rule_found {p = p} w =
+      let y = w.rule in
+      some_thing {p = p} (record {
         thing = graft x.before (last x.final);
-        reads = x.reads;
+        reads = x.reads ∙ ap (λ (i : ℕ). got (graft x.before (last x.final)) (drop i s)) (sym w.behind);
         holds = y.holds x.before x.final x.listed;
         within = y.within;
-        count = omega (arith, x.count, y.few);
-        end = x.end;
+        count = omega (arith, x.count, y.few, w.behind);
+        end = omega (arith, x.end, w.behind);
         stays = stays-trans x.stays y.stays;
         tidy = y.tidy;
       })
@@ -239,15 +233,15 @@ module _ {a : Arena} {list : List ℕ} {c next : ℕ} (g : Joinable a list c nex
       }
 
   module _ {b : Arena} {k node : ℕ} (j : Joining a list c b k node) where
-    pub join-end : {n : ℕ} {ns : List ℕ} → k ≡ 0 → b ≡ mk ns n → Joined a list c next ns (Got node next n)
-    join-end {n} {ns} e q =
-        joined {k = node} {n = n} (subst (λ (z : Arena). JoinedAt a list c z node) q (record {
+    pub join-end : k ≡ 0 → JoinedAt a list c b node
+    join-end e =
+        record {
           holds = λ cs d x. subst (λ (i : ℕ). HoldsRule b.nodes node (graft (drop i cs) (last d))) e (j.holds cs d x);
           within = j.within;
           few = omega (arith, j.few);
           stays = j.stays;
           tidy = j.tidy;
-        }))
+        }
 
     module _ (l : 0 < k) where
       item : get_or list (k - 1) 0 < b.n
@@ -279,31 +273,22 @@ module _ {a : Arena} {list : List ℕ} {c next : ℕ} (g : Joinable a list c nex
                 subst (λ (x : List Clause). HoldsRule d.nodes i (graft x (last e))) (sym q) (get_or list (k - 1) 0, node, y, t, v);
           }
 
-pub as-put : {a : Arena} {v e : ℕ} {ns : List ℕ} {p : Place} {k z n : ℕ} → Put a v e ns p → p ≡ Got k z n → Interned a v (mk ns n) k
-as-put {k = k} {n = n} (put {k = k'} {n = n'} u) q =
-    let qk : k' ≡ k = cc in
-    let qn : n' ≡ n = cc in
-    rw qk at (rw qn at u)
-
-pub put_some : {C : Type 0} {a : Arena} {v e : ℕ} {ns : List ℕ} {p : Place} → Put a v e ns p → p ≡ Nothing → C
-put_some (put u) q = let z : ◌≡◌ {A = ℕ} 0 1 = cc in absurd (omega arith)
-
 -- A whole text by its clauses.
 
-pub listed-none : {s : Bytes} {a : Arena} {ns list : List ℕ} {k : ℕ} → length s ≤ k → read_rule [] k s ≡ fail → Lists s a ns list NoList (rule_of s)
+pub listed-none : {s : Bytes} {a : Arena} {ns list : List ℕ} {k : ℕ} → length s ≤ k → read_rule [] k s ≡ fail → Lists s a ns list None (rule_of s)
 unfolding whole
 listed-none {s} {k = k} l e = no_list (sym (rule-room k s l) ∙ rw e)
 
 module _ {s : Bytes} {c e k n : ℕ} {a : Arena} {ns list : List ℕ} (l : length s ≤ k) (x : Collected s 0 a (mk ns n) list c e (read_rule [] k s)) where
-  pub listed-left : e < length s → Lists s a ns list NoList (rule_of s)
+  pub listed-left : e < length s → Lists s a ns list None (rule_of s)
   unfolding whole
   listed-left h = no_list (sym (rule-room k s l) ∙ rw (x.reads, drop-cons s e 0 h))
 
-  pub listed_here : length s ≤ e → Lists s a ns list (Every c n) (rule_of s)
+  pub listed_here : length s ≤ e → Lists s a ns list (Some (record { count = c; n = n })) (rule_of s)
   unfolding whole
   listed_here h =
       let q : whole (read_rule [] k s) ≡ some (graft x.before (last x.final)) = rw (x.reads, drop_of_length-le s h) in
-      some_list {c = c} {n = n} (record {
+      some_list {w = record { count = c; n = n }} (record {
         before = x.before;
         final = x.final;
         is = sym (rule-room k s l) ∙ q;
@@ -315,33 +300,10 @@ module _ {s : Bytes} {c e k n : ℕ} {a : Arena} {ns list : List ℕ} (l : lengt
         tidy = x.tidy;
       })
 
--- For those that call `clauses` and `join`.
+-- For those that call `clauses`.
 
-pub as-listed : {s : Bytes} {a : Arena} {ns list : List ℕ} {w : Listed} {o : Option Rule} {c n : ℕ} → Lists s a ns list w o → w ≡ Every c n → Listing s a (mk ns n) list c o
-as-listed (no_list e) q = let z : ◌≡◌ {A = ℕ} 0 1 = cc in absurd (omega arith)
-as-listed {c = c} {n = n} (some_list {c = c'} {n = n'} x) q =
-    let qc : c' ≡ c = cc in
-    let qn : n' ≡ n = cc in
-    rw qc at (rw qn at x)
+pub as-listed : {s : Bytes} {a : Arena} {ns list : List ℕ} {w : Listed} {o : Option Rule} → Lists s a ns list (Some w) o → Listing s a (mk ns w.n) list w.count o
+as-listed (some_list x) = x
 
-pub as-unlisted : {s : Bytes} {a : Arena} {ns list : List ℕ} {w : Listed} {o : Option Rule} → Lists s a ns list w o → w ≡ NoList → o ≡ none
-as-unlisted (no_list e) q = e
-as-unlisted (some_list x) q = let z : ◌≡◌ {A = ℕ} 0 1 = cc in absurd (omega arith)
-
-pub joined-root : {a : Arena} {list : List ℕ} {c e : ℕ} {ns : List ℕ} {p : Place} {k z n : ℕ} → Joined a list c e ns p → p ≡ Got k z n → Together a list c ns (Root k n)
-joined-root {k = k} {n = n} (joined {k = k'} {n = n'} x) q =
-    let qk : k' ≡ k = cc in
-    let qn : n' ≡ n = cc in
-    together (rw qk at (rw qn at x))
-
-pub joined-some : {C : Type 0} {a : Arena} {list : List ℕ} {c e : ℕ} {ns : List ℕ} {p : Place} → Joined a list c e ns p → p ≡ Nothing → C
-joined-some (joined x) q = let z : ◌≡◌ {A = ℕ} 0 1 = cc in absurd (omega arith)
-
-pub as-together : {a : Arena} {list : List ℕ} {c : ℕ} {ns : List ℕ} {w : Whole} {k n : ℕ} → Together a list c ns w → w ≡ Root k n → JoinedAt a list c (mk ns n) k
-as-together {k = k} {n = n} (together {k = k'} {n = n'} x) q =
-    let qk : k' ≡ k = cc in
-    let qn : n' ≡ n = cc in
-    rw qk at (rw qn at x)
-
-pub together-some : {C : Type 0} {a : Arena} {list : List ℕ} {c : ℕ} {ns : List ℕ} {w : Whole} → Together a list c ns w → w ≡ NoRoot → C
-together-some (together x) q = let z : ◌≡◌ {A = ℕ} 0 1 = cc in absurd (omega arith)
+pub as-unlisted : {s : Bytes} {a : Arena} {ns list : List ℕ} {o : Option Rule} → Lists s a ns list None o → o ≡ none
+as-unlisted (no_list e) = e

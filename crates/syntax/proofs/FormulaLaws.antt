@@ -9,49 +9,44 @@ use native.Mathlib.Omega.{arith}
 use borrow.Author.Tests.{eq-eqb, ne_eqb}
 use lib.ListN.{length, get_or, drop, take, set, drop_of_length-le}
 use lib.Seq.{drop-cons, take-suc-set}
+use Rattle.std.specs.Prelude.{Option as Maybe, Some, None}
 use Rattle.syntax.specs.Bytes.{Bytes, ascii, Read, fail, got, Reader, next, skip, either}
 use Rattle.syntax.specs.Term.{Term, Choices, read_term}
 use Rattle.syntax.specs.Rule.{Rule, read_rule, read_formula, whole}
 use Rattle.syntax.specs.Code.Arena.{Holds, HoldsRule, HoldsAll}
 use Rattle.syntax.specs.Code.Reading.{Arena, mk, Knows, Found, chosen_set, clause_room, Rooted, Reads, no_rule, some_rule}
-use Rattle.syntax.specs.declared.Whole.{Whole}
-use Rattle.syntax.specs.declared.Whole.TheVariants.{Nothing as NoRoot, Root}
+use Rattle.syntax.specs.declared.Root.{Root}
 use Rattle.syntax.proofs.BytesLaws.{next_agree, next-next}
 use Rattle.syntax.proofs.ArenaLaws.{knows-later}
 use Rattle.syntax.proofs.NameLaws.{Hit}
 
 -- A whole text.
 
-pub ended-none : {s ns : List ℕ} {r : Read Rule} → r ≡ fail → Reads s ns NoRoot (whole r)
+pub ended-none : {s ns : List ℕ} {r : Read Rule} → r ≡ fail → Reads s ns None (whole r)
 unfolding whole
 ended-none {r = r} e = no_rule {o = whole r} (rw e)
 
-pub ended-left : {s ns : List ℕ} {at k e : ℕ} {a b : Arena} {r : Read Rule} → Found HoldsRule s at a b k e r → e < length s → Reads s ns NoRoot (whole r)
+pub ended-left : {s ns : List ℕ} {at k e : ℕ} {a b : Arena} {r : Read Rule} → Found HoldsRule s at a b k e r → e < length s → Reads s ns None (whole r)
 unfolding whole
 ended-left {s} {e = e} {r = r} f l = no_rule {o = whole r} (rw (f.reads, drop-cons s e 0 l))
 
-pub ended_here : {s : List ℕ} {k e : ℕ} {ns₀ : List ℕ} {b : Arena} {r : Read Rule} → Found HoldsRule s 0 (mk ns₀ 0) b k e r → length s ≤ e → Reads s b.nodes (Root k b.n) (whole r)
+pub ended_here : {s : List ℕ} {k e : ℕ} {ns₀ : List ℕ} {b : Arena} {r : Read Rule} → Found HoldsRule s 0 (mk ns₀ 0) b k e r → length s ≤ e → Reads s b.nodes (Some (record { node = k; n = b.n })) (whole r)
 unfolding whole
 ended_here {s} {k} {e} {ns₀} {b} {r} f l =
     let q : whole r ≡ some f.thing = rw (f.reads, drop_of_length-le s l) in
-    some_rule (record { rule = f.thing; is = q; holds = f.holds; within = f.within; few = omega (arith, f.count, f.end); tidy = f.tidy })
+    some_rule {w = record { node = k; n = b.n }} (record { rule = f.thing; is = q; holds = f.holds; within = f.within; few = omega (arith, f.count, f.end); tidy = f.tidy })
 
 -- The bound on the clauses may be written in another way.
-pub reads-alike : {s ns : List ℕ} {w : Whole} {k m : ℕ} → k ≡ m → Reads s ns w (whole (read_rule [] k s)) → Reads s ns w (whole (read_rule [] m s))
+pub reads-alike : {s ns : List ℕ} {w : Maybe Root} {k m : ℕ} → k ≡ m → Reads s ns w (whole (read_rule [] k s)) → Reads s ns w (whole (read_rule [] m s))
 reads-alike {s} {ns} {w} e x = subst (λ (k : ℕ). Reads s ns w (whole (read_rule [] k s))) e x
 
 -- For those that call the reader.
 
-pub as-nothing : {s ns : List ℕ} {w : Whole} {o : Option Rule} → Reads s ns w o → w ≡ NoRoot → o ≡ none
-as-nothing (no_rule e) q = e
-as-nothing (some_rule x) q = let z : ◌≡◌ {A = ℕ} 0 1 = cc in absurd (omega arith)
+pub as-nothing : {s ns : List ℕ} {o : Option Rule} → Reads s ns None o → o ≡ none
+as-nothing (no_rule e) = e
 
-pub as-root : {s ns : List ℕ} {w : Whole} {o : Option Rule} {k n : ℕ} → Reads s ns w o → w ≡ Root k n → Rooted s ns k n o
-as-root (no_rule e) q = let z : ◌≡◌ {A = ℕ} 0 1 = cc in absurd (omega arith)
-as-root {k = k} {n = n} (some_rule {k = k'} {n = n'} x) q =
-    let qk : k' ≡ k = cc in
-    let qn : n' ≡ n = cc in
-    rw qk at (rw qn at x)
+pub as-root : {s ns : List ℕ} {w : Root} {o : Option Rule} → Reads s ns (Some w) o → Rooted s ns w.node w.n o
+as-root (some_rule x) = x
 
 -- No choices are known.
 

@@ -1,21 +1,24 @@
 -- Laws of names at a place: a fixed text that stands there or not, a chain of tests for the names of a list, numbers, choices.
 -- Assumes nothing.
 use mathlib.Core.Path.{◌≡◌, refl, sym, ap, ◌∙◌}
-use mathlib.Core.Bool.{Bool, true, false}
-use mathlib.Core.List.{List, [], ◌∷◌, ◌++◌}
+use mathlib.Core.Bool.{Bool, true, false, ◌&&◌}
+use mathlib.Core.List.{List, [], ◌∷◌, ◌++◌, map}
 use mathlib.Core.Option.{none, some}
 use Prim.Native.Nat.{ℕ, zero, suc, ◌+◌, ◌-◌, ◌<◌, ◌≤◌}
 use native.Mathlib.Numerals.{add-one}
 use native.Mathlib.Omega.{arith}
-use borrow.Author.Tests.{eq-eqb, ne_eqb}
+use borrow.Author.Tests.{eq-eqb, ne_eqb, leb-true}
+use denote.Ref.{Bor}
+use lib.Dec.{leb}
 use lib.ListN.{length, get_or, drop, length-drop, length-append, drop_of_length-le}
 use lib.Seq.{drop-cons, drop-drop, drop-append_seam}
+use Rattle.std.specs.List.{list_all}
+use Rattle.std.specs.Prelude.{Option as Maybe, Some, None}
 use Rattle.syntax.specs.Bytes.{Bytes, Read, fail, got, skip, begins, is_got, either, scan}
 use Rattle.syntax.specs.Term.{Term, Choices, named_from, known}
 use Rattle.syntax.specs.Code.Arena.{Holds, HoldsAll}
-use Rattle.syntax.specs.Code.Reading.{Stands, Signed, Named, no_name, some_name, Choice, Chosen, no_choice, some_choice, Arena, Knows}
+use Rattle.syntax.specs.Code.Reading.{Stands, Signed, Named, no_name, some_name, Choice, Chosen, no_choice, some_choice, Arena, Knows, entries, text_of, number_of, Spelt}
 use Rattle.syntax.specs.declared.names.Spelled.{Spelled}
-use Rattle.syntax.specs.declared.names.Spelled.TheVariants.{Unknown, Name}
 use Rattle.syntax.proofs.BytesLaws.{skip-gives}
 
 -- A fixed text w that stands at `at`.
@@ -60,31 +63,80 @@ module _ {A : Type 0} {sp : A → Bytes} {s : Bytes} {at : ℕ} where
   unfolding scan either
   past x xs f h e = record { is = f.is ∙ rw (miss h e); within = f.within }
 
-  pub here : {all : List A} {number : A → ℕ} (x : A) (xs : List A) {b : Bool} → From sp all (x ∷ xs) s at → Stands s at (sp x) b → b ≡ true → 1 ≤ length (sp x) → Named number s at (Name (number x) (at + length (sp x))) (scan sp all (drop at s))
+  pub here : {all : List A} {number : A → ℕ} (x : A) (xs : List A) {b : Bool} → From sp all (x ∷ xs) s at → Stands s at (sp x) b → b ≡ true → 1 ≤ length (sp x) → Named number s at (Some (record { number = number x; next = at + length (sp x) })) (scan sp all (drop at s))
   unfolding scan either
   here {number = number} x xs f h e l =
       let y = hit h e f.within in
-      some_name {o = number x} {e = at + length (sp x)} (record { thing = x; is = f.is ∙ rw y.skips; number_is = refl; more = omega arith; fits = y.fits })
+      some_name {h = record { number = number x; next = at + length (sp x) }} (record { thing = x; is = f.is ∙ rw y.skips; number_is = refl; more = omega arith; fits = y.fits })
 
-  pub nowhere : {all : List A} {number : A → ℕ} → From sp all [] s at → Named number s at Unknown (scan sp all (drop at s))
+  pub nowhere : {all : List A} {number : A → ℕ} → From sp all [] s at → Named number s at None (scan sp all (drop at s))
   unfolding scan
   nowhere f = no_name f.is
 
-  pub onward : {all xs : List A} {number : A → ℕ} {r : Spelled} → From sp all xs s at → Named number s at r (scan sp xs (drop at s)) → Named number s at r (scan sp all (drop at s))
-  onward f h = rw f.is h
+-- A table from its place i on.
+
+table-cons : (names : List (Bor Bytes × ℕ)) (i : ℕ) (d : Bor Bytes × ℕ) → i < length names → entries (drop i names) ≡ ((get_or names i d).0.now, (get_or names i d).1) ∷ entries (drop (i + 1) names)
+table-cons names i d l = rw (drop-cons names i d l, add-one i)
+
+spelt-cons : (x : Bytes × ℕ) (xs : List (Bytes × ℕ)) → Spelt (x ∷ xs) → (1 ≤ length (text_of x)) × Spelt xs
+spelt-cons x xs h = go (leb 1 (length (text_of x))) refl h
+  where
+    go : (b : Bool) → leb 1 (length (text_of x)) ≡ b → (b && list_all (λ y. leb 1 (length (text_of y))) xs) ≡ true → (1 ≤ length (text_of x)) × Spelt xs
+    go true e q = (leb-true 1 (length (text_of x)) e, q)
+    go false e q = let z : ◌≡◌ {A = ℕ} 0 1 = cc q in absurd (omega arith)
+
+module _ {all : List (Bytes × ℕ)} {s : Bytes} {at : ℕ} {b : Bool} (names : List (Bor Bytes × ℕ)) (i : ℕ) (d : Bor Bytes × ℕ) (f : From text_of all (entries (drop i names)) s at) (k : Spelt (entries (drop i names))) (l : i < length names) (h : Stands s at (get_or names i d).0.now b) where
+  pub table-here : b ≡ true → Named number_of s at (Some (record { number = (get_or names i d).1; next = at + length (get_or names i d).0.now })) (scan text_of all (drop at s))
+  table-here e =
+      let q = table-cons names i d l in
+      here {number = number_of} ((get_or names i d).0.now, (get_or names i d).1) (entries (drop (i + 1) names)) (rw q at f) h e (spelt-cons ((get_or names i d).0.now, (get_or names i d).1) (entries (drop (i + 1) names)) (rw q at k)).0
+
+  pub table-past : b ≡ false → From text_of all (entries (drop (i + 1) names)) s at × Spelt (entries (drop (i + 1) names))
+  table-past e =
+      let q = table-cons names i d l in
+      (past ((get_or names i d).0.now, (get_or names i d).1) (entries (drop (i + 1) names)) (rw q at f) h e, (spelt-cons ((get_or names i d).0.now, (get_or names i d).1) (entries (drop (i + 1) names)) (rw q at k)).1)
+
+pub table-end : {all : List (Bytes × ℕ)} {s : Bytes} {at : ℕ} (i : ℕ) (names : List (Bor Bytes × ℕ)) → From text_of all (entries (drop i names)) s at → length names ≤ i → Named number_of s at None (scan text_of all (drop at s))
+table-end i names f l = nowhere (rw (drop_of_length-le names l) at f)
+
+-- A table that spells and numbers the things of a list.
+
+data Told {A : Type 0} (sp : A → Bytes) (number : A → ℕ) : Read A → Read (Bytes × ℕ) → Type 0 where
+  untold : Told sp number fail fail
+  told : (x : A) (r : Bytes) → Told sp number (got x r) (got (sp x, number x) r)
+
+scan-told : {A : Type 0} (sp : A → Bytes) (number : A → ℕ) (xs : List A) (s : Bytes) → Told sp number (scan sp xs s) (scan text_of (map (λ (x : A). (sp x, number x)) xs) s)
+unfolding scan either
+scan-told sp number [] s = untold
+scan-told {A} sp number (x ∷ xs) s = go (skip (sp x) s) refl (scan-told sp number xs s)
+  where
+    go : (o : Read (Unit {0})) → skip (sp x) s ≡ o → Told sp number (scan sp xs s) (scan text_of (map (λ (y : A). (sp y, number y)) xs) s) → Told sp number (scan sp (x ∷ xs) s) (scan text_of (map (λ (y : A). (sp y, number y)) (x ∷ xs)) s)
+    go fail q h = rw q h
+    go (got u r) q h = rw q (told x r)
+
+as-told : {A : Type 0} {sp : A → Bytes} {number : A → ℕ} {s : Bytes} {at : ℕ} {h : Maybe Spelled} {r : Read A} {r' : Read (Bytes × ℕ)} → Told sp number r r' → Named number_of s at h r' → Named number s at h r
+as-told untold (no_name q) = no_name refl
+as-told untold (some_name y) = let z : ◌≡◌ {A = ℕ} 0 1 = cc y.is in absurd (omega arith)
+as-told (told x r) (no_name q) = let z : ◌≡◌ {A = ℕ} 0 1 = cc in absurd (omega arith)
+as-told {sp = sp} {number = number} {s = s} (told x r) (some_name {h = w} y) =
+    let t : (sp x, number x) ≡ y.thing = cc y.is in
+    let d : r ≡ drop w.next s = cc y.is in
+    some_name {h = w} (record { thing = x; is = ap (got x) d; number_is = ap number_of t ∙ y.number_is; more = y.more; fits = y.fits })
+
+pub retold : {A : Type 0} {number : A → ℕ} {s : Bytes} {at : ℕ} {h : Maybe Spelled} {names : List (Bytes × ℕ)} (sp : A → Bytes) (xs : List A) → names ≡ map (λ (x : A). (sp x, number x)) xs → Named number_of s at h (scan text_of names (drop at s)) → Named number s at h (scan sp xs (drop at s))
+retold {number = number} {s = s} {at = at} sp xs e n = as-told (scan-told sp number xs (drop at s)) (rw e at n)
 
 -- What a name was.
 
-pub as-unknown : {A : Type 0} {number : A → ℕ} {s : Bytes} {at : ℕ} {h : Spelled} {r : Read A} → Named number s at h r → h ≡ Unknown → r ≡ fail
-as-unknown (no_name e) q = e
-as-unknown (some_name x) q = let z : ◌≡◌ {A = ℕ} 0 1 = cc in absurd (omega arith)
+pub as-unknown : {A : Type 0} {number : A → ℕ} {s : Bytes} {at : ℕ} {r : Read A} → Named number s at None r → r ≡ fail
+as-unknown (no_name e) = e
 
-pub as-name : {A : Type 0} {number : A → ℕ} {s : Bytes} {at : ℕ} {h : Spelled} {r : Read A} {o e : ℕ} → Named number s at h r → h ≡ Name o e → Signed number s at o e r
-as-name (no_name x) q = let z : ◌≡◌ {A = ℕ} 0 1 = cc in absurd (omega arith)
-as-name {o = o} {e = e} (some_name {o = o'} {e = e'} x) q =
-    let qo : o' ≡ o = cc in
-    let qe : e' ≡ e = cc in
-    rw qo at (rw qe at x)
+-- For the way out of a `?`.
+pub unnamed : {A : Type 0} {number : A → ℕ} {s : Bytes} {at : ℕ} {h : Maybe Spelled} {r : Read A} → h ≡ None → r ≡ fail → Named number s at h r
+unnamed q e = rw q (no_name e)
+
+pub as-name : {A : Type 0} {number : A → ℕ} {s : Bytes} {at : ℕ} {h : Spelled} {r : Read A} → Named number s at (Some h) r → Signed number s at h.number h.next r
+as-name (some_name x) = x
 
 -- Choices: the digit of the choice of index i is the byte 49 + i.
 
@@ -103,30 +155,25 @@ unfolding known
 known-none s at σ h e = rw (drop-cons s at 0 h, e, known)
 
 module _ {s : Bytes} {at : ℕ} {vars : List ℕ} where
-  pub choice-end : length s ≤ at → Chosen s at vars Unknown
+  pub choice-end : length s ≤ at → Chosen s at vars None
   unfolding known
   choice-end h = no_choice (λ σ e. rw (drop_of_length-le s h))
 
-  pub choice-low : at < length s → get_or s at 0 < 49 → Chosen s at vars Unknown
+  pub choice-low : at < length s → get_or s at 0 < 49 → Chosen s at vars None
   choice-low h l = no_choice (λ σ e. known-none s at σ h (named-low 49 σ (get_or s at 0) l))
 
-  pub choice-high : at < length s → 49 ≤ get_or s at 0 → length vars ≤ get_or s at 0 - 49 → Chosen s at vars Unknown
+  pub choice-high : at < length s → 49 ≤ get_or s at 0 → length vars ≤ get_or s at 0 - 49 → Chosen s at vars None
   choice-high h l m = no_choice (λ σ e. known-none s at σ h (named-high 49 σ (get_or s at 0) (omega arith)))
 
-  pub choice-is : at < length s → 49 ≤ get_or s at 0 → get_or s at 0 - 49 < length vars → Chosen s at vars (Name (get_or vars (get_or s at 0 - 49) 0) (at + 1))
-  choice-is h l m =
-      some_choice (record { index = get_or s at 0 - 49; byte = omega arith; known = m; node = refl; behind = refl; fits = omega arith })
+  pub choice-is : {c v : ℕ} → at < length s → 49 ≤ c → c ≡ get_or s at 0 → c - 49 < length vars → v ≡ get_or vars (c - 49) 0 → Chosen s at vars (Some (record { number = v; next = at + 1 }))
+  choice-is {c} {v} h l e m n =
+      some_choice {h = record { number = v; next = at + 1 }} (record { index = c - 49; byte = omega arith; known = m; node = sym n; behind = refl; fits = omega arith })
 
-pub as-no-choice : {s : Bytes} {at : ℕ} {vars : List ℕ} {h : Spelled} → Chosen s at vars h → h ≡ Unknown → (σ : Choices) → length σ ≡ length vars → known σ (drop at s) ≡ fail
-as-no-choice (no_choice f) q = f
-as-no-choice (some_choice x) q = let z : ◌≡◌ {A = ℕ} 0 1 = cc in absurd (omega arith)
+pub as-no-choice : {s : Bytes} {at : ℕ} {vars : List ℕ} → Chosen s at vars None → (σ : Choices) → length σ ≡ length vars → known σ (drop at s) ≡ fail
+as-no-choice (no_choice f) = f
 
-pub as-choice : {s : Bytes} {at : ℕ} {vars : List ℕ} {h : Spelled} {v e : ℕ} → Chosen s at vars h → h ≡ Name v e → Choice s at vars v e
-as-choice (no_choice f) q = let z : ◌≡◌ {A = ℕ} 0 1 = cc in absurd (omega arith)
-as-choice {v = v} {e = e} (some_choice {v = v'} {e = e'} x) q =
-    let qv : v' ≡ v = cc in
-    let qe : e' ≡ e = cc in
-    rw qv at (rw qe at x)
+pub as-choice : {s : Bytes} {at : ℕ} {vars : List ℕ} {h : Spelled} → Chosen s at vars (Some h) → Choice s at vars h.number h.next
+as-choice (some_choice x) = x
 
 -- The nodes of as many choices; the choice of index i is the term at the node of that index.
 

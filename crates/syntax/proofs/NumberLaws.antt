@@ -9,10 +9,10 @@ use native.Mathlib.Omega.{arith}
 use borrow.Author.Tests.{lt-ltb, le-ltb}
 use lib.ListN.{length, get_or, drop, drop_of_length-le}
 use lib.Seq.{drop-cons}
+use Rattle.std.specs.Prelude.{Some, None}
 use Rattle.syntax.specs.Bytes.{Bytes, Read, fail, got, skip, scan}
 use Rattle.syntax.specs.Rule.{digits, down, read_number}
 use Rattle.syntax.specs.Code.Reading.{Named, no_name, some_name, Signed, read_digit, itself}
-use Rattle.syntax.specs.declared.names.Spelled.TheVariants.{Unknown, Name}
 use Rattle.syntax.proofs.BytesLaws.{never, skip-gives, either-own, either-on}
 use Rattle.syntax.proofs.RuleLaws.{digits-one, digits-two}
 
@@ -44,23 +44,23 @@ digit-own d r h =
     rw (le-ltb (48 + d) 48 l, le-ltb 57 (48 + d) m, read_digit, z)
 
 module _ (s : Bytes) (at : ℕ) where
-  pub digit-end : length s ≤ at → Named itself s at Unknown (read_digit (drop at s))
+  pub digit-end : length s ≤ at → Named itself s at None (read_digit (drop at s))
   unfolding read_digit
   digit-end h = no_name {r = read_digit (drop at s)} (rw (drop_of_length-le s h))
 
-  pub digit_low : at < length s → get_or s at 0 < 48 → Named itself s at Unknown (read_digit (drop at s))
+  pub digit_low : at < length s → get_or s at 0 < 48 → Named itself s at None (read_digit (drop at s))
   unfolding read_digit
   digit_low h l = no_name {r = read_digit (drop at s)} (rw (drop-cons s at 0 h, lt-ltb (get_or s at 0) 48 l, read_digit))
 
-  pub digit-high : at < length s → 48 ≤ get_or s at 0 → 57 < get_or s at 0 → Named itself s at Unknown (read_digit (drop at s))
+  pub digit-high : at < length s → 48 ≤ get_or s at 0 → 57 < get_or s at 0 → Named itself s at None (read_digit (drop at s))
   unfolding read_digit
   digit-high h l m = no_name {r = read_digit (drop at s)} (rw (drop-cons s at 0 h, le-ltb (get_or s at 0) 48 l, lt-ltb 57 (get_or s at 0) m, read_digit))
 
-  pub digit-is : {d : ℕ} → at < length s → 48 ≤ get_or s at 0 → get_or s at 0 ≤ 57 → d ≡ get_or s at 0 - 48 → Named itself s at (Name d (at + 1)) (read_digit (drop at s))
+  pub digit-is : {d : ℕ} → at < length s → 48 ≤ get_or s at 0 → get_or s at 0 ≤ 57 → d ≡ get_or s at 0 - 48 → Named itself s at (Some (record { number = d; next = at + 1 })) (read_digit (drop at s))
   unfolding read_digit
   digit-is {d} h l m e =
       let q : read_digit (drop at s) ≡ got d (drop (at + 1) s) = rw (drop-cons s at 0 h, le-ltb (get_or s at 0) 48 l, le-ltb 57 (get_or s at 0) m, read_digit, ← e, add-one) in
-      some_name {o = d} {e = at + 1} (record { thing = d; is = q; number_is = refl; more = omega arith; fits = omega arith })
+      some_name {h = record { number = d; next = at + 1 }} (record { thing = d; is = q; number_is = refl; more = omega arith; fits = omega arith })
 
 -- What was read where a digit was found.
 digit-read : {s : Bytes} {at d e : ℕ} → Signed itself s at d e (read_digit (drop at s)) → read_digit (drop at s) ≡ got d (drop e s)
@@ -109,21 +109,21 @@ fronted m w s l e = go (dec_lt m 10)
         let h : 10 ≤ m = omega arith in
         pair {r = (48 + m % 10) ∷ w} h (rw (e, digits-two m h) (digit-own (m / 10) ((48 + m % 10) ∷ w) (omega arith))) (digit-own (m % 10) w (omega arith))
 
-pub number-none : (s : Bytes) (at : ℕ) → read_digit (drop at s) ≡ fail → Named itself s at Unknown (read_number (drop at s))
-number-none s at e = no_name (scan-none 64 (drop at s) (λ m w l k q. go (fronted m w (drop at s) k q)))
+pub number-fail : (s : Bytes) (at : ℕ) → read_digit (drop at s) ≡ fail → read_number (drop at s) ≡ fail
+number-fail s at e = scan-none 64 (drop at s) (λ m w l k q. go (fronted m w (drop at s) k q))
   where
     go : {m : ℕ} {w : Bytes} → Fronted m w (drop at s) → ⊥
     go (one p q) = never (sym e ∙ q)
     go (pair p q q') = never (sym e ∙ q)
 
-number-found : {s : Bytes} {at n e : ℕ} (r : Bytes) → drop at s ≡ digits n ++ r → r ≡ drop e s → at + 1 ≤ e → e ≤ length s → n ≤ 64 → Other 64 (drop at s) (suc n) → Named itself s at (Name n e) (read_number (drop at s))
+number-found : {s : Bytes} {at n e : ℕ} (r : Bytes) → drop at s ≡ digits n ++ r → r ≡ drop e s → at + 1 ≤ e → e ≤ length s → n ≤ 64 → Other 64 (drop at s) (suc n) → Named itself s at (Some (record { number = n; next = e })) (read_number (drop at s))
 number-found {s} {at} {n} {e} r q p m f l h =
     let y : read_number (drop at s) ≡ got n (drop e s) = rw (q, ← p) (scan-down 64 n r l (rw q at h)) in
-    some_name {o = n} {e = e} {r = read_number (drop at s)} (record { thing = n; is = y; number_is = refl; more = m; fits = f })
+    some_name {h = record { number = n; next = e }} {r = read_number (drop at s)} (record { thing = n; is = y; number_is = refl; more = m; fits = f })
 
 module _ {s : Bytes} {at a e : ℕ} (x : Signed itself s at a e (read_digit (drop at s))) where
   -- The digit alone is the number, where no number with another digit behind it stands there.
-  alone : ((m : ℕ) (w : Bytes) → a < m → 10 ≤ m → m ≤ 64 → m / 10 ≡ a → read_digit (drop e s) ≡ got (m % 10) w → ⊥) → Named itself s at (Name a e) (read_number (drop at s))
+  alone : ((m : ℕ) (w : Bytes) → a < m → 10 ≤ m → m ≤ 64 → m / 10 ≡ a → read_digit (drop e s) ≡ got (m % 10) w → ⊥) → Named itself s at (Some (record { number = a; next = e })) (read_number (drop at s))
   alone h =
       let d = digit-gives (drop at s) (digit-read x) in
       let l : a < 10 = omega (arith, d.1) in
@@ -136,17 +136,17 @@ module _ {s : Bytes} {at a e : ℕ} (x : Signed itself s at a e (read_digit (dro
           let y : r ≡ drop e s = cc (digit-read x) in
           h m w u p k z (rw (← y) q')
 
-  pub number-zero : a ≡ 0 → Named itself s at (Name a e) (read_number (drop at s))
+  pub number-zero : a ≡ 0 → Named itself s at (Some (record { number = a; next = e })) (read_number (drop at s))
   number-zero z = alone (λ m w u p k q f. omega arith)
 
-  pub number-single : read_digit (drop e s) ≡ fail → Named itself s at (Name a e) (read_number (drop at s))
+  pub number-single : read_digit (drop e s) ≡ fail → Named itself s at (Some (record { number = a; next = e })) (read_number (drop at s))
   number-single f = alone (λ m w u p k q g. never (sym f ∙ g))
 
   module _ {b f : ℕ} (y : Signed itself s e b f (read_digit (drop e s))) where
-    pub number-one : 65 ≤ 10 * a + b → Named itself s at (Name a e) (read_number (drop at s))
+    pub number-one : 65 ≤ 10 * a + b → Named itself s at (Some (record { number = a; next = e })) (read_number (drop at s))
     number-one l = alone (λ m w u p k q g. let z : m % 10 ≡ b = cc (digit-read y) in omega arith)
 
-    pub number-two : (a ≡ 0 → ⊥) → 10 * a + b < 65 → Named itself s at (Name (10 * a + b) f) (read_number (drop at s))
+    pub number-two : (a ≡ 0 → ⊥) → 10 * a + b < 65 → Named itself s at (Some (record { number = 10 * a + b; next = f })) (read_number (drop at s))
     number-two z l =
         let d = digit-gives (drop at s) (digit-read x) in
         let d' = digit-gives (drop e s) (digit-read y) in

@@ -8,15 +8,15 @@ use native.Mathlib.Omega.{arith}
 use borrow.Author.Tests.{lt-ltb, le-ltb, ltb-true, ltb-false, eqb-true, eqb-false}
 use lib.Dec.{eqb, ltb}
 use lib.ListN.{length, get_or, drop}
+use Rattle.std.specs.Prelude.{Option as Maybe, Some, None as Nothing}
 use Rattle.syntax.specs.Bytes.{Bytes, ascii, Read, fail, got, Reader, next, skip, either, scan}
 use Rattle.syntax.specs.Term.{Base, Fn2, operations, done, meet, join, Term, base, call, oe, ao, two, Choices, Head, is_base, is_call, is_oe}
 use Rattle.syntax.specs.Term.{is_ao, is_bracket, is_choice, spell, heads, spell_middle, middles}
 use Rattle.syntax.specs.Term.{known, closed, second, inner, read_term, Pair, calls, joins, is_call2, parting}
 use Rattle.syntax.specs.Code.Arena.{base_op, two_op, None, One, Numbered, Both, Holds, has_two, Down, Tidy}
-use Rattle.syntax.specs.Code.Reading.{Signed, head_op, Choice, Arena, mk, Stays, Fresh, Interned, Put, put, Knows, Readable, Found, Agree, no_thing}
+use Rattle.syntax.specs.Code.Reading.{Signed, head_op, Choice, Arena, mk, Stays, Fresh, Interned, Put, Knows, Readable, Found, Agree, no_thing}
 use Rattle.syntax.specs.Code.Reading.{some_thing, Makes, Joint, pair, away, joint_op, spell_joint, fn2_at, joints, choice, less, ending, paired}
 use Rattle.syntax.specs.declared.arena.Place.{Place}
-use Rattle.syntax.specs.declared.arena.Place.TheVariants.{Nothing, Got}
 use Rattle.syntax.specs.Code.Nodes.{first_call, oe_op, ao_op, first_pair, first_join, ops_end, bracket_head, choice_head, operation_of, node_of, op_at, index_room}
 use Rattle.syntax.proofs.BytesLaws.{next_agree}
 use Rattle.syntax.proofs.ArenaLaws.{base-small, fn-range, two-range, two-less, stays-refl, stays-trans, holds_later, knows-later, parts}
@@ -25,28 +25,27 @@ use Rattle.syntax.proofs.Fuel.{term-step}
 
 -- What a reader answered.
 
-pub as_none : {A : Type 0} {H : List ℕ → ℕ → A → Type 0} {s : Bytes} {at : ℕ} {a : Arena} {ns : List ℕ} {p : Place} {r : Read A} → Agree H s at a ns p r → p ≡ Nothing → r ≡ fail
-as_none (no_thing e) q = e
-as_none (some_thing f) q = let z : ◌≡◌ {A = ℕ} 0 1 = cc in absurd (omega arith)
+pub as_none : {A : Type 0} {H : List ℕ → ℕ → A → Type 0} {s : Bytes} {at : ℕ} {a : Arena} {ns : List ℕ} {r : Read A} → Agree H s at a ns Nothing r → r ≡ fail
+as_none (no_thing e) = e
 
-pub as_some : {A : Type 0} {H : List ℕ → ℕ → A → Type 0} {s : Bytes} {at : ℕ} {a : Arena} {ns : List ℕ} {p : Place} {r : Read A} {k e n : ℕ} → Agree H s at a ns p r → p ≡ Got k e n → Found H s at a (mk ns n) k e r
-as_some (no_thing e) q = let z : ◌≡◌ {A = ℕ} 0 1 = cc in absurd (omega arith)
-as_some {k = k} {e = e} {n = n} (some_thing {k = k'} {e = e'} {n = n'} f) q =
-    let qk : k' ≡ k = cc in
-    let qe : e' ≡ e = cc in
-    let qn : n' ≡ n = cc in
-    rw qk at (rw qe at (rw qn at f))
+pub as_some : {A : Type 0} {H : List ℕ → ℕ → A → Type 0} {s : Bytes} {at : ℕ} {a : Arena} {ns : List ℕ} {p : Place} {r : Read A} → Agree H s at a ns (Some p) r → Found H s at a (mk ns p.n) p.node p.next r
+as_some (some_thing f) = f
+
+-- For the way out of a `?`.
+pub lost : {A : Type 0} {H : List ℕ → ℕ → A → Type 0} {s : Bytes} {at : ℕ} {a : Arena} {ns : List ℕ} {p : Maybe Place} {r : Read A} → p ≡ Nothing → r ≡ fail → Agree H s at a ns p r
+lost q e = rw q (no_thing e)
 
 -- An answer for what was read from at' on, seen from `at`.
-pub agree-from : {A : Type 0} {H : List ℕ → ℕ → A → Type 0} {s : Bytes} {at at' : ℕ} {a b : Arena} {ns : List ℕ} {p : Place} {r : Read A} → Stays a b → b.n + at ≤ a.n + at' → Agree H s at' b ns p r → Agree H s at a ns p r
+pub agree-from : {A : Type 0} {H : List ℕ → ℕ → A → Type 0} {s : Bytes} {at at' : ℕ} {a b : Arena} {ns : List ℕ} {p : Maybe Place} {r : Read A} → Stays a b → b.n + at ≤ a.n + at' → Agree H s at' b ns p r → Agree H s at a ns p r
 agree-from st l (no_thing e) = no_thing e
-agree-from st l (some_thing {k = k} {e = e} {n = n} f) =
-    some_thing {k = k} {e = e} {n = n} (record { thing = f.thing; reads = f.reads; holds = f.holds; within = f.within; count = omega (arith, f.count); end = f.end; stays = stays-trans st f.stays; tidy = f.tidy })
+agree-from st l (some_thing {p = p} f) =
+    some_thing {p = p} (record { thing = f.thing; reads = f.reads; holds = f.holds; within = f.within; count = omega (arith, f.count); end = f.end; stays = stays-trans st f.stays; tidy = f.tidy })
 
 -- A node that was put behind what was read.
-pub put-found : {A : Type 0} {H : List ℕ → ℕ → A → Type 0} {s : Bytes} {at e v : ℕ} {a b : Arena} {ns : List ℕ} {p : Place} {r : Read A} (t : A) → Put b v e ns p → Stays a b → b.n + at + 1 ≤ a.n + e → e ≤ length s → r ≡ got t (drop e s) → ((k n : ℕ) → Interned b v (mk ns n) k → H ns k t) → Agree H s at a ns p r
-put-found {e = e} t (put {k = k} {n = n} u) st l f q h =
-    some_thing {k = k} {e = e} {n = n} (record { thing = t; reads = q; holds = h k n u; within = u.within; count = omega (arith, u.few); end = f; stays = stays-trans st u.stays; tidy = u.tidy })
+pub put-found : {A : Type 0} {H : List ℕ → ℕ → A → Type 0} {s : Bytes} {at e v : ℕ} {a b : Arena} {ns : List ℕ} {p : Place} {r : Read A} (t : A) → Put b v e ns p → Stays a b → b.n + at + 1 ≤ a.n + e → e ≤ length s → r ≡ got t (drop e s) → ((k n : ℕ) → Interned b v (mk ns n) k → H ns k t) → Agree H s at a ns (Some p) r
+put-found {s = s} {p = p} t w st l f q h =
+    let u = w.interned in
+    some_thing {p = p} (record { thing = t; reads = q ∙ ap (λ (i : ℕ). got t (drop i s)) (sym w.behind); holds = h p.node p.n u; within = u.within; count = omega (arith, u.few, w.behind); end = omega (arith, f, w.behind); stays = stays-trans st u.stays; tidy = u.tidy })
 
 -- Where the next reader starts.
 
@@ -351,7 +350,7 @@ module _ {s : Bytes} {at : ℕ} {vars : List ℕ} {a : Arena} {v e : ℕ} (g : R
       let l = below in
       fresh-two (omega (arith, g.count, g.room, x.fits)) g.tidy (omega arith) l (omega arith)
 
-  pub choice-found : (σ : Choices) {ns : List ℕ} {p : Place} → Knows a vars σ → Put a (node_of oe_op v 0) e ns p → Agree Holds s at a ns p (choice σ (drop at s))
+  pub choice-found : (σ : Choices) {ns : List ℕ} {p : Place} → Knows a vars σ → Put a (node_of oe_op v 0) e ns p → Agree Holds s at a ns (Some p) (choice σ (drop at s))
   unfolding choice next Holds
   choice-found σ w u =
       let m = meant a.nodes σ x w.holds in
@@ -367,7 +366,7 @@ module _ {s : Bytes} {at : ℕ} {vars : List ℕ} {a : Arena} {v e : ℕ} (g : R
         let m = meant a.nodes σ x w.holds in
         rw (m.reads, ← x.behind, q)
 
-    pub less-found : {i : ℕ} {ns : List ℕ} {p : Place} → i < a.n → Holds a.nodes i t → Hit s e (ascii "})") → Put a (node_of ao_op i 0) (e + 2) ns p → Agree Holds s at a ns p (less σ t (drop at s))
+    pub less-found : {i : ℕ} {ns : List ℕ} {p : Place} → i < a.n → Holds a.nodes i t → Hit s e (ascii "})") → Put a (node_of ao_op i 0) (e + 2) ns p → Agree Holds s at a ns (Some p) (less σ t (drop at s))
     unfolding less next Holds
     less-found {i} l y h u =
         let m = meant a.nodes σ x w.holds in
@@ -376,7 +375,7 @@ module _ {s : Bytes} {at : ℕ} {vars : List ℕ} {a : Arena} {v e : ℕ} (g : R
         (λ k n z. (i, one-node z (omega arith) (omega arith) (small l), holds_later a _ i t z.stays l y))
 
 -- A term in brackets behind a name.
-pub call-found : {s : Bytes} {at i e o : ℕ} {a b : Arena} {ns : List ℕ} {p : Place} (rd : Reader Term) (make : Term → Term) → Makes o make → first_call ≤ o → o < ops_end → Found Holds s at a b i e (rd (drop at s)) → Hit s e (ascii ")") → Put b (node_of o i 0) (e + 1) ns p → Agree Holds s at a ns p (closed rd make (drop at s))
+pub call-found : {s : Bytes} {at i e o : ℕ} {a b : Arena} {ns : List ℕ} {p : Place} (rd : Reader Term) (make : Term → Term) → Makes o make → first_call ≤ o → o < ops_end → Found Holds s at a b i e (rd (drop at s)) → Hit s e (ascii ")") → Put b (node_of o i 0) (e + 1) ns p → Agree Holds s at a ns (Some p) (closed rd make (drop at s))
 call-found {s} {at} {i} {e} {o} {a} {b} {ns} rd make k lo hi f h u =
     put-found (make f.thing) u f.stays (omega (arith, f.count)) h.fits (closed-got rd make (drop at s) f.reads h.skips)
     (λ l n y. k.builds ns l i f.thing (one-node y lo hi (omega (arith, f.within, f.tidy.size, f.tidy.fits))) (holds_later b _ i f.thing y.stays f.within f.holds))
@@ -387,7 +386,7 @@ module _ (rd : Reader Term) (σ : Choices) (op : ℕ) {s : Bytes} {at i e : ℕ}
   two-lost q = paired-lost rd σ op (drop at s) f.reads q
 
   module _ {o y : ℕ} (x : Signed joint_op s e o y (scan spell_joint (joints op) (drop e s))) where
-    pub away-found : {ns : List ℕ} {p : Place} → o ≡ ao_op → Agree Holds s y b ns p (less σ f.thing (drop y s)) → Agree Holds s at a ns p (paired rd σ op (drop at s))
+    pub away-found : {ns : List ℕ} {p : Maybe Place} → o ≡ ao_op → Agree Holds s y b ns p (less σ f.thing (drop y s)) → Agree Holds s at a ns p (paired rd σ op (drop at s))
     unfolding ending
     away-found q u =
         let j = is-away x.thing (x.number_is ∙ q) in
@@ -411,7 +410,7 @@ module _ (rd : Reader Term) (σ : Choices) (op : ℕ) {s : Bytes} {at i e : ℕ}
       pub two-small : o < ops_end
       two-small = let k = pair-op n in omega (arith, k.1, (two-range k.0).high)
 
-      pub two-found : {ns : List ℕ} {p : Place} → Hit s z (ascii ")") → Put d (node_of o i j) (z + 1) ns p → Agree Holds s at a ns p (paired rd σ op (drop at s))
+      pub two-found : {ns : List ℕ} {p : Place} → Hit s z (ascii ")") → Put d (node_of o i j) (z + 1) ns p → Agree Holds s at a ns (Some p) (paired rd σ op (drop at s))
       unfolding Holds
       two-found {ns} h u =
           let k = pair-op n in
@@ -429,7 +428,7 @@ module _ (rd : Reader Term) (σ : Choices) (op : ℕ) {s : Bytes} {at i e : ℕ}
           ))
 
 -- A set or a collection.
-pub leaf-found : {s : Bytes} {at o e : ℕ} {a : Arena} {ns : List ℕ} {p : Place} (σ : Choices) → Signed head_op s at o e (scan spell heads (drop at s)) → o < first_call → Put a (node_of o 0 0) e ns p → Agree Holds s at a ns p (read_term σ (drop at s))
+pub leaf-found : {s : Bytes} {at o e : ℕ} {a : Arena} {ns : List ℕ} {p : Place} (σ : Choices) → Signed head_op s at o e (scan spell heads (drop at s)) → o < first_call → Put a (node_of o 0 0) e ns p → Agree Holds s at a ns (Some p) (read_term σ (drop at s))
 unfolding Holds
 leaf-found {s} {at} {o} {e} {a} {ns} σ x l u =
     let y = read-leaf σ s at x l in

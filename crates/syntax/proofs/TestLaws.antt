@@ -6,6 +6,7 @@ use mathlib.Core.List.{List}
 use Prim.Native.Nat.{ℕ, suc, ◌+◌, ◌-◌, ◌<◌, ◌≤◌}
 use native.Mathlib.Omega.{arith}
 use lib.ListN.{length, drop}
+use Rattle.std.specs.Prelude.{Option as Maybe, Some}
 use Rattle.syntax.specs.Bytes.{Bytes, ascii, fail, got, next, skip, either, scan}
 use Rattle.syntax.specs.Term.{Term, Choices, read_term}
 use Rattle.syntax.specs.Rule.{Cmp, lt, le, gt, ge, eq, ne, Sign, is, isnt, number, count, Test, member, alike, empty, sized, plain}
@@ -62,7 +63,7 @@ unfolding counted read_count either next
 count-lost σ o t w e q = rw (e, q)
 
 module _ (σ : Choices) (o : Cmp) (t : Term) {s : Bytes} {at : ℕ} where
-  pub number-found : {i c m e : ℕ} {vars : List ℕ} {a : Arena} {ns : List ℕ} {p : Place} → Readable s at vars a → i < a.n → c < 6 → cmp_number o ≡ c → Holds a.nodes i t → skip (ascii "|") (drop at s) ≡ fail → Signed itself s at m e (read_number (drop at s)) → Put a (node_of (first_numbered + c) i m) e ns p → Agree HoldsTest s at a ns p (counted σ o t (drop at s))
+  pub number-found : {i c m e : ℕ} {vars : List ℕ} {a : Arena} {ns : List ℕ} {p : Place} → Readable s at vars a → i < a.n → c < 6 → cmp_number o ≡ c → Holds a.nodes i t → skip (ascii "|") (drop at s) ≡ fail → Signed itself s at m e (read_number (drop at s)) → Put a (node_of (first_numbered + c) i m) e ns p → Agree HoldsTest s at a ns (Some p) (counted σ o t (drop at s))
   unfolding counted read_count either next HoldsTest
   number-found {i} {c} {m} {e} {vars} {a} {ns} g l lc q y z x u =
       let w : read_number (drop at s) ≡ got m (drop e s) = x.is ∙ ap (λ (n : ℕ). got n (drop e s)) x.number_is in
@@ -81,7 +82,7 @@ module _ (σ : Choices) (o : Cmp) (t : Term) {s : Bytes} {at : ℕ} where
       unfolding counted read_count either next
       count-open q = rw (h.skips, x.reads, q)
 
-      pub count-found : {i c : ℕ} {vars : List ℕ} {ns : List ℕ} {p : Place} → Readable s at vars a → i < a.n → c < 6 → cmp_number o ≡ c → Holds a.nodes i t → Hit s e (ascii "|") → Put b (node_of (first_counted + c) i j) (e + 1) ns p → Agree HoldsTest s at a ns p (counted σ o t (drop at s))
+      pub count-found : {i c : ℕ} {vars : List ℕ} {ns : List ℕ} {p : Place} → Readable s at vars a → i < a.n → c < 6 → cmp_number o ≡ c → Holds a.nodes i t → Hit s e (ascii "|") → Put b (node_of (first_counted + c) i j) (e + 1) ns p → Agree HoldsTest s at a ns (Some p) (counted σ o t (drop at s))
       unfolding counted read_count either next HoldsTest
       count-found {i} {c} {vars} {ns} g l lc q y h' u =
           let r : counted σ o t (drop at s) ≡ got (sized o t (count x.thing)) (drop (e + 1) s) = rw (h.skips, x.reads, h'.skips) in
@@ -117,7 +118,7 @@ module _ (σ : Choices) {s : Bytes} {at : ℕ} where
       unfolding sized_test next
       sized-lost q = rw (f.reads, h.skips, q)
 
-      pub sized-found : {c y : ℕ} {ns : List ℕ} {p : Place} (x : Signed cmp_number s (e + 1) c y (scan spell_cmp cmps (drop (e + 1) s))) → Agree HoldsTest s y b ns p (counted σ x.thing f.thing (drop y s)) → Agree HoldsTest s at a ns p (sized_test σ (drop at s))
+      pub sized-found : {c y : ℕ} {ns : List ℕ} {p : Maybe Place} (x : Signed cmp_number s (e + 1) c y (scan spell_cmp cmps (drop (e + 1) s))) → Agree HoldsTest s y b ns p (counted σ x.thing f.thing (drop y s)) → Agree HoldsTest s at a ns p (sized_test σ (drop at s))
       unfolding sized_test next
       sized-found {c} {y} x u =
           let r : sized_test σ (drop at s) ≡ counted σ x.thing f.thing (drop y s) = rw (f.reads, h.skips, x.is) in
@@ -183,7 +184,7 @@ module _ (σ : Choices) {s : Bytes} {at : ℕ} where
           let w = range in
           fresh-two (omega (arith, g.room, g.count, f.count, f.stays.size, x.more, x.fits)) f.tidy (omega (arith, w.high)) f.within (omega (arith, f.within))
 
-      pub empty-found : {ns : List ℕ} {p : Place} → r ≡ true → Put b (node_of (o + 2) i 0) (y + 2) ns p → Agree HoldsTest s at a ns p (related_test σ (drop at s))
+      pub empty-found : {ns : List ℕ} {p : Place} → r ≡ true → Put b (node_of (o + 2) i 0) (y + 2) ns p → Agree HoldsTest s at a ns (Some p) (related_test σ (drop at s))
       unfolding HoldsTest
       empty-found {ns} e' u =
           let w = range in
@@ -200,7 +201,7 @@ module _ (σ : Choices) {s : Bytes} {at : ℕ} where
         pub related-fresh : {vars : List ℕ} → Readable s at vars a → Fresh d o i j
         related-fresh q = let w = range in fresh-pair q f f' x.more (omega (arith, w.high))
 
-        pub related-found : {ns : List ℕ} {p : Place} → r ≡ false → Put d (node_of o i j) g ns p → Agree HoldsTest s at a ns p (related_test σ (drop at s))
+        pub related-found : {ns : List ℕ} {p : Place} → r ≡ false → Put d (node_of o i j) g ns p → Agree HoldsTest s at a ns (Some p) (related_test σ (drop at s))
         unfolding next
         related-found {ns} e' u =
             let w = range in
@@ -250,7 +251,7 @@ module _ (σ : Choices) where
       unfolding read_clause next either
       clause-lost q = rw (f.reads, h.skips, q)
 
-      pub clause-found : {d : Arena} {j z : ℕ} {ns : List ℕ} {p : Place} → Found HoldsTest s (e + 2) b d j z (read_test σ (drop (e + 2) s)) → Put d (node_of when_op i j) z ns p → Agree HoldsClause s at a ns p (read_clause σ (drop at s))
+      pub clause-found : {d : Arena} {j z : ℕ} {ns : List ℕ} {p : Place} → Found HoldsTest s (e + 2) b d j z (read_test σ (drop (e + 2) s)) → Put d (node_of when_op i j) z ns p → Agree HoldsClause s at a ns (Some p) (read_clause σ (drop at s))
       unfolding read_clause next either HoldsClause has_two
       clause-found {d} {j} {z} f' u =
           let q : read_clause σ (drop at s) ≡ got (when f.thing f'.thing) (drop z s) = rw (f.reads, h.skips, f'.reads) in

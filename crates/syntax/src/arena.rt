@@ -10,9 +10,10 @@ use super::places::seek;
 
 // What a reader found: the node that holds it, the place behind it, and the count of nodes after it.
 #[derive(Clone, Copy)]
-pub enum Place {
-    Nothing,
-    Got { node: usize, next: usize, n: usize },
+pub struct Place {
+    pub node: usize,
+    pub next: usize,
+    pub n: usize,
 }
 
 // Where the node of an operation on two indexes may stand first: it has what it stands on below it.
@@ -35,16 +36,12 @@ pub fn intern(nodes: &mut [u32], n: usize, op: u32, i: usize, j: usize, next: us
     let from = lowest(op, i, j);
     let k = from + seek(&nodes[from..], n - from, node);
     if k < n {
-        return Place::Got {
-            node: k,
-            next: next,
-            n: n,
-        };
+        return Place { node: k, next, n };
     }
     nodes[n] = node;
-    Place::Got {
+    Place {
         node: n,
-        next: next,
+        next,
         n: n + 1,
     }
 }

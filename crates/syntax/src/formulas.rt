@@ -11,43 +11,29 @@ use super::names::stands;
 use super::terms::read_term;
 use super::tests::{CLAUSE_ROOM, read_rule};
 
-fn wide(c: u8) -> usize
-    ensures { result ≡ c }
-{
-    c as usize
-}
-
 // What stands behind `[v`: the digit of the next choice, `@`, its set and `]`.
-fn read_set(s: &[u8], at: usize, vars: &[u32], nodes: &mut [u32], n: usize) -> Place
+fn read_set(s: &[u8], at: usize, vars: &[u32], nodes: &mut [u32], n: usize) -> Option<Place>
     requires readable { Readable s.now at vars.now (mk nodes.old n) }
     requires vars_len_bound { length vars.now ≤ 8 }
     ensures { (σ : Choices) → Knows (mk nodes.old n) vars.now σ → Agree Holds s.now at (mk nodes.old n) nodes.new result (chosen_set σ (drop at s.now)) }
 {
-    if s.len() <= at {
-        return Place::Nothing;
+    let c = *s.get(at)?;
+    if c as usize != 49 + vars.len() || !stands(s, at + 1, b"@") {
+        return None;
     }
-    if wide(s[at]) != 49 + vars.len() {
-        return Place::Nothing;
+    let p = read_term(s, at + 2, vars, nodes, n)?;
+    if !stands(s, p.next, b"]") {
+        return None;
     }
-    if !stands(s, at + 1, b"@") {
-        return Place::Nothing;
-    }
-    let p = read_term(s, at + 2, vars, nodes, n);
-    let Place::Got { node, next, n: m } = p else {
-        return Place::Nothing;
-    };
-    if !stands(s, next, b"]") {
-        return Place::Nothing;
-    }
-    Place::Got {
-        node: node,
-        next: next + 1,
-        n: m,
-    }
+    Some(Place {
+        node: p.node,
+        next: p.next + 1,
+        n: p.n,
+    })
 }
 
 // The rule behind `:`.
-fn read_body(s: &[u8], at: usize, vars: &[u32], nodes: &mut [u32], n: usize) -> Place
+fn read_body(s: &[u8], at: usize, vars: &[u32], nodes: &mut [u32], n: usize) -> Option<Place>
     requires { Readable s.now at vars.now (mk nodes.old n) }
     ensures { (σ : Choices) → Knows (mk nodes.old n) vars.now σ → Agree HoldsRule s.now at (mk nodes.old n) nodes.new result (read_rule σ clause_room (drop at s.now)) }
 {
@@ -63,24 +49,21 @@ pub fn read_formula(
     k: usize,
     nodes: &mut [u32],
     n: usize,
-) -> Place
+) -> Option<Place>
     requires readable { Readable s.now at (take k vars.old) (mk nodes.old n) }
     requires vars_len { (length vars.old ≡ 8) × (k ≤ 8) }
     ensures { (σ : Choices) → Knows (mk nodes.old n) (take k vars.old) σ → Agree HoldsRule s.now at (mk nodes.old n) nodes.new result (read_formula clause_room (9 - k) σ (drop at s.now)) }
 {
     if !stands(s, at, b"[v") {
         if !stands(s, at, b":") {
-            return Place::Nothing;
+            return None;
         }
         return read_body(s, at + 1, &vars[..k], nodes, n);
     }
     if k == 8 {
-        return Place::Nothing;
+        return None;
     }
-    let p = read_set(s, at + 2, &vars[..k], nodes, n);
-    let Place::Got { node, next, n: m } = p else {
-        return Place::Nothing;
-    };
-    vars[k] = node as u32;
-    read_formula(s, next, vars, k + 1, nodes, m)
+    let p = read_set(s, at + 2, &vars[..k], nodes, n)?;
+    vars[k] = p.node as u32;
+    read_formula(s, p.next, vars, k + 1, nodes, p.n)
 }

@@ -18,37 +18,35 @@ mod tests;
 
 use arena::Place;
 use formulas::read_formula;
-use tests::{CLAUSE_ROOM, Clauses, join_clauses, read_clauses, read_rule};
+use tests::{CLAUSE_ROOM, join_clauses, read_clauses, read_rule};
 
-// What a whole text is: nothing, or the tree at a node, in n nodes.
+// The tree of a whole text: at a node, in n nodes.
 #[derive(Clone, Copy)]
-pub enum Whole {
-    Nothing,
-    Root { node: usize, n: usize },
+pub struct Root {
+    pub node: usize,
+    pub n: usize,
 }
 
-// What a whole text is by its clauses: nothing, or so many of them, in n nodes.
+// A whole text by its clauses: so many of them, in n nodes.
 #[derive(Clone, Copy)]
-pub enum Listed {
-    Nothing,
-    Clauses { count: usize, n: usize },
+pub struct Listed {
+    pub count: usize,
+    pub n: usize,
 }
 
 // Nothing may be left behind what was read.
-fn ended(s: &[u8], p: Place) -> Whole
+fn ended(s: &[u8], p: Option<Place>) -> Option<Root>
     ensures { (ns₀ ns : List ℕ) (o : Read Rule) → Agree HoldsRule s.now 0 (mk ns₀ 0) ns p o → Reads s.now ns result (whole o) }
 {
-    let Place::Got { node, next, n } = p else {
-        return Whole::Nothing;
-    };
+    let Place { node, next, n } = p?;
     if next < s.len() {
-        return Whole::Nothing;
+        return None;
     }
-    Whole::Root { node: node, n: n }
+    Some(Root { node, n })
 }
 
 // The rule that s is the text of.
-pub fn rule(s: &[u8], nodes: &mut [u32]) -> Whole
+pub fn rule(s: &[u8], nodes: &mut [u32]) -> Option<Root>
     requires { (length s.now ≤ length nodes.old) × (length nodes.old ≤ 4096) × (length s.now ≤ clause_room) }
     ensures { Reads s.now nodes.new result (rule_of s.now) }
 {
@@ -59,7 +57,7 @@ pub fn rule(s: &[u8], nodes: &mut [u32]) -> Whole
 }
 
 // The rule that s is the formula of, with at most 8 quantifiers and CLAUSE_ROOM clauses. The stack that it takes grows with how deep the brackets go.
-pub fn formula(s: &[u8], nodes: &mut [u32]) -> Whole
+pub fn formula(s: &[u8], nodes: &mut [u32]) -> Option<Root>
     requires { (length s.now ≤ length nodes.old) × (length nodes.old ≤ 4096) }
     ensures { Reads s.now nodes.new result (whole (read_formula clause_room 9 [] s.now)) }
 {
@@ -69,39 +67,29 @@ pub fn formula(s: &[u8], nodes: &mut [u32]) -> Whole
 }
 
 // The rule that s is the text of, by its clauses: their nodes come behind the n that are there, and are listed. So several texts have one tree.
-pub fn clauses(s: &[u8], nodes: &mut [u32], n: usize, list: &mut [u32]) -> Listed
+pub fn clauses(s: &[u8], nodes: &mut [u32], n: usize, list: &mut [u32]) -> Option<Listed>
     requires { Tidy nodes.old n × (n + length s.now ≤ length nodes.old) × (length s.now ≤ length list.old) }
     ensures { Lists s.now (mk nodes.old n) nodes.new list.new result (rule_of s.now) }
 {
     let none = [0u32; 1];
-    let p = read_clauses(s, 0, &none[..0], nodes, n, list);
-    let Clauses::Several {
-        count: c,
-        next: e,
-        n: m,
-    } = p
-    else {
-        return Listed::Nothing;
-    };
-    if e < s.len() {
-        return Listed::Nothing;
+    let p = read_clauses(s, 0, &none[..0], nodes, n, list)?;
+    if p.next < s.len() {
+        return None;
     }
-    Listed::Clauses { count: c, n: m }
+    Some(Listed {
+        count: p.count,
+        n: p.n,
+    })
 }
 
 // The rule of the first c clauses of a list.
-pub fn join(nodes: &mut [u32], n: usize, list: &[u32], c: usize) -> Whole
+pub fn join(nodes: &mut [u32], n: usize, list: &[u32], c: usize) -> Root
     requires { Joinable (mk nodes.old n) list.now c 0 }
     ensures { Together (mk nodes.old n) list.now c nodes.new result }
 {
     let p = join_clauses(nodes, n, list, c, 0);
-    let Place::Got {
-        node: k,
-        next: _,
-        n: m,
-    } = p
-    else {
-        return Whole::Nothing;
-    };
-    Whole::Root { node: k, n: m }
+    Root {
+        node: p.node,
+        n: p.n,
+    }
 }

@@ -8,12 +8,5 @@ pub fn seek(list: &[u32], n: usize, number: u32) -> usize
     requires { n ≤ length list.now }
     ensures { Sought list.now n number result }
 {
-    let mut i = 0;
-    while i < n {
-        if list[i] == number {
-            return i;
-        }
-        i += 1;
-    }
-    i
+    list[..n].iter().position(|v| *v == number).unwrap_or(n)
 }

@@ -9,7 +9,7 @@ ghost use Rattle.syntax.specs.Code.Reading.{mk, Readable, Knows, Agree, Stands, 
 ghost use Rattle.syntax.specs.Code.Nodes.{first_alike};
 
 use super::arena::{Place, intern};
-use super::names::{Spelled, between_at, cmp_at, number_at, stands};
+use super::names::{between_at, cmp_at, number_at, stands};
 use super::nodes::{ALSO, FIRST_COUNTED, FIRST_NUMBERED, IS, TO_EMPTY, WHEN};
 use super::terms::read_term;
 
@@ -22,55 +22,34 @@ fn read_count(
     n: usize,
     c: u32,
     i: usize,
-) -> Place
+) -> Option<Place>
     requires readable { Readable s.now at vars.now (mk nodes.old n) }
     requires c_bound { (c < 6) × (i < n) }
     ensures { (σ : Choices) (o : Cmp) (a : Term) → Knows (mk nodes.old n) vars.now σ → cmp_number o ≡ c → Holds nodes.old i a → Agree HoldsTest s.now at (mk nodes.old n) nodes.new result (counted σ o a (drop at s.now)) }
 {
     if !stands(s, at, b"|") {
-        let h = number_at(s, at);
-        let Spelled::Name(m, e) = h else {
-            return Place::Nothing;
-        };
-        return intern(nodes, n, FIRST_NUMBERED + c, i, m as usize, e);
+        let h = number_at(s, at)?;
+        let number = h.number as usize;
+        return Some(intern(nodes, n, FIRST_NUMBERED + c, i, number, h.next));
     }
-    let p = read_term(s, at + 1, vars, nodes, n);
-    let Place::Got {
-        node: j,
-        next: e,
-        n: m,
-    } = p
-    else {
-        return Place::Nothing;
-    };
-    if !stands(s, e, b"|") {
-        return Place::Nothing;
+    let p = read_term(s, at + 1, vars, nodes, n)?;
+    if !stands(s, p.next, b"|") {
+        return None;
     }
-    intern(nodes, m, FIRST_COUNTED + c, i, j, e + 1)
+    Some(intern(nodes, p.n, FIRST_COUNTED + c, i, p.node, p.next + 1))
 }
 
 // What stands behind the first `|` of a test: a term, `|`, a comparison, and a number or a count.
-fn read_sized(s: &[u8], at: usize, vars: &[u32], nodes: &mut [u32], n: usize) -> Place
+fn read_sized(s: &[u8], at: usize, vars: &[u32], nodes: &mut [u32], n: usize) -> Option<Place>
     requires { Readable s.now at vars.now (mk nodes.old n) }
     ensures { (σ : Choices) → Knows (mk nodes.old n) vars.now σ → Agree HoldsTest s.now at (mk nodes.old n) nodes.new result (sized_test σ (drop at s.now)) }
 {
-    let p = read_term(s, at, vars, nodes, n);
-    let Place::Got {
-        node: i,
-        next: e,
-        n: m,
-    } = p
-    else {
-        return Place::Nothing;
-    };
-    if !stands(s, e, b"|") {
-        return Place::Nothing;
+    let p = read_term(s, at, vars, nodes, n)?;
+    if !stands(s, p.next, b"|") {
+        return None;
     }
-    let h = cmp_at(s, e + 1);
-    let Spelled::Name(c, f) = h else {
-        return Place::Nothing;
-    };
-    read_count(s, f, vars, nodes, m, c, i)
+    let h = cmp_at(s, p.next + 1)?;
+    read_count(s, h.next, vars, nodes, p.n, h.number, p.node)
 }
 
 // Whether `{}` stands behind a sign; `@` has none behind it.
@@ -85,39 +64,20 @@ fn empty_at(s: &[u8], at: usize, op: u32) -> bool
 }
 
 // A test that begins with a term: a sign, and then a term or `{}`.
-fn read_related(s: &[u8], at: usize, vars: &[u32], nodes: &mut [u32], n: usize) -> Place
+fn read_related(s: &[u8], at: usize, vars: &[u32], nodes: &mut [u32], n: usize) -> Option<Place>
     requires { Readable s.now at vars.now (mk nodes.old n) }
     ensures { (σ : Choices) → Knows (mk nodes.old n) vars.now σ → Agree HoldsTest s.now at (mk nodes.old n) nodes.new result (related_test σ (drop at s.now)) }
 {
-    let p = read_term(s, at, vars, nodes, n);
-    let Place::Got {
-        node: i,
-        next: e,
-        n: m,
-    } = p
-    else {
-        return Place::Nothing;
-    };
-    let h = between_at(s, e);
-    let Spelled::Name(op, f) = h else {
-        return Place::Nothing;
-    };
-    if empty_at(s, f, op) {
-        return intern(nodes, m, op + TO_EMPTY, i, 0, f + 2);
+    let p = read_term(s, at, vars, nodes, n)?;
+    let h = between_at(s, p.next)?;
+    if empty_at(s, h.next, h.number) {
+        return Some(intern(nodes, p.n, h.number + TO_EMPTY, p.node, 0, h.next + 2));
     }
-    let q = read_term(s, f, vars, nodes, m);
-    let Place::Got {
-        node: j,
-        next: g,
-        n: l,
-    } = q
-    else {
-        return Place::Nothing;
-    };
-    intern(nodes, l, op, i, j, g)
+    let q = read_term(s, h.next, vars, nodes, p.n)?;
+    Some(intern(nodes, q.n, h.number, p.node, q.node, q.next))
 }
 
-fn read_test(s: &[u8], at: usize, vars: &[u32], nodes: &mut [u32], n: usize) -> Place
+fn read_test(s: &[u8], at: usize, vars: &[u32], nodes: &mut [u32], n: usize) -> Option<Place>
     requires { Readable s.now at vars.now (mk nodes.old n) }
     ensures { (σ : Choices) → Knows (mk nodes.old n) vars.now σ → Agree HoldsTest s.now at (mk nodes.old n) nodes.new result (read_test σ (drop at s.now)) }
 {
@@ -128,43 +88,16 @@ fn read_test(s: &[u8], at: usize, vars: &[u32], nodes: &mut [u32], n: usize) -> 
 }
 
 // A test, or a test, `=>` and a test.
-fn read_clause(s: &[u8], at: usize, vars: &[u32], nodes: &mut [u32], n: usize) -> Place
+fn read_clause(s: &[u8], at: usize, vars: &[u32], nodes: &mut [u32], n: usize) -> Option<Place>
     requires { Readable s.now at vars.now (mk nodes.old n) }
     ensures { (σ : Choices) → Knows (mk nodes.old n) vars.now σ → Agree HoldsClause s.now at (mk nodes.old n) nodes.new result (read_clause σ (drop at s.now)) }
 {
-    let p = read_test(s, at, vars, nodes, n);
-    let Place::Got {
-        node: i,
-        next: e,
-        n: m,
-    } = p
-    else {
-        return Place::Nothing;
-    };
-    if !stands(s, e, b"=>") {
-        return Place::Got {
-            node: i,
-            next: e,
-            n: m,
-        };
+    let p = read_test(s, at, vars, nodes, n)?;
+    if !stands(s, p.next, b"=>") {
+        return Some(p);
     }
-    let q = read_test(s, e + 2, vars, nodes, m);
-    let Place::Got {
-        node: j,
-        next: f,
-        n: l,
-    } = q
-    else {
-        return Place::Nothing;
-    };
-    intern(nodes, l, WHEN, i, j, f)
-}
-
-fn caret_at(s: &[u8], at: usize) -> bool
-    requires { at ≤ length s.now }
-    ensures { Stands s.now at (ascii "^") result }
-{
-    stands(s, at, b"^")
+    let q = read_test(s, p.next + 2, vars, nodes, p.n)?;
+    Some(intern(nodes, q.n, WHEN, p.node, q.node, q.next))
 }
 
 // How many clauses are read at most: a rule has at most 256 bytes, and a clause one at least.
@@ -172,9 +105,10 @@ pub const CLAUSE_ROOM: usize = 256;
 
 // The clauses of a rule: how many there are, the place behind them, and the count of nodes after them.
 #[derive(Clone, Copy)]
-pub enum Clauses {
-    Nothing,
-    Several { count: usize, next: usize, n: usize },
+pub struct Clauses {
+    pub count: usize,
+    pub next: usize,
+    pub n: usize,
 }
 
 // The nodes of the clauses joined by `^`, at most as many as the list has room for.
@@ -185,31 +119,26 @@ pub fn read_clauses(
     nodes: &mut [u32],
     first: usize,
     list: &mut [u32],
-) -> Clauses
+) -> Option<Clauses>
     requires { Readable s.now start vars.now (mk nodes.old first) }
     ensures { (σ : Choices) → Knows (mk nodes.old first) vars.now σ → Collects s.now start (mk nodes.old first) nodes.new list.new result (read_rule σ (length list.old) (drop start s.now)) }
 {
     let mut at = start;
     let mut n = first;
-    let mut c = 0;
-    while c < list.len() {
-        let p = read_clause(s, at, vars, nodes, n);
-        let Place::Got { node, next, n: m } = p else {
-            return Clauses::Nothing;
-        };
-        list[c] = node as u32;
-        c += 1;
-        if !caret_at(s, next) {
-            return Clauses::Several {
-                count: c,
-                next: next,
-                n: m,
-            };
+    for c in 0..list.len() {
+        let p = read_clause(s, at, vars, nodes, n)?;
+        list[c] = p.node as u32;
+        if !stands(s, p.next, b"^") {
+            return Some(Clauses {
+                count: c + 1,
+                next: p.next,
+                n: p.n,
+            });
         }
-        at = next + 1;
-        n = m;
+        at = p.next + 1;
+        n = p.n;
     }
-    Clauses::Nothing
+    None
 }
 
 // The rule of the first c clauses of a list, made from the last one on.
@@ -217,28 +146,15 @@ pub fn join_clauses(nodes: &mut [u32], n: usize, list: &[u32], c: usize, next: u
     requires { Joinable (mk nodes.old n) list.now c next }
     ensures { Joined (mk nodes.old n) list.now c next nodes.new result }
 {
-    let mut k = c - 1;
-    let mut node = list[k] as usize;
-    let mut m = n;
-    while 0 < k {
-        k -= 1;
-        let p = intern(nodes, m, ALSO, list[k] as usize, node, next);
-        let Place::Got {
-            node: i,
-            next: _,
-            n: l,
-        } = p
-        else {
-            return Place::Nothing;
-        };
-        node = i;
-        m = l;
+    let mut p = Place {
+        node: list[c - 1] as usize,
+        next,
+        n,
+    };
+    for k in (0..c - 1).rev() {
+        p = intern(nodes, p.n, ALSO, list[k] as usize, p.node, next);
     }
-    Place::Got {
-        node: node,
-        next: next,
-        n: m,
-    }
+    p
 }
 
 // Clauses joined by `^`, at most as many as the list has room for. A list, and no call for each clause: the stack stays small.
@@ -249,18 +165,10 @@ pub fn read_rule(
     nodes: &mut [u32],
     n: usize,
     list: &mut [u32],
-) -> Place
+) -> Option<Place>
     requires { Readable s.now at vars.now (mk nodes.old n) }
     ensures { (σ : Choices) → Knows (mk nodes.old n) vars.now σ → Agree HoldsRule s.now at (mk nodes.old n) nodes.new result (read_rule σ (length list.old) (drop at s.now)) }
 {
-    let p = read_clauses(s, at, vars, nodes, n, list);
-    let Clauses::Several {
-        count: c,
-        next: e,
-        n: m,
-    } = p
-    else {
-        return Place::Nothing;
-    };
-    join_clauses(nodes, m, list, c, e)
+    let p = read_clauses(s, at, vars, nodes, n, list)?;
+    Some(join_clauses(nodes, p.n, list, p.count, p.next))
 }

@@ -17,25 +17,25 @@ pub returns-then-too_deep : goal.returns-then-too_deep
 returns-then-too_deep c = rebuild-deep _ _ (sym c.too_deep.ensures ∙ c.if-too_deep.true)
 
 pub returns-in_default : goal.returns-in_default
-returns-in_default c = rebuild-unread _ _ (as-nothing c.formula.ensures c.in_default.is)
+returns-in_default c = rebuild-unread _ _ (as-nothing c.in_default.ensures)
 
 pub rule_length-requires : goal.rule_length-requires
-rule_length-requires c = let t = as-root c.formula.ensures c.in-Root.is in record { tidy = t.tidy; root_lt_n = t.within }
+rule_length-requires c = let t = as-root c.in-Some.ensures in record { tidy = t.tidy; root_lt_n = t.within }
 
 pub returns-then-rule_length-gt-LENGTH_LIMIT : goal.returns-then-rule_length-gt-LENGTH_LIMIT
 returns-then-rule_length-gt-LENGTH_LIMIT c =
-    rebuild-wide _ _ (as-root c.formula.ensures c.in-Root.is) c.rule_length.ensures c.if-rule_length-gt-LENGTH_LIMIT.true
+    rebuild-wide _ _ (as-root c.in-Some.ensures) c.rule_length.ensures c.if-rule_length-gt-LENGTH_LIMIT.true
 
 pub write_rule-l-requires : goal.write_rule-l-requires
 write_rule-l-requires c =
-    rebuild-ready (as-root c.formula.ensures c.in-Root.is)
+    rebuild-ready (as-root c.in-Some.ensures)
 
 pub slice_bounds-reduce-end : goal.slice_bounds-reduce-end
 slice_bounds-reduce-end c = sym (length-take-le _ _ (search rules))
 
 pub returns-in_default-reduce : goal.returns-in_default-reduce
 returns-in_default-reduce c =
-    let t = as-root c.formula.ensures c.in-Root.is in
+    let t = as-root c.in-Some.ensures in
     rebuild-refused _ _ t.is (rebuild-text t c.write_rule-l.ensures) c.reduce.ensures c.in_default-reduce.is (omega (arith, c.if-formula-gt-FORMULA_LIMIT.false))
 
 pub slice_bounds-sheet-end : goal.slice_bounds-sheet-end
@@ -46,7 +46,7 @@ slice_bounds-ne-end c = sym (length-take-le _ _ (answers-wrote _ _ c.reduce.ensu
 
 pub returns-then-ne : goal.returns-then-ne
 returns-then-ne c =
-    let t = as-root c.formula.ensures c.in-Root.is in
+    let t = as-root c.in-Some.ensures in
     rebuild-apart _ _ t.is (rebuild-text t c.write_rule-l.ensures) c.reduce.ensures c.in-Ok.is (same_tested _ _ c.ne.ensures ∙ ap not c.if-ne.true)
 
 pub slice_bounds-lend-end : goal.slice_bounds-lend-end

@@ -19,14 +19,14 @@ rule-requires c =
 
 pub returns-in_default : goal.returns-in_default
 returns-in_default c =
-    rejected (refuse-text c.args.s.now (as_passed c.check_text.ensures c.in_ok-check_text.was) (as-nothing c.rule.ensures c.in_default.is))
+    rejected (refuse-text c.args.s.now (as_passed c.check_text.ensures c.in_ok-check_text.was) (as-nothing c.in_default.ensures))
 
 pub check_tree-requires : goal.check_tree-requires
 check_tree-requires c =
     let f = as_passed c.check_text.ensures c.in_ok-check_text.was in
-    let t = as-root c.rule.ensures c.in-Root.is in
+    let t = as-root c.in-Some.ensures in
     record { tidy = t.tidy; root_lt_n = t.within; n_in_bounds = omega (arith, t.few, f.short, c.requires); vars_len = c.requires.vars_len }
 
 pub returns : goal.returns
 returns c =
-    find-tree (as_passed c.check_text.ensures c.in_ok-check_text.was) (as-root c.rule.ensures c.in-Root.is) c.check_tree.ensures
+    find-tree (as_passed c.check_text.ensures c.in_ok-check_text.was) (as-root c.in-Some.ensures) c.check_tree.ensures

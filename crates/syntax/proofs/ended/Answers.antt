@@ -4,11 +4,11 @@ use Rattle.syntax.proofs.ReadingLaws.{as_none, as_some}
 use Rattle.syntax.proofs.FormulaLaws.{ended-none, ended-left, ended_here}
 use Rattle.syntax.proofs.ended.Goals as goal
 
-pub returns-in_default : goal.returns-in_default
-returns-in_default c = λ ns₀ ns o h. ended-none (as_none h c.in_default.is)
+pub returns-in_err-node : goal.returns-in_err-node
+returns-in_err-node c = λ ns₀ ns o h. rw c.from_residual.ensures (ended-none (as_none (rw c.in_err-node.was at h)))
 
 pub returns-then-next-s : goal.returns-then-next-s
-returns-then-next-s c = λ ns₀ ns o h. ended-left (as_some h c.in-Got.is) c.if-next-s.true
+returns-then-next-s c = λ ns₀ ns o h. ended-left (as_some (rw c.in_ok-node.was at h)) c.if-next-s.true
 
 pub returns : goal.returns
-returns c = λ ns₀ ns o h. ended_here (as_some h c.in-Got.is) c.if-next-s.false
+returns c = λ ns₀ ns o h. ended_here (as_some (rw c.in_ok-node.was at h)) c.if-next-s.false

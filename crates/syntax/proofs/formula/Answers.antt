@@ -2,8 +2,6 @@
 -- Assumes nothing.
 use mathlib.Core.List.{[]}
 use native.Mathlib.Omega.{arith}
-use Rattle.syntax.specs.Rule.{read_formula}
-use Rattle.syntax.specs.Code.Reading.{clause_room}
 use Rattle.syntax.proofs.ArenaLaws.{tidy-none}
 use Rattle.syntax.proofs.FormulaLaws.{knows-none}
 use borrow.Author.Rules.{rules}
@@ -11,7 +9,3 @@ use Rattle.syntax.proofs.formula.Goals as goal
 
 pub read_formula-p-requires : goal.read_formula-p-requires
 read_formula-p-requires c = record { readable = record { room = c.requires.0; within = omega arith; count = omega (arith, c.requires); tidy = tidy-none _ c.requires.1; choices = []; knows = knows-none }; vars_len = (search rules, omega arith) }
-
-pub returns : goal.returns
-returns c =
-    c.ended.ensures _ _ (read_formula clause_room 9 [] c.args.s.now) (c.read_formula-p.ensures [] knows-none)

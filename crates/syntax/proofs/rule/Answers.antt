@@ -1,6 +1,5 @@
 -- `rule` reads with no choices known, as deep and as many clauses as there are bytes.
 -- Assumes nothing.
-use mathlib.Core.Path.{sym}
 use mathlib.Core.List.{[]}
 use native.Mathlib.Omega.{arith}
 use lib.ListN.{length, replicate}
@@ -10,9 +9,6 @@ use Rattle.syntax.specs.Code.Reading.{clause_room}
 use Rattle.syntax.proofs.ArenaLaws.{tidy-none}
 use Rattle.syntax.proofs.FormulaLaws.{knows-none, reads-alike}
 use Rattle.syntax.proofs.rule.Goals as goal
-
-pub slice_bounds-read_rule-end-2 : goal.slice_bounds-read_rule-end-2
-slice_bounds-read_rule-end-2 c = sym (length-take-le (length c.args.s.now) (replicate clause_room 0) (omega (arith, c.requires)))
 
 pub read_rule-p-requires : goal.read_rule-p-requires
 read_rule-p-requires c = record { room = c.requires.0; within = omega arith; count = omega (arith, c.requires); tidy = tidy-none _ c.requires.1; choices = []; knows = knows-none }

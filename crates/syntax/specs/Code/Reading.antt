@@ -1,6 +1,9 @@
 -- What the functions of the reader ensure: which name stands at a place, what a reader found, what the nodes hold.
 -- Internal: contracts of entry points do not speak of it. Assumes nothing.
-use Rattle.std.specs.Prelude.{◌≡◌, Bool, cond, List, [], ◌∷◌, ℕ, ◌+◌, ◌-◌, ◌<◌, ◌≤◌, eqb, ltb, length, get_or, drop}
+use denote.Ref.{Bor}
+use Rattle.std.specs.Prelude.{◌≡◌, Bool, cond, List, [], ◌∷◌, ℕ, ◌+◌, ◌-◌, ◌<◌, ◌≤◌, eqb, ltb, leb, length, get_or, drop, map, IsTrue}
+use Rattle.std.specs.List.{list_all}
+use Rattle.std.specs.Prelude.{Option as Maybe, Some, None}
 use Rattle.std.proofs.Math.Option.{Option, none, some}
 use Rattle.syntax.specs.Bytes.{Bytes, ascii, Read, fail, got, Reader, ◌>>=◌, ◌>>◌, give, skip, begins, scan}
 use Rattle.syntax.specs.Term.{Fn2, operations, done, meet, join, Pair, calls, joins, Term, oe, ao, two, Choices, Head, is_base, is_call, is_oe, is_ao}
@@ -8,15 +11,10 @@ use Rattle.syntax.specs.Term.{is_call2, is_bracket, is_choice, is_less, spell_mi
 use Rattle.syntax.specs.Rule.{Between, is_in, is_sign, Cmp, Test, Clause, Rule, last, also, sized, spell_cmp, cmps, spell_between, betweens, read_count, read_second}
 use Rattle.syntax.specs.Code.Arena.{base_op, fn_op, two_op, alike_op, One, Holds, HoldsAll, HoldsClause, HoldsRule, Low, Tidy}
 use Rattle.syntax.specs.declared.names.Spelled.{Spelled}
-use Rattle.syntax.specs.declared.names.Spelled.TheVariants.{Unknown, Name}
 use Rattle.syntax.specs.declared.arena.Place.{Place}
-use Rattle.syntax.specs.declared.arena.Place.TheVariants.{Nothing, Got}
 use Rattle.syntax.specs.declared.tests.Clauses.{Clauses}
-use Rattle.syntax.specs.declared.tests.Clauses.TheVariants.{Nothing as NoClause, Several}
-use Rattle.syntax.specs.declared.Whole.{Whole}
-use Rattle.syntax.specs.declared.Whole.TheVariants.{Nothing as NoRoot, Root}
+use Rattle.syntax.specs.declared.Root.{Root}
 use Rattle.syntax.specs.declared.Listed.{Listed}
-use Rattle.syntax.specs.declared.Listed.TheVariants.{Nothing as NoList, Clauses as Every}
 use Rattle.syntax.specs.Code.Nodes.{oe_op, ao_op, first_pair, first_join, member_op, ops_end, bracket_head, choice_head, node_of, index_room}
 
 -- Names.
@@ -33,9 +31,9 @@ pub record Signed {A : Type 0} (number : A → ℕ) (s : Bytes) (at o e : ℕ) (
   pub more : at + 1 ≤ e
   pub fits : e ≤ length s
 
-pub data Named {A : Type 0} (number : A → ℕ) (s : Bytes) (at : ℕ) : Spelled → Read A → Type 0 where
-  no_name : {r : Read A} → r ≡ fail → Named number s at Unknown r
-  some_name : {o e : ℕ} {r : Read A} → Signed number s at o e r → Named number s at (Name o e) r
+pub data Named {A : Type 0} (number : A → ℕ) (s : Bytes) (at : ℕ) : Maybe Spelled → Read A → Type 0 where
+  no_name : {r : Read A} → r ≡ fail → Named number s at None r
+  some_name : {h : Spelled} {r : Read A} → Signed number s at h.number h.next r → Named number s at (Some h) r
 
 -- The numbers of the beginnings of a term: that of the operation, or one of their own.
 unfoldable pub head_op : Head → ℕ
@@ -55,6 +53,20 @@ between_op (is_sign g) = alike_op g
 abbrev pub itself : ℕ → ℕ
 itself m = m
 
+-- The names of a table, each with its number.
+abbrev pub entries : List (Bor Bytes × ℕ) → List (Bytes × ℕ)
+entries names = map (λ p. (p.0.now, p.1)) names
+
+abbrev pub text_of : Bytes × ℕ → Bytes
+text_of x = x.0
+
+abbrev pub number_of : Bytes × ℕ → ℕ
+number_of x = x.1
+
+-- Each has a byte at least.
+abbrev pub Spelt : List (Bytes × ℕ) → Type 0
+Spelt xs = IsTrue (list_all (λ x. leb 1 (length (text_of x))) xs)
+
 -- A digit in front.
 unfoldable pub read_digit : Reader ℕ
 read_digit [] = fail
@@ -69,9 +81,9 @@ pub record Choice (s : Bytes) (at : ℕ) (vars : List ℕ) (v e : ℕ) : Type 0 
   pub behind : e ≡ at + 1
   pub fits : at + 1 ≤ length s
 
-pub data Chosen (s : Bytes) (at : ℕ) (vars : List ℕ) : Spelled → Type 0 where
-  no_choice : ((σ : Choices) → length σ ≡ length vars → known σ (drop at s) ≡ fail) → Chosen s at vars Unknown
-  some_choice : {v e : ℕ} → Choice s at vars v e → Chosen s at vars (Name v e)
+pub data Chosen (s : Bytes) (at : ℕ) (vars : List ℕ) : Maybe Spelled → Type 0 where
+  no_choice : ((σ : Choices) → length σ ≡ length vars → known σ (drop at s) ≡ fail) → Chosen s at vars None
+  some_choice : {h : Spelled} → Choice s at vars h.number h.next → Chosen s at vars (Some h)
 
 -- Nodes.
 
@@ -112,8 +124,10 @@ pub record Interned (a : Arena) (v : ℕ) (b : Arena) (k : ℕ) : Type 0 where
   pub stays : Stays a b
   pub tidy : Tidy b.nodes b.n
 
-pub data Put (a : Arena) (v next : ℕ) (ns : List ℕ) : Place → Type 0 where
-  put : {k n : ℕ} → Interned a v (mk ns n) k → Put a v next ns (Got k next n)
+-- p says where the node v is, and that it was read up to e.
+pub record Put (a : Arena) (v e : ℕ) (ns : List ℕ) (p : Place) : Type 0 where
+  pub interned : Interned a v (mk ns p.n) p.node
+  pub behind : p.next ≡ e
 
 -- Readers.
 
@@ -142,9 +156,9 @@ pub record Found {A : Type 0} (H : List ℕ → ℕ → A → Type 0) (s : Bytes
   pub stays : Stays a b
   pub tidy : Tidy b.nodes b.n
 
-pub data Agree {A : Type 0} (H : List ℕ → ℕ → A → Type 0) (s : Bytes) (at : ℕ) (a : Arena) (ns : List ℕ) : Place → Read A → Type 0 where
-  no_thing : {r : Read A} → r ≡ fail → Agree H s at a ns Nothing r
-  some_thing : {k e n : ℕ} {r : Read A} → Found H s at a (mk ns n) k e r → Agree H s at a ns (Got k e n) r
+pub data Agree {A : Type 0} (H : List ℕ → ℕ → A → Type 0) (s : Bytes) (at : ℕ) (a : Arena) (ns : List ℕ) : Maybe Place → Read A → Type 0 where
+  no_thing : {r : Read A} → r ≡ fail → Agree H s at a ns None r
+  some_thing : {p : Place} {r : Read A} → Found H s at a (mk ns p.n) p.node p.next r → Agree H s at a ns (Some p) r
 
 -- The parts of the reader of terms that its functions read.
 
@@ -227,9 +241,9 @@ pub record Collected (s : Bytes) (at : ℕ) (a b : Arena) (list : List ℕ) (c e
   pub stays : Stays a b
   pub tidy : Tidy b.nodes b.n
 
-pub data Collects (s : Bytes) (at : ℕ) (a : Arena) (ns list : List ℕ) : Clauses → Read Rule → Type 0 where
-  no_clause : {r : Read Rule} → r ≡ fail → Collects s at a ns list NoClause r
-  some_clauses : {c e n : ℕ} {r : Read Rule} → Collected s at a (mk ns n) list c e r → Collects s at a ns list (Several c e n) r
+pub data Collects (s : Bytes) (at : ℕ) (a : Arena) (ns list : List ℕ) : Maybe Clauses → Read Rule → Type 0 where
+  no_clause : {r : Read Rule} → r ≡ fail → Collects s at a ns list None r
+  some_clauses : {p : Clauses} {r : Read Rule} → Collected s at a (mk ns p.n) list p.count p.next r → Collects s at a ns list (Some p) r
 
 -- The clauses of a list may be joined: there is room for a node between each two.
 pub record Joinable (a : Arena) (list : List ℕ) (c next : ℕ) : Type 0 where
@@ -247,8 +261,9 @@ pub record JoinedAt (a : Arena) (list : List ℕ) (c : ℕ) (b : Arena) (k : ℕ
   pub stays : Stays a b
   pub tidy : Tidy b.nodes b.n
 
-pub data Joined (a : Arena) (list : List ℕ) (c next : ℕ) (ns : List ℕ) : Place → Type 0 where
-  joined : {k n : ℕ} → JoinedAt a list c (mk ns n) k → Joined a list c next ns (Got k next n)
+pub record Joined (a : Arena) (list : List ℕ) (c e : ℕ) (ns : List ℕ) (p : Place) : Type 0 where
+  pub rule : JoinedAt a list c (mk ns p.n) p.node
+  pub behind : p.next ≡ e
 
 -- A whole text: the rule that it is, at node k of n.
 pub record Rooted (s ns : List ℕ) (k n : ℕ) (o : Option Rule) : Type 0 where
@@ -259,9 +274,9 @@ pub record Rooted (s ns : List ℕ) (k n : ℕ) (o : Option Rule) : Type 0 where
   pub few : n ≤ length s
   pub tidy : Tidy ns n
 
-pub data Reads (s ns : List ℕ) : Whole → Option Rule → Type 0 where
-  no_rule : {o : Option Rule} → o ≡ none → Reads s ns NoRoot o
-  some_rule : {k n : ℕ} {o : Option Rule} → Rooted s ns k n o → Reads s ns (Root k n) o
+pub data Reads (s ns : List ℕ) : Maybe Root → Option Rule → Type 0 where
+  no_rule : {o : Option Rule} → o ≡ none → Reads s ns None o
+  some_rule : {w : Root} {o : Option Rule} → Rooted s ns w.node w.n o → Reads s ns (Some w) o
 
 -- The rule of a whole text by its clauses: the list has the nodes of the c clauses, behind the nodes of a.
 pub record Listing (s : Bytes) (a b : Arena) (list : List ℕ) (c : ℕ) (o : Option Rule) : Type 0 where
@@ -275,10 +290,10 @@ pub record Listing (s : Bytes) (a b : Arena) (list : List ℕ) (c : ℕ) (o : Op
   pub stays : Stays a b
   pub tidy : Tidy b.nodes b.n
 
-pub data Lists (s : Bytes) (a : Arena) (ns list : List ℕ) : Listed → Option Rule → Type 0 where
-  no_list : {o : Option Rule} → o ≡ none → Lists s a ns list NoList o
-  some_list : {c n : ℕ} {o : Option Rule} → Listing s a (mk ns n) list c o → Lists s a ns list (Every c n) o
+pub data Lists (s : Bytes) (a : Arena) (ns list : List ℕ) : Maybe Listed → Option Rule → Type 0 where
+  no_list : {o : Option Rule} → o ≡ none → Lists s a ns list None o
+  some_list : {w : Listed} {o : Option Rule} → Listing s a (mk ns w.n) list w.count o → Lists s a ns list (Some w) o
 
 -- The rule of the first c clauses of a list is at a root.
-pub data Together (a : Arena) (list : List ℕ) (c : ℕ) (ns : List ℕ) : Whole → Type 0 where
-  together : {k n : ℕ} → JoinedAt a list c (mk ns n) k → Together a list c ns (Root k n)
+abbrev pub Together : Arena → List ℕ → ℕ → List ℕ → Root → Type 0
+Together a list c ns w = JoinedAt a list c (mk ns w.n) w.node

@@ -6,7 +6,6 @@ use native.Mathlib.Omega.{arith}
 use lib.ListN.{length}
 use borrow.Author.Rules.{rules}
 use Rattle.rules.specs.Accept.{rule_limit, choices_limit}
-use Rattle.syntax.proofs.ClauseLaws.{as-together, together-some}
 use Rattle.sharing.specs.Code.Gathering.{Room}
 use Rattle.sharing.proofs.GatheringLaws.{close-joinable, sheaf-bound}
 use Rattle.sharing.proofs.gathering.close.Goals as goal
@@ -24,17 +23,14 @@ join-whole-requires c =
     let l : length c.copy.new.to ≡ rule_limit = search rules in
     close-joinable c.requires l c.copy.ensures (omega (arith, c.if-size-eq0.false))
 
-pub returns-in_default : goal.returns-in_default
-returns-in_default c = together-some c.join-whole.ensures c.in_default.is
-
 pub check_tree-found-requires : goal.check_tree-found-requires
 check_tree-found-requires c =
     let R : Room _ _ _ _ _ _ = c.requires in
-    let j = as-together c.join-whole.ensures c.in-Root.is in
+    let j = c.join-whole.ensures in
     record { tidy = j.tidy; root_lt_n = j.within; n_in_bounds = omega (arith, j.few, R.few); vars_len = search rules }
 
-pub returns-in_default-found : goal.returns-in_default-found
-returns-in_default-found c = λ κs S e. let z : ◌≡◌ {A = ℕ} 0 1 = cc in absurd (omega arith)
+pub returns-in_default : goal.returns-in_default
+returns-in_default c = λ κs S e. let z : ◌≡◌ {A = ℕ} 0 1 = cc in absurd (omega arith)
 
 pub shared-requires : goal.shared-requires
 shared-requires c =
@@ -48,4 +44,4 @@ returns-then-not-shared c = λ κs S e. let z : ◌≡◌ {A = ℕ} 0 1 = cc in 
 pub returns : goal.returns
 returns c =
     let l : length c.copy.new.to ≡ rule_limit = search rules in
-    λ κs S e. sheaf-bound c.requires l c.copy.ensures S (omega (arith, c.if-size-eq0.false)) (as-together c.join-whole.ensures c.in-Root.is) c.check_tree-found.ensures c.in-Rule.is c.shared.ensures c.if-not-shared.false
+    λ κs S e. sheaf-bound c.requires l c.copy.ensures S (omega (arith, c.if-size-eq0.false)) c.join-whole.ensures c.check_tree-found.ensures c.in-Rule.is c.shared.ensures c.if-not-shared.false

@@ -1,12 +1,11 @@
 -- `intern` gives an equal node, or puts the node behind the others.
 -- Assumes nothing.
-use mathlib.Core.Path.{◌∙◌}
-use Prim.Native.Nat.{◌<◌, ◌≤◌, ◌+◌, ◌-◌}
+use mathlib.Core.Path.{refl, ◌∙◌}
+use Prim.Native.Nat.{◌<◌, ◌≤◌, ◌-◌}
 use native.Mathlib.Omega.{arith}
 use lib.ListN.{length, length-set}
 use lib.Seq.{get_or-set_same, get_or-set_other}
-use Rattle.syntax.specs.Code.Reading.{put}
-use Rattle.syntax.proofs.ArenaLaws.{tidy-more, stays-refl, sought-found, sought-none}
+use Rattle.syntax.proofs.ArenaLaws.{tidy-more, sought-none}
 use borrow.Author.Rules.{rules}
 use Rattle.syntax.proofs.arena.intern.Goals as goal
 
@@ -31,25 +30,16 @@ pub overflow_sub-n : goal.overflow_sub-n
 overflow_sub-n c =
     c.lowest-from.ensures c.args.n c.requires.low
 
-pub returns-then-k-n : goal.returns-then-k-n
-returns-then-k-n c =
-    put {k = c.lowest-from.result + c.seek.result} {n = c.args.n}
-    (record {
-      within = search rules;
-      few = search rules;
-      at = sought-found c.args.nodes.now c.lowest-from.result (length c.args.nodes.now - c.lowest-from.result) c.args.n (omega arith) c.seek.ensures c.if-k-n.true ∙ c.pack-node.ensures;
-      stays = stays-refl _;
-      tidy = c.requires.tidy;
-    })
-
 pub returns : goal.returns
 returns c =
     let h : c.args.n < length c.args.nodes.now = c.requires.room in
-    put {k = c.args.n} {n = c.args.n + 1}
-    (record {
-      within = search rules;
-      few = search rules;
-      at = get_or-set_same c.args.nodes.now c.args.n c.pack-node.result 0 h ∙ c.pack-node.ensures;
-      stays = record { more = search rules; size = length-set c.args.nodes.now c.args.n c.pack-node.result; same = λ i l. get_or-set_other c.args.nodes.now c.args.n i c.pack-node.result 0 (omega arith) };
-      tidy = tidy-more c.args.nodes.now c.args.n c.pack-node.result h c.requires.tidy (rw c.pack-node.ensures c.requires.low) (sought-none c.args.nodes.now c.lowest-from.result (length c.args.nodes.now - c.lowest-from.result) c.args.n (omega arith) c.seek.ensures c.requires.tidy.down (λ k l. c.lowest-from.ensures k (rw c.pack-node.ensures at l)) c.if-k-n.false);
-    })
+    record {
+      interned = record {
+        within = search rules;
+        few = search rules;
+        at = get_or-set_same c.args.nodes.now c.args.n c.pack-node.result 0 h ∙ c.pack-node.ensures;
+        stays = record { more = search rules; size = length-set c.args.nodes.now c.args.n c.pack-node.result; same = λ i l. get_or-set_other c.args.nodes.now c.args.n i c.pack-node.result 0 (omega arith) };
+        tidy = tidy-more c.args.nodes.now c.args.n c.pack-node.result h c.requires.tidy (rw c.pack-node.ensures c.requires.low) (sought-none c.args.nodes.now c.lowest-from.result (length c.args.nodes.now - c.lowest-from.result) c.args.n (omega arith) c.seek.ensures c.requires.tidy.down (λ k l. c.lowest-from.ensures k (rw c.pack-node.ensures at l)) c.if-k-n.false);
+      };
+      behind = refl;
+    }

@@ -1,37 +1,20 @@
 -- `read_formula` reads quantifiers and the rule behind them. The measure is the number of quantifiers that it may read.
 -- Assumes nothing.
-use mathlib.Core.Path.{◌∙◌, sym}
 use mathlib.Core.List.{[], ◌∷◌, ◌++◌}
 use native.Mathlib.Omega.{arith}
 use lib.ListN.{length, length-take, length-set}
-use lib.Seq.{length-take-le}
 use Rattle.syntax.specs.Code.Reading.{no_thing}
 use Rattle.syntax.proofs.ArenaLaws.{stays-refl}
 use Rattle.syntax.proofs.NameLaws.{hit, miss}
-use Rattle.syntax.proofs.ReadingLaws.{as_none, as_some, agree-from, ready_at}
+use Rattle.syntax.proofs.ReadingLaws.{as_none, as_some, agree-from, ready_at, lost}
 use Rattle.syntax.proofs.FormulaLaws.{formula-open, formula-rule, formula-full, formula-lost, formula-more, knows_more}
 use Prim.Native.Nat.{◌<◌}
 use Rattle.syntax.proofs.formulas.+read_formula.Goals as goal
-
-pub stands-requires : goal.stands-requires
-stands-requires t c = c.requires.readable.within
-
-pub stands-requires-then-not-stands : goal.stands-requires-then-not-stands
-stands-requires-then-not-stands t c =
-    c.requires.readable.within
 
 pub returns-then-not-stands-2 : goal.returns-then-not-stands-2
 returns-then-not-stands-2 t c =
     λ σ w.
     no_thing (formula-open c.args.k c.requires.vars_len.1 σ c.args.s.now c.args.at (miss c.stands.ensures c.if-not-stands.true) (miss c.stands-then-not-stands.ensures c.if-not-stands-2.true))
-
-pub overflow_add-at : goal.overflow_add-at
-overflow_add-at t c =
-    omega (arith, c.requires.readable.room, c.requires.readable.within, c.requires.readable.tidy.size)
-
-pub slice_bounds-read_body-end-then-not-stands : goal.slice_bounds-read_body-end-then-not-stands
-slice_bounds-read_body-end-then-not-stands t c =
-    sym (length-take-le c.args.k c.args.vars.now (omega (arith, c.requires.vars_len)))
 
 pub read_body-requires : goal.read_body-requires
 read_body-requires t c =
@@ -51,41 +34,20 @@ returns-then-k-eq8 t c =
     let h = hit c.stands.ensures c.if-not-stands.false c.requires.readable.within in
     no_thing (formula-full c.args.k c.requires.vars_len.1 σ c.args.s.now c.args.at h c.if-k-eq8.true)
 
-pub overflow_add-at-2 : goal.overflow_add-at-2
-overflow_add-at-2 t c =
-    omega (arith, c.requires.readable.room, c.requires.readable.within, c.requires.readable.tidy.size)
-
-pub slice_bounds-read_set-end-2 : goal.slice_bounds-read_set-end-2
-slice_bounds-read_set-end-2 t c =
-    sym (length-take-le c.args.k c.args.vars.now (omega (arith, c.requires.vars_len)))
-
-pub read_set-p-requires : goal.read_set-p-requires
-read_set-p-requires t c =
+pub read_set-requires : goal.read_set-requires
+read_set-requires t c =
     let h = hit c.stands.ensures c.if-not-stands.false c.requires.readable.within in
     record { readable = ready_at c.requires.readable (omega arith) h.fits; vars_len_bound = simp length-take (omega (arith, c.requires.vars_len)) }
 
-pub returns-in_default : goal.returns-in_default
-returns-in_default t c =
+pub returns-in_err-p : goal.returns-in_err-p
+returns-in_err-p t c =
     λ σ w.
     let h = hit c.stands.ensures c.if-not-stands.false c.requires.readable.within in
-    no_thing (formula-lost c.args.k c.requires.vars_len.1 σ c.args.s.now c.args.at h (as_none (c.read_set-p.ensures σ w) c.in_default.is))
-
-pub overflow_cast-vars : goal.overflow_cast-vars
-overflow_cast-vars t c =
-    let f = as_some (c.read_set-p.ensures c.requires.readable.choices c.requires.readable.knows) c.in-Got.is in
-    omega (arith, f.within, f.tidy.fits, f.tidy.size)
-
-pub bounds-vars-k : goal.bounds-vars-k
-bounds-vars-k t c =
-    omega (arith, c.requires.vars_len, c.if-k-eq8.false)
-
-pub overflow_add-k : goal.overflow_add-k
-overflow_add-k t c =
-    omega (arith, c.requires.vars_len)
+    lost c.from_residual.ensures (formula-lost c.args.k c.requires.vars_len.1 σ c.args.s.now c.args.at h (as_none (c.in_err-p.ensures σ w)))
 
 pub read_formula-requires : goal.read_formula-requires
 read_formula-requires t c =
-    let f = as_some (c.read_set-p.ensures c.requires.readable.choices c.requires.readable.knows) c.in-Got.is in
+    let f = as_some (c.in_ok-p.ensures c.requires.readable.choices c.requires.readable.knows) in
     let l : c.args.k < length c.args.vars.now = omega (arith, c.requires.vars_len, c.if-k-eq8.false) in (
       omega (arith, c.requires, c.if-k-eq8.false),
       (
@@ -101,13 +63,10 @@ read_formula-requires t c =
       ),
     )
 
-pub shape_of-vars : goal.shape_of-vars
-shape_of-vars t c = c.read_formula.auto.vars ∙ simp length-set
-
 pub returns : goal.returns
 returns t c =
     λ σ w.
-    let f = as_some (c.read_set-p.ensures σ w) c.in-Got.is in
+    let f = as_some (c.in_ok-p.ensures σ w) in
     let h = hit c.stands.ensures c.if-not-stands.false c.requires.readable.within in
     let l : c.args.k < length c.args.vars.now = omega (arith, c.requires.vars_len, c.if-k-eq8.false) in
     rw (formula-more c.args.k c.requires.vars_len.1 σ c.args.s.now c.args.at h f)

@@ -1,18 +1,23 @@
 -- `digit_at` gives the digit in front, where one stands there.
 -- Assumes nothing.
 use native.Mathlib.Omega.{arith}
+use borrow.Author.Tests.{false-ltb}
 use Rattle.syntax.proofs.NumberLaws.{digit-end, digit_low, digit-high, digit-is}
 use Rattle.syntax.proofs.names.digit_at.Goals as goal
+use Rattle.syntax.proofs.names.digit_at.Goals.{then-c-lt48-via-then-c-lt48, then-c-lt48-via-else-c-lt48+then-c-gt57}
 
-pub returns-then-s-at : goal.returns-then-s-at
-returns-then-s-at c = digit-end _ _ c.if-s-at.true
+pub returns-in_err-c : goal.returns-in_err-c
+returns-in_err-c c = rw c.from_residual.ensures (digit-end _ _ (false-ltb _ _ c.in_err-c.ensures.lookup.0))
 
 pub returns-then-c-lt48 : goal.returns-then-c-lt48
-returns-then-c-lt48 c = digit_low c.args.s.now c.args.at (omega arith) c.if-c-lt48.true
-
-pub returns-then-c-gt57 : goal.returns-then-c-gt57
-returns-then-c-gt57 c = digit-high c.args.s.now c.args.at (omega arith) c.if-c-lt48.false c.if-c-gt57.true
+returns-then-c-lt48 c =
+    let x = c.in_ok-c.ensures.lookup.3 in
+    elim c.then-c-lt48.branch [
+      | then-c-lt48-via-then-c-lt48 w ↦ digit_low _ _ x.0 (omega (arith, x.1 0, w.if-c-lt48.true))
+      | then-c-lt48-via-else-c-lt48+then-c-gt57 w ↦ digit-high _ _ x.0 (omega (arith, x.1 0, w.if-c-lt48.false)) (omega (arith, x.1 0, w.if-c-gt57.true))
+    ]
 
 pub returns : goal.returns
 returns c =
-    digit-is c.args.s.now c.args.at (omega arith) c.if-c-lt48.false c.if-c-gt57.false (omega (arith, c.wide.ensures))
+    let x = c.in_ok-c.ensures.lookup.3 in
+    digit-is _ _ x.0 (omega (arith, x.1 0)) (omega (arith, x.1 0)) (omega (arith, x.1 0))

@@ -1,20 +1,22 @@
 -- `choice_at` gives the node of a known choice.
 -- Assumes nothing.
 use native.Mathlib.Omega.{arith}
+use borrow.Author.Tests.{false-ltb}
 use Rattle.syntax.proofs.NameLaws.{choice-end, choice-low, choice-high, choice-is}
 use Rattle.syntax.proofs.terms.choice_at.Goals as goal
 
-pub returns-then-s-at : goal.returns-then-s-at
-returns-then-s-at c = choice-end c.if-s-at.true
+pub returns-in_err-c : goal.returns-in_err-c
+returns-in_err-c c = rw c.from_residual.ensures (choice-end (false-ltb _ _ c.in_err-c.ensures.lookup.0))
 
 pub returns-then-c-lt49 : goal.returns-then-c-lt49
-returns-then-c-lt49 c = choice-low (omega arith) c.if-c-lt49.true
+returns-then-c-lt49 c = let x = c.in_ok-c.ensures.lookup.3 in choice-low x.0 (omega (arith, x.1 0))
 
-pub overflow_cast-k : goal.overflow_cast-k
-overflow_cast-k c = omega (arith, c.shared_slice_known-1.given c.args.at)
-
-pub returns-then-vars-k : goal.returns-then-vars-k
-returns-then-vars-k c = choice-high (omega arith) c.if-c-lt49.false c.if-vars-k.true
+pub returns-in_err-v : goal.returns-in_err-v
+returns-in_err-v c =
+    let x = c.in_ok-c.ensures.lookup.3 in
+    rw c.from_residual-in_err-v.ensures (choice-high x.0 (omega (arith, x.1 0)) (omega (arith, x.1 0, false-ltb _ _ c.in_err-v.ensures.lookup.0)))
 
 pub returns : goal.returns
-returns c = choice-is (omega arith) c.if-c-lt49.false c.if-vars-k.false
+returns c =
+    let x = c.in_ok-c.ensures.lookup.3 in
+    choice-is x.0 (omega arith) (x.1 0) c.in_ok-v.ensures.lookup.3.0 (c.in_ok-v.ensures.lookup.3.1 0)
