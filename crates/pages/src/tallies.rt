@@ -40,8 +40,7 @@ pub fn tallied(
     ensures { TalliesOn words.now page.now many fulls.new breakings.new firsts.new }
 {
     let known = sheaves::known(words, page, groups, many, fulls, breakings);
-    let mut k = 0;
-    while k < many {
+    for k in 0..many {
         let Span::Found { from, to } = texts::line(page, k) else {
             return;
         };
@@ -52,6 +51,5 @@ pub fn tallied(
         let first = judged.first;
         let at = k * CHOICE;
         texts::put(&first, &mut firsts[at..]);
-        k += 1;
     }
 }

@@ -27,10 +27,8 @@ fn order_of(plan: &[u64]) -> [u8; CHOICES_LIMIT]
 {
     let count = plan[VARIABLE_COUNT] as usize;
     let mut order = [0u8; CHOICES_LIMIT];
-    let mut d = 0;
-    while d < count {
+    for d in 0..count {
         order[d] = plan[ORDER + d] as u8;
-        d += 1;
     }
     order
 }
@@ -41,10 +39,8 @@ fn by_depth(names: &[u64], order: &[u8]) -> [u64; CHOICES_LIMIT]
     ensures { ByDepth names.now order.now result }
 {
     let mut found = [0u64; CHOICES_LIMIT];
-    let mut d = 0;
-    while d < CHOICES_LIMIT {
-        found[d] = planning::by_sets(names, order, d);
-        d += 1;
+    for (d, word) in found.iter_mut().enumerate() {
+        *word = planning::by_sets(names, order, d);
     }
     found
 }
@@ -55,11 +51,9 @@ fn line(plan: &[u64], scopes: &[u64], sets: &[u64], range: Range, lines: &mut [u
     ensures { LaysLine plan.now scopes.now sets.now range lines.old lines.new }
 {
     let at = WORDS * range.line;
-    let mut d = 0;
-    while d < CHOICES_LIMIT {
+    for (d, set) in sets.iter().enumerate() {
         let named = planning::by_clauses(plan, scopes, range.from, range.to, d);
-        lines[at + d] = kept::spread(words::join(sets[d], named));
-        d += 1;
+        lines[at + d] = kept::spread(words::join(*set, named));
     }
     lines[at + FROM] = range.from as u64;
     lines[at + TO] = range.to as u64;
@@ -80,14 +74,12 @@ pub fn lay(parsed: Parsed, plan: &[u64], starts: &[u64], many: usize, lines: &mu
     let names = values::names::sets(&terms, vars);
     let chosen = plan[VARIABLE_COUNT] as usize;
     let sets = by_depth(&names, &order[..chosen]);
-    let mut l = 0;
-    while l < many {
+    for l in 0..many {
         let range = Range {
             line: l,
             from: starts[l] as usize,
             to: starts[l + 1] as usize,
         };
         line(plan, &scopes, &sets, range, lines);
-        l += 1;
     }
 }
