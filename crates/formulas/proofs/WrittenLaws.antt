@@ -50,7 +50,7 @@ answers-refused a n {old} {new} {w} {r} b p e h q =
 
 -- The library's test of bytes.
 
-same-pointwise : (s t : Bytes) → same s t ≡ pointwise eqb s t
+pub same-pointwise : (s t : Bytes) → same s t ≡ pointwise eqb s t
 unfolding same
 same-pointwise [] [] = refl
 same-pointwise [] (y ∷ t) = refl

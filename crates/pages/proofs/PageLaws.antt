@@ -12,7 +12,7 @@ use borrow.Author.Tests.{lt-ltb, le-ltb, le-leb, lt-leb}
 use Rattle.answers.specs.Answer.{wrote, if_room, lent, output_after}
 use Rattle.answers.specs.Written.{Answers}
 use Rattle.answers.specs.declared.Refusal.{Refusal}
-use Rattle.answers.specs.declared.Refusal.TheVariants.{Page}
+use Rattle.answers.specs.declared.Refusal.TheVariants.{Page, ShortSheet}
 use Rattle.answers.specs.Written.{Written}
 use Rattle.answers.proofs.AnswerLaws.{written_of, answered-case}
 use Rattle.tables.specs.Tables.{Tables}
@@ -21,25 +21,32 @@ use Rattle.texts.specs.Pieces.{lines}
 use Rattle.syntax.specs.Bytes.{Bytes}
 use Rattle.rules.specs.Accept.{refusal}
 use Rattle.pages.specs.Page.{PageAnswer, refused_at, is_page, past_lines, walks_of, verdicts_on, page_bytes, accepted_page, page_by, page_of}
-use Rattle.pages.specs.Page.{if_page_room, page_lent, page_after, PageAnswers}
+use Rattle.pages.specs.Page.{if_page_room, page_lent, page_after, of_no_line, PageAnswers}
 use Rattle.pages.specs.Page.{wrote as wrote_page}
 use Rattle.pages.specs.Code.Parts.{Counted}
-use Rattle.pages.specs.Code.Tallies.{placed_as}
-use Rattle.pages.specs.declared.Answered.{Answered}
-use Rattle.pages.specs.declared.Answered.TheVariants.{Refused}
+use Rattle.std.specs.declared.result.Result.TheVariants.{Ok, Err}
+use Rattle.pages.specs.declared.Refused.{Refused}
 
 -- Bytes that are lent are the page's answer, with position 0 where they do not fit.
-pub placed-answers : (b : Bytes) {old new : Bytes} {w : Written} {r : Answered} → Answers (lent (length old) (wrote b)) old new w → r ≡ placed_as w
-    → PageAnswers (page_lent (length old) (wrote_page b)) old new r
-unfolding lent output_after page_lent page_after
-placed-answers b {old} {new} {w} {r} a e = go (leb (length b) (length old)) (answered-case a) a.output
-  where
-    go : (x : Bool) → w ≡ written_of (if_room x b) → new ≡ output_after (if_room x b) old → PageAnswers (if_page_room x b) old new r
-    go true p q = record { says = e ∙ ap placed_as p; output = q }
-    go false p q = record { says = e ∙ ap placed_as p; output = q }
+module _ (b : Bytes) {old new : Bytes} {w : Written} (a : Answers (lent (length old) (wrote b)) old new w) where
+  pub placed-wrote : {n : ℕ} → w ≡ Ok n → PageAnswers (page_lent (length old) (wrote_page b)) old new (Ok n)
+  unfolding lent output_after page_lent page_after
+  placed-wrote {n} e = go (leb (length b) (length old)) (answered-case a) a.output
+    where
+      go : (x : Bool) → w ≡ written_of (if_room x b) → new ≡ output_after (if_room x b) old → PageAnswers (if_page_room x b) old new (Ok n)
+      go true p q = let z : n ≡ length b = cc in record { says = ap Ok z; output = q }
+      go false p q = let z : ◌≡◌ {A = ℕ} 0 1 = cc in absurd (omega arith)
+
+  pub placed-refused : {d : Refusal} → w ≡ Err d → PageAnswers (page_lent (length old) (wrote_page b)) old new (Err (of_no_line d))
+  unfolding lent output_after page_lent page_after
+  placed-refused {d} e = go (leb (length b) (length old)) (answered-case a) a.output
+    where
+      go : (x : Bool) → w ≡ written_of (if_room x b) → new ≡ output_after (if_room x b) old → PageAnswers (if_page_room x b) old new (Err (of_no_line d))
+      go true p q = let z : ◌≡◌ {A = ℕ} 0 1 = cc in absurd (omega arith)
+      go false p q = let z : d ≡ ShortSheet = cc in record { says = ap (λ (r : Refusal). Err (of_no_line r)) z; output = q }
 
 -- A refusal is answered, and keeps the lent bytes.
-pub refusal-answers : {a : PageAnswer} {e : Refusal} {p : ℕ} (n : ℕ) (old : Bytes) → a ≡ refused_at e p → PageAnswers (page_lent n a) old old (Refused e p)
+pub refusal-answers : {a : PageAnswer} {r : Refused} (n : ℕ) (old : Bytes) → a ≡ refused_at r.refusal r.position → PageAnswers (page_lent n a) old old (Err r)
 unfolding page_lent page_after
 refusal-answers n old q = rw q (record { says = refl; output = refl })
 

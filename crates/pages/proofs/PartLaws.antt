@@ -4,11 +4,11 @@ use mathlib.Core.Path.{◌≡◌, refl, sym, ap, ◌∙◌}
 use mathlib.Core.Bool.{Bool, true, false}
 use mathlib.Core.List.{[], ◌∷◌}
 use mathlib.Core.Option.{Option, none, some}
-use Prim.Native.Nat.{ℕ, suc, ◌+◌, ◌≤◌, ◌<◌}
+use Prim.Native.Nat.{ℕ, suc, ◌+◌, ◌*◌, ◌-◌, ◌≤◌, ◌<◌}
 use native.Mathlib.Numerals.{add-one}
 use native.Mathlib.Omega.{arith}
 use lib.Dec.{eqb}
-use lib.ListN.{length, get_or, take}
+use lib.ListN.{length, get_or, take, drop}
 use lib.Seq.{take-length, take-take, take_all, length-take-le}
 use Rattle.texts.specs.Scan.{slice, index_of, index_after}
 use Rattle.answers.specs.Answer.{refused, lent}
@@ -27,7 +27,7 @@ use Rattle.formulas.proofs.RebuildLaws.{reduced-wrote, wrote-reduced, accepted-f
 use Rattle.formulas.proofs.WrittenLaws.{answers-wrote, answers-refused}
 use Rattle.formulas.specs.Quantifiers.{colon, up_to, quantifier_part}
 use Rattle.pages.specs.Page.{part_of}
-use Rattle.pages.specs.Code.Parts.{sheet_room, line_at, EndsPart, PartSays, no_part, some_part, Slotted, SlotSays, no_slot, some_slot, Held}
+use Rattle.pages.specs.Code.Parts.{slot_room, sheet_room, line_at, EndsPart, PartSays, no_part, some_part, Slotted, SlotSays, no_slot, some_slot, Held}
 use Rattle.std.specs.declared.result.Result.{Result}
 use Rattle.std.specs.declared.result.Result.TheVariants.{Ok, Err}
 
@@ -114,3 +114,11 @@ sheet-found {w} {sheet} {n = n} x q full h =
 module _ {page slots lens : Bytes} {n i j : ℕ} (h : Held page slots lens n) (a : i < n) (b : j < n) where
   pub held-apart : (get_or lens i 0 ≡ get_or lens j 0 → ⊥) → false ≡ same (part_of (line_at page i)) (part_of (line_at page j))
   held-apart ne = sym (not_same (part_of (line_at page i)) (part_of (line_at page j)) (λ e. ne (h.size i a ∙ ap length e ∙ sym (h.size j b))))
+
+  pub held_same : {r : Bool} → get_or lens i 0 ≡ get_or lens j 0 → get_or lens i 0 ≤ slot_room
+      → r ≡ same (take (i * slot_room + get_or lens i 0 - i * slot_room) (drop (i * slot_room) slots)) (take (j * slot_room + get_or lens i 0 - j * slot_room) (drop (j * slot_room) slots))
+      → r ≡ same (part_of (line_at page i)) (part_of (line_at page j))
+  held_same e short is =
+      let p : i * slot_room + get_or lens i 0 - i * slot_room ≡ get_or lens i 0 = omega arith in
+      let q : j * slot_room + get_or lens i 0 - j * slot_room ≡ get_or lens j 0 = omega arith in
+      is ∙ rw (p, q, h.text i a short, h.text j b (omega arith))

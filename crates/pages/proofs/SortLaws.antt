@@ -22,7 +22,7 @@ use Rattle.rules.specs.Accept.{refusal}
 use Rattle.pages.specs.Page.{PageAnswer, refused_at, past_lines, part_of, parts_of, among, different_from, walks_of}
 use Rattle.pages.specs.Code.Parts.{slot_room, line_at, first_with, Slotted, SlotSays, no_slot, some_slot, Held, Seeking, Wide, Ready, Sorting}
 use Rattle.pages.specs.Code.Parts.{SortSays, line_refused, all_sorted}
-use Rattle.pages.specs.declared.parts.RefusedLine.{RefusedLine}
+use Rattle.pages.specs.declared.Refused.{Refused}
 use Rattle.std.specs.declared.result.Result.{Result}
 use Rattle.std.specs.declared.result.Result.TheVariants.{Ok, Err}
 
@@ -235,7 +235,7 @@ module _ {E F : Type 0} (P : E → F → Type 0) where
   mapped-err (Err e) h q = (e, refl, rw q at h)
 
 -- What sorting said.
-pub was-refused : {page groups : List ℕ} {many : ℕ} {s : Result ℕ RefusedLine} {l : RefusedLine} → SortSays page groups many s → s ≡ Err l → (a : PageAnswer) → past_lines 1 (lines page) a ≡ refused_at l.refusal l.position
+pub was-refused : {page groups : List ℕ} {many : ℕ} {s : Result ℕ Refused} {l : Refused} → SortSays page groups many s → s ≡ Err l → (a : PageAnswer) → past_lines 1 (lines page) a ≡ refused_at l.refusal l.position
 was-refused {l = l} (line_refused {l = m} h w) is a = let x : m ≡ l = cc in rw (← x) (h a)
 was-refused (all_sorted r e) is a = let z : ◌≡◌ {A = ℕ} 0 1 = cc in absurd (omega arith)
 
@@ -244,7 +244,7 @@ pub record Grouped (page groups : List ℕ) (many n : ℕ) : Type 0 where
   pub walks : n ≡ walks_of (lines page)
   pub few : n ≤ 32
 
-pub was-sorted : {page groups : List ℕ} {many n : ℕ} {s : Result ℕ RefusedLine} → SortSays page groups many s → s ≡ Ok n → Grouped page groups many n
+pub was-sorted : {page groups : List ℕ} {many n : ℕ} {s : Result ℕ Refused} → SortSays page groups many s → s ≡ Ok n → Grouped page groups many n
 was-sorted (line_refused h l) is = let z : ◌≡◌ {A = ℕ} 0 1 = cc in absurd (omega arith)
 was-sorted {page = page} {n = n} (all_sorted {n = m} r e) is =
     let x : n ≡ walks_of (lines page) = cc in

@@ -17,8 +17,9 @@ use Rattle.verdicts.specs.declared.Outcome.{Outcome}
 use Rattle.verdicts.specs.declared.Outcome.TheVariants.{Held, Idle, Broken}
 use Rattle.verdicts.specs.declared.Verdict.{Verdict}
 use Rattle.verdicts.specs.Verdict.{word_number, turn_verdict, written}
-use Rattle.pages.specs.declared.Answered.{Answered}
-use Rattle.pages.specs.declared.Answered.TheVariants.{Refused, Wrote}
+use Rattle.std.specs.declared.result.Result.{Result}
+use Rattle.std.specs.declared.result.Result.TheVariants.{Ok, Err}
+use Rattle.pages.specs.declared.Refused.{Refused}
 
 -- What judging a page answers: a refusal with a position, and nothing else ("A refused page carries counts 0 and no quantifier parts"), or the
 -- bytes to be written.
@@ -135,11 +136,15 @@ page_after (refused_at e p) old = old
 page_after (wrote b) old = b ++ drop (length b) old
 
 -- The case of the library's answer.
-abbrev pub said_of : PageAnswer → Answered
-said_of (refused_at e p) = Refused e p
-said_of (wrote b) = Wrote (length b)
+abbrev pub said_of : PageAnswer → Result ℕ Refused
+said_of (refused_at e p) = Err (record { refusal = e; position = p })
+said_of (wrote b) = Ok (length b)
+
+-- A refusal of no line.
+abbrev pub of_no_line : Refusal → Refused
+of_no_line e = record { refusal = e; position = 0 }
 
 -- The call with the answer a says r and turns the output old into new.
-pub record PageAnswers (a : PageAnswer) (old new : Bytes) (r : Answered) : Type 0 where
+pub record PageAnswers (a : PageAnswer) (old new : Bytes) (r : Result ℕ Refused) : Type 0 where
   pub says : r ≡ said_of a
   pub output : new ≡ page_after a old

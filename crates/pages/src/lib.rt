@@ -5,13 +5,11 @@
 ghost use Rattle.std.specs.Prelude.{◌≡◌, ◌≤◌, length};
 ghost use Rattle.texts.specs.Pieces.{lines};
 ghost use Rattle.verdicts.specs.Code.Judging.{Loaded};
-ghost use Rattle.pages.specs.Page.{page_limit, page_of, page_lent, PageAnswers};
+ghost use Rattle.pages.specs.Page.{page_limit, of_no_line, page_of, page_lent, PageAnswers};
 ghost use Rattle.pages.specs.Code.Parts.{Counted, Ready};
-ghost use Rattle.pages.specs.Code.Tallies.{JudgesLines, JudgesPageOn, Placed};
+ghost use Rattle.pages.specs.Code.Tallies.{JudgesLines, JudgesPageOn};
 
-use answers::{Refusal, Written};
-use parts::RefusedLine;
-use tables::Outcome as Read;
+use answers::Refusal;
 use tables::layout::WHOLE;
 use verdicts::sheet::VERDICT;
 
@@ -34,11 +32,22 @@ pub const CHOICE: usize = 8;
 
 pub const CHOICES_ROOM: usize = PAGE_LIMIT * CHOICE;
 
-// What judging a page says: a refusal with the position of the line that it is of, 0 where it is of none, or the number of bytes written.
-#[derive(Clone, Copy)]
-pub enum Answered {
-    Refused { refusal: Refusal, position: usize },
-    Wrote(usize),
+// A refusal, and the position of the line that it is of, from 1; 0 where it is of none.
+#[derive(Clone, Copy, Debug, PartialEq, Eq)]
+pub struct Refused {
+    pub refusal: Refusal,
+    pub position: usize,
+}
+
+impl From<Refusal> for Refused {
+    ghost from_gives = { λ refusal refused. refused ≡ of_no_line refusal };
+
+    fn from(refusal: Refusal) -> Refused {
+        Refused {
+            refusal,
+            position: 0,
+        }
+    }
 }
 
 // The number of lines, as far as a page may have.
@@ -57,19 +66,6 @@ fn count(page: &[u8]) -> usize
     n
 }
 
-// A lent output that is too short is of no line.
-fn placed(written: Written) -> Answered
-    ensures { Placed written result }
-{
-    match written {
-        Written::Refused(e) => Answered::Refused {
-            refusal: e,
-            position: 0,
-        },
-        Written::Wrote(n) => Answered::Wrote(n),
-    }
-}
-
 // The verdict on accepted lines.
 fn judged(
     words: &[u64],
@@ -78,7 +74,7 @@ fn judged(
     many: usize,
     walks: usize,
     out: &mut [u8],
-) -> Answered
+) -> Result<usize, Refused>
     requires loaded { Loaded words.now }
     requires ready { Ready page.now groups.now many }
     requires groups_len { length groups.now ≡ page_limit }
@@ -97,38 +93,28 @@ fn judged(
         &mut breakings,
         &mut firsts,
     );
-    placed(writing::write_page(&fulls, &breakings, &firsts, many, walks, out))
+    Ok(writing::write_page(&fulls, &breakings, &firsts, many, walks, out)?)
 }
 
 // The verdict on accepted tables, held as words.
-fn on_tables(words: &[u64], page: &[u8], out: &mut [u8]) -> Answered
+fn on_tables(words: &[u64], page: &[u8], out: &mut [u8]) -> Result<usize, Refused>
     requires { Loaded words.now }
     ensures { JudgesPageOn words.now page.now out.old out.new result }
 {
     let many = count(page);
     if many == 0 || PAGE_LIMIT < many {
-        return Answered::Refused {
-            refusal: Refusal::Page,
-            position: 0,
-        };
+        return Err(Refused::from(Refusal::Page));
     }
     let mut groups = [0usize; PAGE_LIMIT];
-    match parts::sort(page, many, &mut groups) {
-        Err(RefusedLine { refusal, position }) => Answered::Refused { refusal, position },
-        Ok(walks) => judged(words, page, &groups, many, walks, out),
-    }
+    let walks = parts::sort(page, many, &mut groups)?;
+    judged(words, page, &groups, many, walks, out)
 }
 
 // Judges a page: tables, the number of lines, the lines, and then the lent output. A refusal writes nothing.
-pub fn judge(tables: &[u8], page: &[u8], out: &mut [u8]) -> Answered
+pub fn judge(tables: &[u8], page: &[u8], out: &mut [u8]) -> Result<usize, Refused>
     ensures { PageAnswers (page_lent (length out.old) (page_of tables.now page.now)) out.old out.new result }
 {
     let mut words = [0u64; WHOLE];
-    match tables::load(tables, &mut words) {
-        Read::Refused(e) => Answered::Refused {
-            refusal: e,
-            position: 0,
-        },
-        Read::Accepted => on_tables(&words, page, out),
-    }
+    tables::load(tables, &mut words)?;
+    on_tables(&words, page, out)
 }

@@ -8,8 +8,8 @@ ghost use Rattle.rules.specs.Accept.{refusal};
 ghost use Rattle.pages.specs.Page.{page_limit, part_of, parts_of};
 ghost use Rattle.pages.specs.Code.Parts.{sheet_room, slot_room, line_at, first_with, EndsPart, PartSays, Slotted, SlotSays, Held, Room, SortSays};
 
-use crate::PAGE_LIMIT;
-use answers::{Refusal, Written};
+use crate::{PAGE_LIMIT, Refused};
+use answers::Refusal;
 use texts::Span;
 
 // No formula has more bytes.
@@ -17,13 +17,6 @@ const SHEET: usize = 4096;
 
 // A part of at most as many bytes is held. Longer ones are rare, and are found again where two of one length are compared.
 const SLOT: usize = 512;
-
-// A refused line's refusal, and its position from 1.
-#[derive(Clone, Copy)]
-pub struct RefusedLine {
-    pub refusal: Refusal,
-    pub position: usize,
-}
 
 // How long a formula is through its first `:`.
 fn part_length(formula: &[u8]) -> usize
@@ -41,10 +34,8 @@ fn part_of(line: &[u8], out: &mut [u8]) -> Result<usize, Refusal>
     requires { sheet_room ≤ length out.old }
     ensures { PartSays line.now out.new result }
 {
-    match formulas::reduce(line, out) {
-        Written::Refused(e) => Err(e),
-        Written::Wrote(n) => Ok(part_length(&out[..n])),
-    }
+    let n = formulas::reduce(line, out)?;
+    Ok(part_length(&out[..n]))
 }
 
 // The same for line k.
@@ -96,7 +87,7 @@ fn alike_again(page: &[u8], i: usize, j: usize) -> bool
     let Ok(m) = part_at(page, j, &mut b) else {
         return false;
     };
-    formulas::alike(&a[..n], &b[..m])
+    a[..n] == b[..m]
 }
 
 // Whether lines k and j, before it, have the same part: only where they are of one length are their bytes compared.
@@ -117,7 +108,7 @@ fn alike(page: &[u8], slots: &[u8], lens: &[usize], k: usize, j: usize) -> bool
     let b = j * SLOT;
     let a_end = a + n;
     let b_end = b + n;
-    formulas::alike(&slots[a..a_end], &slots[b..b_end])
+    slots[a..a_end] == slots[b..b_end]
 }
 
 // The first line with the part of line k.
@@ -136,7 +127,7 @@ fn first_with(page: &[u8], slots: &[u8], lens: &[usize], k: usize) -> usize
 }
 
 // Sorts the lines: `groups` gets for each line the first one with its quantifier part. How many different parts there are, or the first refused line.
-pub fn sort(page: &[u8], many: usize, groups: &mut [usize]) -> Result<usize, RefusedLine>
+pub fn sort(page: &[u8], many: usize, groups: &mut [usize]) -> Result<usize, Refused>
     requires page_len { length (lines page.now) ≡ many }
     requires many_le_page_limit { many ≤ page_limit }
     requires groups_len { length groups.old ≡ page_limit }
@@ -147,7 +138,7 @@ pub fn sort(page: &[u8], many: usize, groups: &mut [usize]) -> Result<usize, Ref
     let mut walks = 0;
     for k in 0..many {
         let position = k + 1;
-        let n = slot_of(page, k, &mut slots).map_err(|refusal| RefusedLine { refusal, position })?;
+        let n = slot_of(page, k, &mut slots).map_err(|refusal| Refused { refusal, position })?;
         lens[k] = n;
         let first = first_with(page, &slots, &lens, k);
         groups[k] = first;

@@ -1,14 +1,13 @@
 // Lines with one quantifier part share one walk: they are gathered into one rule, and counted together.
 // Lines that do not fit into it begin another one; a line by itself is not counted here.
 ghost use Rattle.std.specs.Prelude.{◌≡◌, ◌+◌, ◌<◌, ◌≤◌, length};
-ghost use Rattle.rules.specs.declared.Checked.TheVariants.{Accepted};
 ghost use Rattle.verdicts.specs.Code.Judging.{Loaded};
 ghost use Rattle.pages.specs.Page.{page_limit};
 ghost use Rattle.pages.specs.Code.Parts.{Ready};
 ghost use Rattle.pages.specs.Code.Sheaves.{LinesOf, Wanted, Arrays, Gathers, Sizes, Spreads, Whole, CountsLines, Grows, KnownLines};
 
 use crate::PAGE_LIMIT;
-use rules::{CHOICES_LIMIT, Checked, Parsed};
+use rules::{CHOICES_LIMIT, Parsed};
 use sharing::gathering::{ROOM, Size};
 use sharing::{gathering, together};
 use texts::Span;
@@ -126,7 +125,7 @@ fn counted(
     fulls: &mut [u64],
     breakings: &mut [u64],
 ) -> u64
-    requires loaded { Loaded words.now × Whole parsed starts.now members.now lines × (parsed.outcome ≡ Accepted) }
+    requires loaded { Loaded words.now × Whole parsed starts.now members.now lines }
     requires fulls_len { (length fulls.old ≡ page_limit) × (length breakings.old ≡ page_limit) }
     ensures { CountsLines words.now parsed starts.now members.now lines fulls.old breakings.old fulls.new breakings.new result }
 {
@@ -163,9 +162,7 @@ fn sheaf(words: &[u64], page: &[u8], wanted: u64, fulls: &mut [u64], breakings: 
     if found.lines < 2 {
         return 0;
     }
-    let parsed = gathering::close(&nodes, &list, &vars, found.size);
-    let outcome = parsed.outcome;
-    let Checked::Accepted = outcome else {
+    let Some(parsed) = gathering::close(&nodes, &list, &vars, found.size) else {
         return 0;
     };
     counted(

@@ -7,7 +7,7 @@ ghost use Rattle.pages.specs.Page.{page_limit, line_bytes};
 ghost use Rattle.pages.specs.Code.Tallies.{tally_at, Lanes, Fits, AllFit, Rows, worse_of, Summed, head_room, head_bytes, WritesPage};
 
 use crate::{CHOICE, PAGE_HEAD, PAGE_ROOM};
-use answers::Written;
+use answers::Refusal;
 use verdicts::{Verdict, ruling, sheet};
 use walks::Tally;
 
@@ -101,7 +101,7 @@ pub fn write_page(
     many: usize,
     walks: usize,
     out: &mut [u8],
-) -> Written
+) -> Result<usize, Refusal>
     requires lanes { Lanes fulls.now breakings.now firsts.now }
     requires many_le_page_limit { (many ≤ page_limit) × (walks ≤ page_limit) }
     requires all_fit { AllFit many fulls.now breakings.now }

@@ -1,9 +1,10 @@
 -- `pages::judged`: the lines are judged, and the page is written.
 -- Assumes nothing.
+use Rattle.std.proofs.lemmas.Result.{err_from_is_err_and}
 use Rattle.pages.specs.Page.{verdicts_on, page_bytes}
 use Rattle.texts.specs.Pieces.{lines}
 use Rattle.pages.proofs.TallyLaws.{all_fit, all-rows}
-use Rattle.pages.proofs.PageLaws.{placed-answers}
+use Rattle.pages.proofs.PageLaws.{placed-refused, placed-wrote}
 use borrow.Author.Rules.{rules}
 use Rattle.pages.proofs.judged.Goals as goal
 
@@ -11,6 +12,12 @@ pub write_page-requires : goal.write_page-requires
 write_page-requires c =
     record { lanes = record { for_fulls = search rules; for_breakings = search rules; for_firsts = search rules }; many_le_page_limit = (c.requires.ready.few, c.requires.walks_le_page_limit); all_fit = all_fit c.requires.ready c.tallied.ensures c.requires.loaded }
 
+pub returns-in_err-write_page : goal.returns-in_err-write_page
+returns-in_err-write_page c =
+    let p = err_from_is_err_and c.from_residual.result c.from_residual.ensures.1 in
+    λ T H. rw (p.1, p.2)
+    (placed-refused (page_bytes c.args.walks (verdicts_on T (lines c.args.page.now))) (c.write_page.ensures _ (all-rows c.requires.ready c.tallied.ensures T H)) c.in_err-write_page.was)
+
 pub returns : goal.returns
 returns c =
-    λ T H. placed-answers (page_bytes c.args.walks (verdicts_on T (lines c.args.page.now))) (c.write_page.ensures _ (all-rows c.requires.ready c.tallied.ensures T H)) c.placed.ensures
+    λ T H. placed-wrote (page_bytes c.args.walks (verdicts_on T (lines c.args.page.now))) (c.write_page.ensures _ (all-rows c.requires.ready c.tallied.ensures T H)) c.in_ok-write_page.was

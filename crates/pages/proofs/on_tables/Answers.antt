@@ -1,6 +1,7 @@
 -- `pages::on_tables`: 19 for another number of lines, the first refused line, or the page's verdict.
 -- Assumes nothing.
 use native.Mathlib.Omega.{arith}
+use Rattle.std.proofs.lemmas.Result.{err_from_is_err_and}
 use Rattle.texts.specs.Pieces.{lines}
 use Rattle.pages.proofs.SortLaws.{was-refused, was-sorted}
 use Rattle.pages.proofs.PageLaws.{refusal-answers, none-refused, many-refused, line-refused-page, accepted-page}
@@ -9,22 +10,24 @@ use Rattle.pages.proofs.on_tables.Goals.{then-many-eq0-via-then-many-eq0, then-m
 
 pub returns-then-many-eq0 : goal.returns-then-many-eq0
 returns-then-many-eq0 c =
-    λ T H. refusal-answers _ _ (elim c.then-many-eq0.branch [
+    λ T H. rw c.from.ensures (refusal-answers _ _ (elim c.then-many-eq0.branch [
       | then-many-eq0-via-then-many-eq0 w ↦ none-refused T _ c.count-many.ensures w.if-many-eq0.true
       | then-many-eq0-via-else-many-eq0+then-many-gt-PAGE_LIMIT w ↦ many-refused T _ c.count-many.ensures w.if-many-gt-PAGE_LIMIT.true
-    ])
+    ]))
 
 pub judged-requires-clause-ready : goal.judged-requires-clause-ready
-judged-requires-clause-ready c = (was-sorted c.sort.ensures c.in-Ok.is).ready
+judged-requires-clause-ready c = (was-sorted c.sort.ensures c.in_ok-walks.was).ready
 
 pub judged-requires-clause-walks_le_page_limit : goal.judged-requires-clause-walks_le_page_limit
-judged-requires-clause-walks_le_page_limit c = (was-sorted c.sort.ensures c.in-Ok.is).few
+judged-requires-clause-walks_le_page_limit c = (was-sorted c.sort.ensures c.in_ok-walks.was).few
 
-pub returns-in-Err : goal.returns-in-Err
-returns-in-Err c =
-    λ T H. refusal-answers _ _ (line-refused-page T _ c.count-many.ensures c.if-many-eq0.false c.if-many-gt-PAGE_LIMIT.false (was-refused c.sort.ensures c.in-Err.is))
+pub returns-in_err-walks : goal.returns-in_err-walks
+returns-in_err-walks c =
+    let p = err_from_is_err_and c.from_residual.result c.from_residual.ensures.1 in
+    λ T H. rw (p.1, p.2)
+    (refusal-answers _ _ (line-refused-page T _ c.count-many.ensures c.if-many-eq0.false c.if-many-gt-PAGE_LIMIT.false (was-refused c.sort.ensures c.in_err-walks.was)))
 
-pub returns-in-Ok : goal.returns-in-Ok
-returns-in-Ok c =
-    let g = was-sorted c.sort.ensures c.in-Ok.is in
+pub returns : goal.returns
+returns c =
+    let g = was-sorted c.sort.ensures c.in_ok-walks.was in
     λ T H. rw (accepted-page T (lines c.args.page.now) c.count-many.ensures c.if-many-eq0.false c.if-many-gt-PAGE_LIMIT.false (λ j l. g.ready.accepted j (omega (arith, g.ready.count))) g.walks) (c.judged.ensures T H)

@@ -10,7 +10,7 @@ use Rattle.syntax.specs.Bytes.{Bytes, same}
 use Rattle.rules.specs.Accept.{refusal}
 use Rattle.formulas.specs.Quantifiers.{quantifier_part}
 use Rattle.pages.specs.Page.{PageAnswer, refused_at, page_limit, past_lines, part_of, parts_of, different_from, walks_of}
-use Rattle.pages.specs.declared.parts.RefusedLine.{RefusedLine}
+use Rattle.pages.specs.declared.Refused.{Refused}
 
 -- Line j of a page, from 0.
 abbrev pub line_at : Bytes → ℕ → Bytes
@@ -98,6 +98,6 @@ pub record Sorting (page slots lens groups : List ℕ) (walks k : ℕ) : Type 0 
   pub counted : walks + different_from (take k (parts_of (lines page))) (drop k (parts_of (lines page))) ≡ walks_of (lines page)
 
 -- A line is refused, or all are sorted.
-pub data SortSays (page groups : List ℕ) (many : ℕ) : Result ℕ RefusedLine → Type 0 where
-  line_refused : {l : RefusedLine} → ((a : PageAnswer) → past_lines 1 (lines page) a ≡ refused_at l.refusal l.position) → l.position ≤ page_limit → SortSays page groups many (Err l)
+pub data SortSays (page groups : List ℕ) (many : ℕ) : Result ℕ Refused → Type 0 where
+  line_refused : {l : Refused} → ((a : PageAnswer) → past_lines 1 (lines page) a ≡ refused_at l.refusal l.position) → l.position ≤ page_limit → SortSays page groups many (Err l)
   all_sorted : {n : ℕ} → Ready page groups many → n ≡ walks_of (lines page) → SortSays page groups many (Ok n)

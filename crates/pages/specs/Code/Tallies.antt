@@ -18,8 +18,8 @@ use Rattle.verdicts.specs.Code.Judging.{TablesAt, ruled_by}
 use Rattle.pages.specs.Page.{accepted_page, page_lent, PageAnswers, page_limit, verdicts_on, page_outcome, full_sum, breaking_sum, page_bytes}
 use Rattle.pages.specs.Page.{wrote as wrote_page}
 use Rattle.pages.specs.Code.Parts.{line_at}
-use Rattle.pages.specs.declared.Answered.{Answered}
-use Rattle.pages.specs.declared.Answered.TheVariants.{Refused as RefusedPage, Wrote as WrotePage}
+use Rattle.std.specs.declared.result.Result.{Result}
+use Rattle.pages.specs.declared.Refused.{Refused}
 use Rattle.pages.specs.declared.writing.Sums.{Sums}
 
 -- The tally of line j: two counts, and 8 bytes of the first breaking choice.
@@ -79,18 +79,10 @@ WritesPage fulls breakings firsts many walks old new r =
     (vs : List Verdict) → Rows vs fulls breakings firsts many → Answers (lent (length old) (wrote (page_bytes walks vs))) old new r
 
 -- Whatever tables the words hold, an accepted page is answered.
-abbrev pub JudgesLines : List ℕ → Bytes → ℕ → Bytes → Bytes → Answered → Type 0
+abbrev pub JudgesLines : List ℕ → Bytes → ℕ → Bytes → Bytes → Result ℕ Refused → Type 0
 JudgesLines ts page walks old new r =
     (T : Tables) → TablesAt ts T → PageAnswers (page_lent (length old) (wrote_page (page_bytes walks (verdicts_on T (lines page))))) old new r
 
 -- Whatever tables the words hold, the page is answered.
-abbrev pub JudgesPageOn : List ℕ → Bytes → Bytes → Bytes → Answered → Type 0
+abbrev pub JudgesPageOn : List ℕ → Bytes → Bytes → Bytes → Result ℕ Refused → Type 0
 JudgesPageOn ts page old new r = (T : Tables) → TablesAt ts T → PageAnswers (page_lent (length old) (accepted_page T (lines page))) old new r
-
--- What a call that writes says, as the page's answer does.
-abbrev pub placed_as : Written → Answered
-placed_as (Err e) = RefusedPage e 0
-placed_as (Ok n) = WrotePage n
-
-abbrev pub Placed : Written → Answered → Type 0
-Placed w r = r ≡ placed_as w
