@@ -59,7 +59,7 @@ fn once(order: &[u8], n: usize) -> bool
     (0..n).all(|k| times(order, k) == 1)
 }
 
-// The set of v names nothing of the order from there on.
+// The set of v names none of those variables.
 fn free(names: &[u64], v: usize, later: &[u8]) -> bool
     requires { (v < length names.now) × ((k : ℕ) → get_or later.now k 0 < 8) }
     ensures { result ≡ is_free (named_by names.now) v later.now }
