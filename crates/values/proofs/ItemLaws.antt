@@ -112,8 +112,8 @@ is-sort s k h l =
     rw (lt-ltb s first_set h) at
     (same-pair (λ s k. ltb s first_set && (ltb k first_collection && eqb (k % first_set) s)) (λ s k. ltb s first_set && of_sort (sort_at s) (kind_of k)) kinds_fit tt s k (omega arith) l)
 
-pub sort-yes : (s k : ℕ) → s < first_set → k < first_collection → eqb (k % first_set) s ≡ of_sort (sort_at s) (kind_of k)
-sort-yes s k h l = ap (λ (b : Bool). b && eqb (k % first_set) s) (sym (lt-ltb k first_collection l)) ∙ is-sort s k h (omega arith)
+pub sort_yes : (s k : ℕ) → s < first_set → k < first_collection → eqb (k % first_set) s ≡ of_sort (sort_at s) (kind_of k)
+sort_yes s k h l = ap (λ (b : Bool). b && eqb (k % first_set) s) (sym (lt-ltb k first_collection l)) ∙ is-sort s k h (omega arith)
 
-pub sort-no : (s k : ℕ) → s < first_set → first_collection ≤ k → k < kinds_fit → false ≡ of_sort (sort_at s) (kind_of k)
-sort-no s k h l m = ap (λ (b : Bool). b && eqb (k % first_set) s) (sym (le-ltb k first_collection l)) ∙ is-sort s k h m
+pub sort_no : (s k : ℕ) → s < first_set → first_collection ≤ k → k < kinds_fit → false ≡ of_sort (sort_at s) (kind_of k)
+sort_no s k h l m = ap (λ (b : Bool). b && eqb (k % first_set) s) (sym (le-ltb k first_collection l)) ∙ is-sort s k h m

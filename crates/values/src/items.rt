@@ -65,6 +65,7 @@ pub fn one(t: &[u64], kind: u8, x: usize) -> u64
 }
 
 // Whether the kind is an element or a set of the sort, 0 to 5 for U, R, OP, OBJ, P, S.
+#[tactic(auto, using(crate::proofs::ItemLaws::sort_yes, crate::proofs::ItemLaws::sort_no))]
 pub fn is_sort(kind: u8, sort: u8) -> bool
     requires { sort < first_set }
     ensures { kind < kinds_fit → result ≡ of_sort (sort_at sort) (kind_of kind) }

@@ -55,9 +55,9 @@ module _ (s : List ℕ) (i : ℕ) (names : ℕ → ℕ → Bool) where
   abbrev lent : List ℕ
   lent = take (length s - i) (drop i s)
 
-  pub after-end : length s ≤ i → is_after names (drop i s) ≡ true
+  pub after_end : length s ≤ i → is_after names (drop i s) ≡ true
   unfolding is_after
-  after-end h = rw (drop_of_length-le s h)
+  after_end h = rw (drop_of_length-le s h)
 
   after_is : i < length s → (is_free names (get_or s i 0) lent && is_after names (drop (i + 1) s)) ≡ is_after names (drop i s)
   unfolding is_after
@@ -66,8 +66,8 @@ module _ (s : List ℕ) (i : ℕ) (names : ℕ → ℕ → Bool) where
   pub after_stop : i < length s → is_free names (get_or s i 0) lent ≡ false → false ≡ is_after names (drop i s)
   after_stop h e = sym (ap (λ (t : Bool). t && is_after names (drop (i + 1) s)) e) ∙ after_is h
 
-  pub after-go : i < length s → is_free names (get_or s i 0) lent ≡ true → is_after names (drop (i + 1) s) ≡ is_after names (drop i s)
-  after-go h e = sym (ap (λ (t : Bool). t && is_after names (drop (i + 1) s)) e) ∙ after_is h
+  pub after_go : i < length s → is_free names (get_or s i 0) lent ≡ true → is_after names (drop (i + 1) s) ≡ is_after names (drop i s)
+  after_go h e = sym (ap (λ (t : Bool). t && is_after names (drop (i + 1) s)) e) ∙ after_is h
 
 variables-snoc : (s : List ℕ) (x : ℕ) → variables_of (s ++ (x ∷ [])) ≡ variables_of s ++ (variable_of x ∷ [])
 unfolding variables_of

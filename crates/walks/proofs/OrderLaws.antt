@@ -1,7 +1,7 @@
 -- The test of an order holds exactly of the lists that have each variable once, after those that its set names.
 -- Assumes nothing.
 use mathlib.Core.Path.{◌≡◌, refl, sym, ap, ap₂, subst}
-use mathlib.Core.Bool.{and-false, Bool, true, false, not, ◌&&◌}
+use mathlib.Core.Bool.{Bool, true, false, not, ◌&&◌}
 use mathlib.Core.List.{List, [], ◌∷◌}
 use mathlib.Core.Logic.{◌↔◌}
 use Prim.Native.Nat.{ℕ, zero, suc, ◌+◌, ◌<◌, ◌≤◌}
@@ -115,19 +115,6 @@ order-exact names n vs o a =
 pub order-admissible : (names : ℕ → ℕ → Bool) (n : ℕ) (vs : List ℕ) → (is_order names n vs ≡ true) ↔ Admissible names n vs
 order-admissible names n vs =
     (λ h. record { once = order-once names n vs h; after = order-after names n vs h }, λ a. order-exact names n vs a.once a.after)
-
--- the parts of the test
-pub order-yes : (names : ℕ → ℕ → Bool) (n : ℕ) (vs : List ℕ) → is_small n vs ≡ true → is_once n vs ≡ true → is_after names vs ≡ is_order names n vs
-unfolding is_order
-order-yes names n vs p q = rw (p, q)
-
-pub order-no-small : (names : ℕ → ℕ → Bool) (n : ℕ) (vs : List ℕ) → is_small n vs ≡ false → false ≡ is_order names n vs
-unfolding is_order
-order-no-small names n vs p = rw p
-
-pub order-no-once : (names : ℕ → ℕ → Bool) (n : ℕ) (vs : List ℕ) → is_once n vs ≡ false → false ≡ is_order names n vs
-unfolding is_order
-order-no-once names n vs p = rw p (sym (and-false (is_small n vs)))
 
 -- an order of n variables has n entries, each below n
 pub order-length : (names : ℕ → ℕ → Bool) (n : ℕ) (vs : List ℕ) → is_order names n vs ≡ true → length vs ≡ n

@@ -59,7 +59,7 @@ fn once(order: &[u8], n: usize) -> bool
     (0..n).all(|k| times(order, k) == 1)
 }
 
-// The set of v names nothing of the order from there on.
+// The set of v names none of those variables.
 fn free(names: &[u64], v: usize, later: &[u8]) -> bool
     requires { (v < length names.now) × ((k : ℕ) → get_or later.now k 0 < 8) }
     ensures { result ≡ is_free (named_by names.now) v later.now }
@@ -69,6 +69,7 @@ fn free(names: &[u64], v: usize, later: &[u8]) -> bool
 }
 
 // Every variable of the order comes after those its set names.
+#[tactic(auto, using(crate::proofs::LoopLaws::after_end, crate::proofs::LoopLaws::after_stop, crate::proofs::LoopLaws::after_go))]
 fn after(names: &[u64], order: &[u8]) -> bool
     requires { (length names.now ≡ 8) × ((k : ℕ) → get_or order.now k 0 < 8) }
     ensures { result ≡ is_after (named_by names.now) order.now }
@@ -82,6 +83,7 @@ fn after(names: &[u64], order: &[u8]) -> bool
 }
 
 // Whether it is an order of n variables, where names[v] is the word of the variables that the set of v names.
+#[tactic(auto, using(crate::proofs::OrderLaws::small_at), unfolding(crate::specs::Order::is_order))]
 pub fn ordered(names: &[u64], order: &[u8], n: usize) -> bool
     requires { (length names.now ≡ 8) × (n ≤ 8) }
     ensures { result ≡ is_order (named_by names.now) n order.now }
