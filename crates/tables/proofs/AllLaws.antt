@@ -1,9 +1,6 @@
 -- Laws of `all_to`, and of a loop that leaves at the first number of which the test does not hold.
 -- Assumes nothing.
 use Rattle.std.proofs.Common.{IsTrue, ◌↔◌}
-use Rattle.std.specs.List.{list_all}
-use mathlib.Core.List.{List, [], ◌∷◌}
-use lib.ListN.{length, get_or}
 use mathlib.Core.Path.{◌≡◌, refl, sym, ap, ◌∙◌}
 use mathlib.Core.Bool.{Bool, true, false, not, ◌&&◌}
 use Prim.Native.Nat.{ℕ, zero, suc, ◌+◌, ◌≤◌, ◌<◌}
@@ -35,19 +32,6 @@ all-is {b} n f h = go b (all_to n f) h.0 h.1 (all-every n f) (all-at n f)
     go true a f g h k = sym (h (f refl))
     go false true f g h k = g (k refl)
     go false false f g h k = refl
-
--- The same of a list.
-pub all-list : {A : Type 0} (p : A → Bool) (xs : List A) (d : A) → list_all p xs ≡ all_to (length xs) (λ i. p (get_or xs i d))
-all-list {A} p xs d = all-is _ _ (at xs, every xs)
-  where
-    at : (xs : List A) → list_all p xs ≡ true → (i : ℕ) → i < length xs → p (get_or xs i d) ≡ true
-    at [] h i l = absurd (omega arith)
-    at (x ∷ xs) h zero l = (and-true (p x) (list_all p xs) h).0
-    at (x ∷ xs) h (suc i) l = at xs (and-true (p x) (list_all p xs) h).1 i (omega arith)
-
-    every : (xs : List A) → ((i : ℕ) → i < length xs → p (get_or xs i d) ≡ true) → list_all p xs ≡ true
-    every [] h = refl
-    every (x ∷ xs) h = and_both (h 0 (omega arith)) (every xs (λ i l. h (suc i) (omega arith)))
 
 pub all-ext : (n : ℕ) (f g : ℕ → Bool) → ((i : ℕ) → i < n → f i ≡ g i) → all_to n f ≡ all_to n g
 unfolding all_to

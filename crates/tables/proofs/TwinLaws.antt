@@ -1,7 +1,5 @@
 -- Laws of the twin test: where a word's slot is not taken, no word before it is that word.
 -- Assumes nothing.
-use Rattle.std.proofs.Common.{cond, count_by}
-use Rattle.std.proofs.lemmas.List.Folds.{sum_by-zero}
 use mathlib.Core.Path.{◌≡◌, refl, sym, ap, ◌∙◌}
 use mathlib.Core.Bool.{Bool, true, false, not}
 use mathlib.Core.List.{List}
@@ -14,17 +12,9 @@ use lib.Seq.{get_or-take, length-take-le, get_or-set_same, get_or-set_other}
 use borrow.Author.Tests.{eqb-true, eqb-false, ne_eqb}
 use Rattle.tables.specs.Code.Reads.{new_at, slots, slot_of, SlotsTaken}
 use Rattle.tables.specs.Checks.{all_to}
-use Rattle.tables.proofs.AllLaws.{all-every, all-ext, all-list}
+use Rattle.tables.proofs.AllLaws.{all-every, all-ext}
 
--- Where none of the words is x, none is counted.
-none : (b : Bool) → eqb (cond b 1 0) 0 ≡ not b
-none true = refl
-none false = refl
-
-pub none-counted : (ws : List ℕ) (x : ℕ) → eqb (count_by (λ w. eqb w x) ws) 0 ≡ all_to (length ws) (λ j. not (eqb (get_or ws j 0) x))
-none-counted ws x = sum_by-zero _ ws ∙ all-list _ ws 0 ∙ all-ext (length ws) _ _ (λ j l. none (eqb (get_or ws j 0) x))
-
--- Those before word i.
+-- No word before word i is that word.
 pub new-before : (ws : List ℕ) (i : ℕ) → i ≤ length ws → all_to (length (take i ws)) (λ j. not (eqb (get_or (take i ws) j 0) (get_or ws i 0))) ≡ new_at ws i
 unfolding new_at
 new-before ws i l = rw (length-take-le i ws l) (all-ext i _ _ (λ j m. ap (λ (k : ℕ). not (eqb k (get_or ws i 0))) (get_or-take i ws j 0 m)))

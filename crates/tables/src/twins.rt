@@ -11,7 +11,13 @@ const SLOTS: usize = 1021;
 pub fn is_new(words: &[u64], word: u64) -> bool
     ensures { result ≡ all_to (length words.now) (λ j. not (eqb (get_or words.now j 0) word)) }
 {
-    words.iter().filter(|w| **w == word).count() == 0
+    let mut twin = false;
+    for w in words {
+        if *w == word {
+            twin = true;
+        }
+    }
+    !twin
 }
 
 // A word's slot.

@@ -9,7 +9,6 @@ use Rattle.tables.specs.Code.Layout.{session_count_at}
 use Rattle.changes.proofs.PassesLaws.{closing-closes}
 use Rattle.changes.proofs.CountLaws.{counts_of}
 use Rattle.changes.proofs.MadeLaws.{closed-made}
-use borrow.Author.Rules.{rules}
 use Rattle.changes.proofs.closed.Goals as goal
 
 pub close_up-requires : goal.close_up-requires
@@ -48,11 +47,6 @@ bounds-t-3-2 c =
     let kept = c.close_up-2.ensures.before session_count_at (omega arith) ∙ c.close_up.ensures.before session_count_at (omega arith) ∙ k.sessions in
     (c.close_up-2.ensures.same ∙ c.close_up.ensures.same ∙ k.long, omega (arith, kept, n)) in
     let k = both-kept in omega (arith, k.0)
-
-pub shape_of-t : goal.shape_of-t
-shape_of-t c =
-    let kept = c.close_up-2.ensures.same ∙ c.close_up.ensures.same in
-    search rules
 
 pub returns : goal.returns
 returns c =

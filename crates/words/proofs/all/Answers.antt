@@ -1,13 +1,10 @@
 -- `words::all` meets its contract: 2 ^ n - 1 has the first n bits.
 -- Assumes nothing.
 use native.Mathlib.Omega.{arith}
-use lib.Pow.{shl_exact, pow_pos}
+use lib.Pow.{shl_exact}
 use lib.Dec.{lit<}
 use Rattle.words.proofs.WordsLaws.{all_ones, all-full}
 use Rattle.words.proofs.all.Goals as goal
-
-pub overflow_sub-result : goal.overflow_sub-result
-overflow_sub-result c = omega (arith, shl_exact {a = 1} 1 c.args.n 64 (lit< tt) (omega arith), pow_pos c.args.n)
 
 pub returns-then-n-lt64 : goal.returns-then-n-lt64
 returns-then-n-lt64 c = omega (arith, shl_exact {a = 1} 1 c.args.n 64 (lit< tt) (omega arith), all_ones c.args.n (omega arith))

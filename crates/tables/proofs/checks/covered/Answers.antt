@@ -1,16 +1,13 @@
 -- `tables::checks::covered`. Invariant: the rest without what the roles left dominate is what is to be empty in the end.
 -- The measure is what is left, as a number. Assumes nothing.
 use Prim.Native.Nat.{ℕ}
-use mathlib.Core.Path.{◌≡◌, refl, ap, ◌∙◌}
+use mathlib.Core.Path.{◌≡◌, ap, ◌∙◌}
 use lib.ListN.{get_or}
 use Rattle.words.specs.Words.{item_of, less_of}
 use Rattle.words.proofs.WordsLaws.{less-lt}
 use Rattle.words.proofs.LoopLaws.{less-smaller, lowest-item}
 use Rattle.tables.proofs.ReachLaws.{cover-turn, cover-end, cover-none}
 use Rattle.tables.proofs.checks.covered.Goals as goal
-
-pub loop-rest-init : goal.loop-rest-init
-loop-rest-init c = (c.ranges.own.fits, c.ranges.over.fits, refl)
 
 pub returns-then-left-eq0 : goal.returns-then-left-eq0
 returns-then-left-eq0 c =

@@ -1,7 +1,6 @@
 -- `tables::sections::done_rows`: the rows of Done read so far are stored in three lists, and what is read from here on is the rest.
 -- Assumes nothing.
 use native.Mathlib.Omega.{arith}
-use mathlib.Core.Path.{◌∙◌}
 use Rattle.tables.specs.Reading.{done_row}
 use Rattle.tables.proofs.ReadLaws.{as-took, as-stop, stops_as}
 use Rattle.tables.proofs.RowsLaws.{deeds-none, deeds-more, storing-all, along-stop}
@@ -11,31 +10,17 @@ pub loop-i-init : goal.loop-i-init
 loop-i-init c =
     deeds-none (done_row c.args.users c.args.operations c.args.objects) c.args.n c.args.bytes.now c.args.at c.args.words.now c.requires.at_in_bounds
 
-pub done_row-requires : goal.done_row-requires
-done_row-requires c = c.loop-i.invariant.along.within
-
-pub shape_of-words-in_err-row : goal.shape_of-words-in_err-row
-shape_of-words-in_err-row c = c.loop-i.invariant.long
-
 pub returns-in_err-row : goal.returns-in_err-row
 returns-in_err-row c =
     stops_as c.from_residual.ensures.1
     (along-stop (done_row c.args.users c.args.operations c.args.objects) c.args.n c.loop-i.invariant.along (omega arith)
     (as-stop c.in_err-row.ensures))
 
-pub store_deed-requires : goal.store_deed-requires
-store_deed-requires c =
-    let got = as-took c.in_ok-row.ensures in
-    record { from_in_bounds = got.holds.complete; i_lt_room = (omega (arith, c.requires.n_le_room), c.loop-i.invariant.long ∙ c.requires.whole) }
-
 pub loop-i-preserved : goal.loop-i-preserved
 loop-i-preserved c =
     let got = as-took c.in_ok-row.ensures in
     rw c.store_deed.ensures
     (deeds-more (done_row c.args.users c.args.operations c.args.objects) c.args.n c.loop-i.invariant (omega arith) c.requires.n_le_room got)
-
-pub shape_of-words : goal.shape_of-words
-shape_of-words c = c.loop-i.invariant.long
 
 pub returns : goal.returns
 returns c =

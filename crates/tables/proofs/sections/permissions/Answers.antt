@@ -2,7 +2,6 @@
 -- Assumes nothing.
 use mathlib.Core.Path.{◌∙◌}
 use native.Mathlib.Omega.{arith}
-use lib.ListN.{length-set}
 use Rattle.tables.specs.Code.Layout.{permission_count_at, permission_rows_at}
 use Rattle.tables.proofs.ReadLaws.{as-took, as-stop, stops_as, reads_as}
 use Rattle.tables.specs.Code.Reads.{stops, rows_from}
@@ -17,15 +16,6 @@ returns-in_err-count c =
 pub returns-then-count-product : goal.returns-then-count-product
 returns-then-count-product c =
     stops (permissions-wrong c.args.bytes.now c.args.at c.args.product c.args.roles (as-took c.in_ok-count.ensures) c.if-count-product.true)
-
-pub rows-requires : goal.rows-requires
-rows-requires c =
-    let g = as-took c.in_ok-count.ensures in
-    record { at_in_bounds = g.within; n_le_room = (omega (arith, c.if-count-product.false, c.requires), c.requires.product_bound.1); room_bound = (omega arith, simp length-set c.requires.product_bound.2) }
-
-pub shape_of-words : goal.shape_of-words
-shape_of-words c =
-    c.rows.auto.words ∙ simp length-set
 
 pub returns : goal.returns
 returns c =

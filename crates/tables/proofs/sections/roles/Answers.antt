@@ -1,8 +1,5 @@
 -- `tables::sections::roles`: section 1, the roles.
 -- Assumes nothing.
-use mathlib.Core.Path.{◌∙◌}
-use native.Mathlib.Omega.{arith}
-use lib.ListN.{length-set}
 use Rattle.tables.specs.Reading.{word_row}
 use Rattle.tables.specs.Code.Reads.{rows_from}
 use Rattle.tables.specs.Code.Layout.{role_count_at, role_rows_at}
@@ -13,15 +10,6 @@ use Rattle.tables.proofs.sections.roles.Goals as goal
 pub returns-in_err-count : goal.returns-in_err-count
 returns-in_err-count c =
     stops_as c.from_residual.ensures.1 (section-stop c.args.bytes.now 0 (λ n. word_row n) (as-stop c.in_err-count.ensures))
-
-pub rows-requires : goal.rows-requires
-rows-requires c =
-    let g = as-took c.in_ok-count.ensures in
-    record { at_in_bounds = g.within; n_le_room = (g.holds.few, g.holds.few); room_bound = (omega arith, simp length-set c.requires) }
-
-pub shape_of-words : goal.shape_of-words
-shape_of-words c =
-    c.rows.auto.words ∙ simp length-set
 
 pub returns : goal.returns
 returns c =

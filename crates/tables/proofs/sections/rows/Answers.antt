@@ -10,36 +10,13 @@ pub loop-i-init : goal.loop-i-init
 loop-i-init c =
     words-none (row_of c.args.kind) c.args.n c.args.to c.args.bytes.now c.args.at c.args.words.now c.requires.at_in_bounds
 
-pub row-requires : goal.row-requires
-row-requires c =
-    record { at_in_bounds = c.loop-i.invariant.along.within; row_fits = c.requires.n_le_room.1 }
-
-pub shape_of-words-in_err-read : goal.shape_of-words-in_err-read
-shape_of-words-in_err-read c =
-    c.loop-i.invariant.long
-
 pub returns-in_err-read : goal.returns-in_err-read
 returns-in_err-read c =
     stops_as c.from_residual.ensures.1 (along-stop (row_of c.args.kind) c.args.n c.loop-i.invariant.along (omega arith) (as-stop c.in_err-read.ensures))
 
-pub overflow_add-words : goal.overflow_add-words
-overflow_add-words c =
-    omega (arith, c.requires)
-
-pub offset_bounds-words-to : goal.offset_bounds-words-to
-offset_bounds-words-to c =
-    omega (arith, c.requires, c.loop-i.invariant.long)
-
-pub bounds-words-to : goal.bounds-words-to
-bounds-words-to c =
-    omega (arith, c.requires, c.loop-i.invariant.long)
-
 pub loop-i-preserved : goal.loop-i-preserved
 loop-i-preserved c =
     words_more (row_of c.args.kind) c.args.n c.args.to c.loop-i.invariant (omega arith) (as-took c.in_ok-read.ensures)
-
-pub shape_of-words : goal.shape_of-words
-shape_of-words c = c.loop-i.invariant.long
 
 pub returns : goal.returns
 returns c =

@@ -1,7 +1,5 @@
 -- `tables::sections::section`: a section of words.
 -- Assumes nothing.
-use mathlib.Core.Path.{◌∙◌}
-use lib.ListN.{length-set}
 use Rattle.tables.specs.Code.Reads.{row_of, rows_from}
 use Rattle.tables.proofs.ReadLaws.{as-took, as-stop, stops_as, reads_as}
 use Rattle.tables.proofs.SectionLaws.{section-stop, section-on, counted}
@@ -10,15 +8,6 @@ use Rattle.tables.proofs.sections.section.Goals as goal
 pub returns-in_err-count : goal.returns-in_err-count
 returns-in_err-count c =
     stops_as c.from_residual.ensures.1 (section-stop c.args.bytes.now c.args.at (λ n. row_of c.args.kind) (as-stop c.in_err-count.ensures))
-
-pub rows-requires : goal.rows-requires
-rows-requires c =
-    let g = as-took c.in_ok-count.ensures in
-    record { at_in_bounds = g.within; n_le_room = (g.holds.few, c.requires.row_fits.0); room_bound = (c.requires.place_lt_room.1, simp length-set c.requires.row_fits.1) }
-
-pub shape_of-words : goal.shape_of-words
-shape_of-words c =
-    c.rows.auto.words ∙ simp length-set
 
 pub returns : goal.returns
 returns c =

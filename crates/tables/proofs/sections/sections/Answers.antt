@@ -9,21 +9,10 @@ pub returns-in_err-roles : goal.returns-in_err-roles
 returns-in_err-roles c =
     stops_as c.from_residual.ensures.1 (sections-stop c.args.bytes.now (as-stop c.in_err-roles.ensures))
 
-pub users-requires : goal.users-requires
-users-requires c =
-    let f = as-took c.in_ok-roles.ensures in
-    record { at_in_bounds = f.within; roles_bound = (f.holds.few, c.roles.auto.words ∙ c.requires) }
-
 pub returns-in_err-users : goal.returns-in_err-users
 returns-in_err-users c =
     let f = as-took c.in_ok-roles.ensures in
     stops_as c.from_residual-in_err-users.ensures.1 (sections-stop-2 c.args.bytes.now f (as-stop c.in_err-users.ensures))
-
-pub sessions-requires : goal.sessions-requires
-sessions-requires c =
-    let f = as-took c.in_ok-roles.ensures in
-    let g = as-took c.in_ok-users.ensures in
-    record { at_in_bounds = g.within; roles_bound = (f.holds.few, c.users.auto.words ∙ c.roles.auto.words ∙ c.requires) }
 
 pub returns-in_err-sessions : goal.returns-in_err-sessions
 returns-in_err-sessions c =
@@ -51,11 +40,6 @@ collections-requires c =
     let t = as-took c.in_ok-rights.ensures in
     record { at_in_bounds = t.within; roles_bound = (f.holds.few, g.holds.few, t.holds.few); whole = c.rights.auto.words ∙ c.sessions.auto.words ∙ c.users.auto.words ∙ c.roles.auto.words ∙ c.requires }
 
-pub shape_of-words-in_err-held : goal.shape_of-words-in_err-held
-shape_of-words-in_err-held c =
-    c.collections.auto.words ∙ c.rights.auto.words ∙ c.sessions.auto.words ∙ c.users.auto.words
-    ∙ c.roles.auto.words
-
 pub returns-in_err-held : goal.returns-in_err-held
 returns-in_err-held c =
     let f = as-took c.in_ok-roles.ensures in
@@ -63,19 +47,6 @@ returns-in_err-held c =
     let h = as-took c.in_ok-sessions.ensures in
     let t = as-took c.in_ok-rights.ensures in
     stops_as c.from_residual-in_err-held.ensures.1 (sections-stop-5 c.args.bytes.now f g h t (as-stop c.in_err-held.ensures))
-
-pub done-requires : goal.done-requires
-done-requires c =
-    let z = as-took c.in_ok-held.ensures in record {
-      at_in_bounds = z.within;
-      whole = c.collections.auto.words ∙ c.rights.auto.words ∙ c.sessions.auto.words
-          ∙ c.users.auto.words ∙ c.roles.auto.words ∙ c.requires;
-    }
-
-pub shape_of-words : goal.shape_of-words
-shape_of-words c =
-    c.done.auto.words ∙ c.collections.auto.words ∙ c.rights.auto.words ∙ c.sessions.auto.words
-    ∙ c.users.auto.words ∙ c.roles.auto.words
 
 pub returns : goal.returns
 returns c =

@@ -1,7 +1,5 @@
 -- `tables::sections::sessions`: section 3, the sessions.
 -- Assumes nothing.
-use mathlib.Core.Path.{◌∙◌}
-use lib.ListN.{length-set}
 use Rattle.tables.specs.Reading.{session_row}
 use Rattle.tables.specs.Code.Layout.{session_count_at}
 use Rattle.tables.specs.Code.Reads.{put_sessions}
@@ -13,15 +11,6 @@ pub returns-in_err-count : goal.returns-in_err-count
 returns-in_err-count c =
     stops_as c.from_residual.ensures.1
     (section-stop c.args.bytes.now c.args.at (λ n. session_row c.args.users c.args.roles) (as-stop c.in_err-count.ensures))
-
-pub session_rows-requires : goal.session_rows-requires
-session_rows-requires c =
-    let g = as-took c.in_ok-count.ensures in
-    record { at_in_bounds = g.within; n_le_room = (g.holds.few, c.requires.roles_bound.0); whole = simp length-set c.requires.roles_bound.1 }
-
-pub shape_of-words : goal.shape_of-words
-shape_of-words c =
-    c.session_rows.auto.words ∙ simp length-set
 
 pub returns : goal.returns
 returns c =

@@ -6,7 +6,7 @@ use lib.ListN.{length}
 use Rattle.tables.specs.Checks.{apart}
 use Rattle.tables.specs.Code.Reads.{new_at}
 use Rattle.tables.proofs.AllLaws.{passed_none, passed-more, passed-not, passed-all}
-use Rattle.tables.proofs.TwinLaws.{slots-none, slot-within, slots-more, slot-free, new-before}
+use Rattle.tables.proofs.TwinLaws.{slots-none, slots-more, slot-free, new-before}
 use Rattle.tables.proofs.twins.apart.Goals as goal
 use Rattle.tables.proofs.twins.apart.Goals.{else-taken-s-ne0-via-then-taken-s-ne0+else-not-is_new, else-taken-s-ne0-via-else-taken-s-ne0}
 
@@ -17,9 +17,6 @@ pub returns-then-not-is_new : goal.returns-then-not-is_new
 unfolding apart new_at
 returns-then-not-is_new c =
     passed-not c.loop-i.invariant.0 c.loop-i-test.true (c.is_new.ensures ∙ new-before c.args.words.now c.loop-i.i (omega arith)) c.if-not-is_new.true
-
-pub bounds-taken-s : goal.bounds-taken-s
-bounds-taken-s c = slot-within _ c.slot-s.ensures
 
 pub loop-i-preserved : goal.loop-i-preserved
 loop-i-preserved c =
