@@ -11,6 +11,7 @@ use native.Mathlib.Omega.{arith}
 use lib.ListN.{length, get_or, set, length-set, length-append, get_or-append}
 use lib.Seq.{get_or-set_same, get_or-set_other, get_or-append_seam}
 use Rattle.words.specs.Words.{has, Lowest, item_of, less_of}
+use Rattle.words.proofs.LoopLaws.{lowest-item}
 use Rattle.words.proofs.WordsLaws.{has-zero, has_in, less-here, less-lt}
 use Rattle.syntax.specs.Bytes.{Bytes}
 use Rattle.syntax.specs.Rule.{Rule}
@@ -23,7 +24,7 @@ use Rattle.sharing.proofs.GatheringLaws.{sheaf-none, as-left, as-taken, sheaf-en
 use Rattle.sharing.proofs.LineLaws.{less-others}
 use Rattle.pages.specs.Page.{page_limit}
 use Rattle.pages.specs.Code.Parts.{line_at}
-use Rattle.pages.specs.Code.Sheaves.{Arrays, Gathers}
+use Rattle.pages.specs.Code.Sheaves.{Wanted, Arrays, Gathers}
 use Rattle.pages.specs.declared.sheaves.Gathered.{Gathered}
 
 abbrev pub gathered_of : Size → ℕ → Gathered
@@ -144,3 +145,22 @@ module _ (wanted : ℕ) {rest j lines : ℕ} (small : rest < 2 ^ 64) (inside : (
     behind = λ i h. omega (arith, (left i h).1, behind j (here.found low));
     gathers = G;
   }
+
+-- The next line: it is wanted, and there is room for it.
+pub record Next (wanted j lines : ℕ) : Type 0 where
+  pub low : j < 64
+  pub wants : has wanted j ≡ true
+  pub room : lines < page_limit
+
+module _ {page : Bytes} {wanted : ℕ} {nodes list vars starts members : List ℕ} {size : Size} {lines rest j : ℕ}
+    (W : Wanted page wanted) (G : Going page wanted nodes list vars starts members size lines rest) (some : rest ≡ 0 → ⊥) (here : Lowest rest j) where
+  pub next : Next wanted j lines
+  next =
+      let low = lowest-item G.small some here in
+      let wants = G.inside _ (here.found low) in
+      record { low = low; wants = wants; room = omega (arith, G.behind _ (here.found low), W.inside _ wants, W.few) }
+
+  pub gathers-more : {nodes' list' vars' : List ℕ} {s : Bytes} {r : Option Size} {more : Size}
+      → ((κs : List Rule) → Sheaf κs nodes list vars size.n size.c size.count → Adds κs s nodes' list' vars' size.n size.c size.count r) → r ≡ Some more → line_at page j ≡ s
+      → Gathers page wanted nodes' list' vars' (set starts (lines + 1) more.c) (set members lines j) (gathered_of more (lines + 1))
+  gathers-more A q line = gathers-next G.gathers A q j next.wants next.room line

@@ -1,6 +1,6 @@
 -- Laws of sorting a page's lines by their quantifier parts: the first line with a part, the lines so far, the walks.
 -- Assumes nothing.
-use mathlib.Core.Path.{◌≡◌, refl, sym, ap, ◌∙◌}
+use mathlib.Core.Path.{◌≡◌, refl, sym, ap, subst, ◌∙◌}
 use mathlib.Core.Bool.{Bool, true, false, cond, ◌||◌}
 use mathlib.Core.List.{List, [], ◌∷◌, ◌++◌}
 use mathlib.Core.Option.{none, some}
@@ -12,6 +12,9 @@ use lib.Dec.{eqb, ltb}
 use lib.ListN.{length, get_or, take, drop, set, length-set, drop_of_length-le}
 use lib.Seq.{take-take, take-suc, drop-cons, get_or-set_same, get_or-set_other}
 use borrow.Author.Tests.{ltb-true, ltb-false, lt-ltb, le-ltb, eq-eqb, ne_eqb}
+use Rattle.std.specs.declared.option.Option.{Option}
+use Rattle.std.specs.declared.option.Option.TheVariants.{Some, None}
+use Rattle.std.specs.Option.{MatchOption, unwrap_or}
 use Rattle.std.specs.Int.{from_bool}
 use Rattle.std.specs.Result.{MatchResult, IsErrAnd}
 use Rattle.answers.specs.declared.Refusal.{Refusal}
@@ -47,18 +50,36 @@ module _ {page : Bytes} {k j : ℕ} (s : Seeking page k j) (h : j < length (line
   from-here : first_with (part_of (line_at page k)) (drop j (parts_of (lines page))) ≡ cond r 0 (suc (first_with (part_of (line_at page k)) (drop (suc j) (parts_of (lines page)))))
   from-here = first-from (part_of (line_at page k)) (parts_of (lines page)) j (omega (arith, length-parts (lines page))) ∙ rw (parts_at (lines page) j h, is)
 
-  pub seek_hit : r ≡ true → j ≡ first_with (part_of (line_at page k)) (parts_of (lines page))
+  seek_hit : r ≡ true → j ≡ first_with (part_of (line_at page k)) (parts_of (lines page))
   seek_hit e =
       let here : first_with (part_of (line_at page k)) (drop j (parts_of (lines page))) ≡ 0 = from-here ∙ rw e in
       omega (arith, s.sofar)
 
-  pub seek-next : r ≡ false → Seeking page k (j + 1)
+  seek-next : r ≡ false → Seeking page k (j + 1)
   seek-next e =
       let on : first_with (part_of (line_at page k)) (drop j (parts_of (lines page))) ≡ suc (first_with (part_of (line_at page k)) (drop (j + 1) (parts_of (lines page)))) = from-here ∙ rw (e, add-one) in
       record { sofar = omega (arith, s.sofar) }
 
-pub seek-self : {page : Bytes} {k : ℕ} → Seeking page k k → k < length (lines page) → k ≡ first_with (part_of (line_at page k)) (parts_of (lines page))
+seek-self : {page : Bytes} {k : ℕ} → Seeking page k k → k < length (lines page) → k ≡ first_with (part_of (line_at page k)) (parts_of (lines page))
 seek-self {page} {k} s h = seek_hit s h (sym (same-own (part_of (line_at page k)))) refl
+
+-- No line before j has the part of line k.
+abbrev pub NoneBefore : Bytes → ℕ → ℕ → Type 0
+NoneBefore page k j = (i : ℕ) → i < j → false ≡ same (part_of (line_at page k)) (part_of (line_at page i))
+
+-- The first line before k that has its part, if there is one.
+abbrev pub FoundFirst : Bytes → ℕ → Option ℕ → Type 0
+FoundFirst page k o = MatchOption o (NoneBefore page k k) (λ j. (j < k) × (true ≡ same (part_of (line_at page k)) (part_of (line_at page j))) × NoneBefore page k j)
+
+seek-to : (page : Bytes) (k j : ℕ) → j ≤ length (lines page) → NoneBefore page k j → Seeking page k j
+seek-to page k zero h f = record { sofar = omega arith }
+seek-to page k (suc j) h f =
+    let more : j + 1 ≡ suc j = omega arith in
+    subst (λ (i : ℕ). Seeking page k i) more (seek-next (seek-to page k j (omega arith) (λ i l. f i (omega arith))) (omega arith) (f j (omega arith)) refl)
+
+pub found-first : (page : Bytes) (k : ℕ) → k < length (lines page) → (o : Option ℕ) → FoundFirst page k o → unwrap_or o k ≡ first_with (part_of (line_at page k)) (parts_of (lines page))
+found-first page k h None f = seek-self (seek-to page k k (omega arith) f) h
+found-first page k h (Some j) f = seek_hit (seek-to page k j (omega (arith, f.0)) f.2) (omega (arith, f.0)) f.1 refl
 
 -- A text is among those before a place exactly where the first that is equal stands before it.
 first-suc : (m k : ℕ) → ltb (suc m) (suc k) ≡ ltb m k

@@ -118,12 +118,9 @@ fn first_with(page: &[u8], slots: &[u8], lens: &[usize], k: usize) -> usize
     ensures value { result ≡ first_with (part_of (line_at page.now k)) (parts_of (lines page.now)) }
     ensures upper_bound { result ≤ k }
 {
-    for j in 0..k {
-        if alike(page, slots, lens, k, j) {
-            return j;
-        }
-    }
-    k
+    (0..k)
+        .find(|j| alike(page, slots, lens, k, *j))
+        .unwrap_or(k)
 }
 
 // Sorts the lines: `groups` gets for each line the first one with its quantifier part. How many different parts there are, or the first refused line.

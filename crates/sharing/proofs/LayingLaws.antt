@@ -35,16 +35,6 @@ use Rattle.sharing.specs.declared.laying.Range.{Range}
 use Rattle.sharing.specs.Code.Lines.{lines_limit, lines_length, mask_of, from_of, to_of, within, line_of}
 use Rattle.sharing.specs.Code.Laying.{context_of, context_in, LaysLines, OrderIn, OrderOf, ByDepth, MaskFor, LineWords, LaysLine}
 
--- ---- one number more
-
-pub put-more : (P : ℕ → ℕ → Type 0) (found : List ℕ) (i : ℕ) → i < length found → ((j : ℕ) → j < i → P j (get_or found j 0)) → (v : ℕ) → P i v
-    → (j : ℕ) → j < i + 1 → P j (get_or (set found i v) j 0)
-put-more P found i l h v p j k = go (ℕ_discrete j i)
-  where
-    go : Dec (j ≡ i) → P j (get_or (set found i v) j 0)
-    go (yes e) = rw (e, get_or-set_same found i v 0 l) p
-    go (no ne) = rw (get_or-set_other found i j v 0 ne) (h j (omega arith))
-
 -- ---- what a mask stands for
 
 -- some bit of the variable's is not in the mask

@@ -9,6 +9,7 @@ use crate::lines::{FROM, TO, WORDS};
 use judging::planning;
 use judging::planning::{ORDER, VARIABLE_COUNT};
 use rules::{CHOICES_LIMIT, Parsed, RULE_LIMIT};
+use std::array;
 use values::plan::CLAUSE_COUNT;
 use walks::kept;
 
@@ -38,11 +39,7 @@ fn by_depth(names: &[u64], order: &[u8]) -> [u64; CHOICES_LIMIT]
     requires { (length names.now ≡ 8) × (length order.now ≤ 8) × ((i : ℕ) → i < length order.now → get_or order.now i 0 < 8) }
     ensures { ByDepth names.now order.now result }
 {
-    let mut found = [0u64; CHOICES_LIMIT];
-    for (d, word) in found.iter_mut().enumerate() {
-        *word = planning::by_sets(names, order, d);
-    }
-    found
+    array::from_fn(|d| planning::by_sets(names, order, d))
 }
 
 // The words of one line.

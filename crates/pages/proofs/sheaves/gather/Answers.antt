@@ -1,20 +1,18 @@
 -- `pages::sheaves::gather` meets its contract. The invariant: the lines that were gone through are gathered, as many as fitted.
 -- Assumes nothing.
 use native.Mathlib.Omega.{arith}
-use Prim.Native.Nat.{◌<◌}
-use Rattle.words.proofs.LoopLaws.{lowest-item, less-smaller}
+use Rattle.words.proofs.LoopLaws.{less-smaller}
 use Rattle.pages.proofs.LineLaws.{line-is}
-use Rattle.pages.proofs.GatherLaws.{gathers-none, gathers-left, gathers-next, going_end, going_on}
+use Rattle.pages.proofs.GatherLaws.{gathers-none, gathers-left, going_end, going_on, next, gathers-more}
 use Rattle.pages.proofs.sheaves.gather.Goals as goal
 
 pub loop-rest-init : goal.loop-rest-init
 loop-rest-init c =
     record { small = c.requires.0.small; inside = λ j h. h; behind = λ j h. omega arith; gathers = gathers-none c.requires.1 }
 
-pub add-requires : goal.add-requires
-add-requires c =
-    let j = lowest-item c.loop-rest.invariant.small c.loop-rest-test.true c.lowest-j.ensures in
-    record { line_value = rw (← line-is _ _ c.line.ensures c.in-Found.is) (c.requires.0.accepted _ (c.loop-rest.invariant.inside _ (c.lowest-j.ensures.found j))); room = c.loop-rest.invariant.gathers.sheaf.room }
+pub add-requires-clause-line_value : goal.add-requires-clause-line_value
+add-requires-clause-line_value c =
+    rw (← line-is _ _ c.line.ensures c.in-Found.is) (c.requires.0.accepted _ (next c.requires.0 c.loop-rest.invariant c.loop-rest-test.true c.lowest-j.ensures).wants)
 
 pub returns-in_default-add : goal.returns-in_default-add
 returns-in_default-add c =
@@ -22,40 +20,30 @@ returns-in_default-add c =
 
 pub bounds-members-lines : goal.bounds-members-lines
 bounds-members-lines c =
-    let j = lowest-item c.loop-rest.invariant.small c.loop-rest-test.true c.lowest-j.ensures in
-    let found = c.lowest-j.ensures.found j in
-    omega (arith, c.loop-rest.invariant.behind _ found, c.requires.0.inside _ (c.loop-rest.invariant.inside _ found), c.requires.0.few, c.loop-rest.invariant.gathers.members_of.for_members)
+    omega (arith, (next c.requires.0 c.loop-rest.invariant c.loop-rest-test.true c.lowest-j.ensures).room, c.loop-rest.invariant.gathers.members_of.for_members)
 
 pub bounds-starts-lines : goal.bounds-starts-lines
 bounds-starts-lines c =
-    let j = lowest-item c.loop-rest.invariant.small c.loop-rest-test.true c.lowest-j.ensures in
-    let found = c.lowest-j.ensures.found j in
-    omega (arith, c.loop-rest.invariant.behind _ found, c.requires.0.inside _ (c.loop-rest.invariant.inside _ found), c.requires.0.few, c.loop-rest.invariant.gathers.members_of.for_starts)
+    omega (arith, (next c.requires.0 c.loop-rest.invariant c.loop-rest-test.true c.lowest-j.ensures).room, c.loop-rest.invariant.gathers.members_of.for_starts)
 
 pub crowded-requires : goal.crowded-requires
 crowded-requires c =
-    let j = lowest-item c.loop-rest.invariant.small c.loop-rest-test.true c.lowest-j.ensures in
-    let found = c.lowest-j.ensures.found j in
-    let room : c.loop-rest.lines < 32 = omega (arith, c.loop-rest.invariant.behind _ found, c.requires.0.inside _ (c.loop-rest.invariant.inside _ found), c.requires.0.few) in
-    let G = gathers-next c.loop-rest.invariant.gathers c.add.ensures c.in-Some.is _ (c.loop-rest.invariant.inside _ found) room (line-is _ _ c.line.ensures c.in-Found.is) in
-    (omega (arith, c.loop-rest.invariant.behind _ found, c.requires.0.inside _ (c.loop-rest.invariant.inside _ found), c.requires.0.few), G.sheaf.room.known)
+    let N = next c.requires.0 c.loop-rest.invariant c.loop-rest-test.true c.lowest-j.ensures in
+    let G = gathers-more c.requires.0 c.loop-rest.invariant c.loop-rest-test.true c.lowest-j.ensures c.add.ensures c.in-Some.is (line-is _ _ c.line.ensures c.in-Found.is) in
+    (omega (arith, N.room), G.sheaf.room.known)
 
 pub loop-rest-preserved-then-crowded : goal.loop-rest-preserved-then-crowded
 loop-rest-preserved-then-crowded c =
-    let j = lowest-item c.loop-rest.invariant.small c.loop-rest-test.true c.lowest-j.ensures in
-    let found = c.lowest-j.ensures.found j in
-    let room : c.loop-rest.lines < 32 = omega (arith, c.loop-rest.invariant.behind _ found, c.requires.0.inside _ (c.loop-rest.invariant.inside _ found), c.requires.0.few) in
-    going_end (gathers-next c.loop-rest.invariant.gathers c.add.ensures c.in-Some.is _ (c.loop-rest.invariant.inside _ found) room (line-is _ _ c.line.ensures c.in-Found.is))
+    going_end (gathers-more c.requires.0 c.loop-rest.invariant c.loop-rest-test.true c.lowest-j.ensures c.add.ensures c.in-Some.is (line-is _ _ c.line.ensures c.in-Found.is))
 
 pub loop-rest-smaller : goal.loop-rest-smaller
 loop-rest-smaller c =
-    let j = lowest-item c.loop-rest.invariant.small c.loop-rest-test.true c.lowest-j.ensures in
-    rw (c.less-rest.ensures, c.item.ensures) (less-smaller c.loop-rest.rest c.lowest-j.result c.loop-rest.invariant.small j (c.lowest-j.ensures.found j))
+    let low = (next c.requires.0 c.loop-rest.invariant c.loop-rest-test.true c.lowest-j.ensures).low in
+    rw (c.less-rest.ensures, c.item.ensures) (less-smaller c.loop-rest.rest c.lowest-j.result c.loop-rest.invariant.small low (c.lowest-j.ensures.found low))
 
 pub loop-rest-preserved : goal.loop-rest-preserved
 loop-rest-preserved c =
-    let j = lowest-item c.loop-rest.invariant.small c.loop-rest-test.true c.lowest-j.ensures in
-    let found = c.lowest-j.ensures.found j in
-    let room : c.loop-rest.lines < 32 = omega (arith, c.loop-rest.invariant.behind _ found, c.requires.0.inside _ (c.loop-rest.invariant.inside _ found), c.requires.0.few) in
+    let low = (next c.requires.0 c.loop-rest.invariant c.loop-rest-test.true c.lowest-j.ensures).low in
     rw (c.less-rest.ensures, c.item.ensures)
-    (going_on c.args.wanted c.loop-rest.invariant.small c.loop-rest.invariant.inside c.loop-rest.invariant.behind c.lowest-j.ensures j (gathers-next c.loop-rest.invariant.gathers c.add.ensures c.in-Some.is _ (c.loop-rest.invariant.inside _ found) room (line-is _ _ c.line.ensures c.in-Found.is)))
+    (going_on c.args.wanted c.loop-rest.invariant.small c.loop-rest.invariant.inside c.loop-rest.invariant.behind c.lowest-j.ensures low
+    (gathers-more c.requires.0 c.loop-rest.invariant c.loop-rest-test.true c.lowest-j.ensures c.add.ensures c.in-Some.is (line-is _ _ c.line.ensures c.in-Found.is)))
