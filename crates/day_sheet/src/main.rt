@@ -3,24 +3,15 @@
 // Where the sheet cannot be written whole it stops, says so on standard error and ends with status 1.
 #![tactic(auto)]
 
-ghost use Rattle.std.specs.Prelude.{◌≤◌, length};
+ghost use Rattle.std.specs.Prelude.{◌≤◌, length, IfSome};
 ghost use Rattle.verdicts.specs.Code.Judging.{Loaded};
 ghost use Rattle.sheets.specs.Sheet.{rules_limit};
 
-use answers::Written;
 use sheets::{LINE_ROOM, RULES_LIMIT, total, turns};
 use std::fs::File;
 use std::io;
 use std::io::{ErrorKind, Read, Stdout, Write};
 use std::process::ExitCode;
-use tables::Outcome;
-
-// What was read of a file: its first n bytes, none where it cannot be read.
-#[derive(Clone, Copy)]
-struct Contents {
-    good: bool,
-    n: usize,
-}
 
 fn main(rt: HostRuntime) -> ExitCode {
     let Ok(()) = print_files(&rt) else {
@@ -38,51 +29,36 @@ fn print_files(rt: &HostRuntime) -> io::Result<()> {
     let mut stdout = rt.stdout();
     let t = read_file(rt, "tables.bin", &mut tables);
     let r = read_file(rt, "rules.txt", &mut rules);
-    if !t.good {
+    let Some(n) = t else {
         return stdout.write_all(b"no tables.bin\n");
-    }
-    if !r.good {
+    };
+    let Some(m) = r else {
         return stdout.write_all(b"no rules.txt\n");
-    }
-    let n = t.n;
-    let m = r.n;
+    };
     print_sheet(&mut stdout, &tables[..n], &rules[..m])
 }
 
-fn read_file(rt: &HostRuntime, path: &str, out: &mut [u8]) -> Contents
-    ensures { result.n ≤ length out.new }
+// Reads the first bytes of a file; how many, where it can be read.
+fn read_file(rt: &HostRuntime, path: &str, out: &mut [u8]) -> Option<usize>
+    ensures { IfSome result (λ n. n ≤ length out.new) }
 {
-    match File::open(rt, path) {
-        Ok(mut file) => read_to_end(&mut file, out),
-        Err(_) => Contents { good: false, n: 0 },
-    }
+    let mut file = File::open(rt, path).ok()?;
+    read_to_end(&mut file, out)
 }
 
 // Reads until the file ends or the lent bytes are full.
-fn read_to_end(file: &mut File, out: &mut [u8]) -> Contents
-    ensures { result.n ≤ length out.new }
+fn read_to_end(file: &mut File, out: &mut [u8]) -> Option<usize>
+    ensures { IfSome result (λ n. n ≤ length out.new) }
 {
     let mut n = 0;
     while n < out.len() {
-        let more = read_some(file, &mut out[n..]);
-        if !more.good {
-            return Contents { good: false, n: 0 };
+        let more = file.read(&mut out[n..]).ok()?;
+        if more == 0 {
+            return Some(n);
         }
-        if more.n == 0 {
-            return Contents { good: true, n };
-        }
-        n += more.n;
+        n += more;
     }
-    Contents { good: true, n }
-}
-
-fn read_some(file: &mut File, out: &mut [u8]) -> Contents
-    ensures { result.n ≤ length out.new }
-{
-    match file.read(out) {
-        Ok(n) => Contents { good: true, n },
-        Err(_) => Contents { good: false, n: 0 },
-    }
+    Some(n)
 }
 
 // Prints the sheet; an error where a line is not written. The tables are read once.
@@ -90,21 +66,16 @@ fn print_sheet(stdout: &mut Stdout, tables: &[u8], rules: &[u8]) -> io::Result<(
     if rules.len() > RULES_LIMIT {
         return print_only_line(stdout, tables, rules);
     }
-    let loaded = tables::read(tables);
-    let outcome = loaded.outcome;
-    match outcome {
-        Outcome::Refused(_) => print_only_line(stdout, tables, rules),
-        Outcome::Accepted => {
-            let words = loaded.words;
-            print_lines(stdout, &words, rules)
-        }
+    match tables::read(tables) {
+        Ok(words) => print_lines(stdout, &words, rules),
+        Err(_) => print_only_line(stdout, tables, rules),
     }
 }
 
 // The sheet of refused tables, or of rules that are too long, is its first line.
 fn print_only_line(stdout: &mut Stdout, tables: &[u8], rules: &[u8]) -> io::Result<()> {
     let mut line = [0u8; LINE_ROOM];
-    let Written::Wrote(n) = sheets::line(tables, rules, 1, &mut line) else {
+    let Ok(n) = sheets::line(tables, rules, 1, &mut line) else {
         return Err(io::Error::from(ErrorKind::InvalidData));
     };
     print_line(stdout, &line[..n])

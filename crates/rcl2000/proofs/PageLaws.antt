@@ -26,7 +26,8 @@ use Rattle.verdicts.specs.Report.{ReportsIn, Admitted}
 use Rattle.verdicts.proofs.ReportLaws.{judged-reports}
 use Rattle.pages.specs.Page.{PageAnswer, refused_at, wrote, page_of, if_page_room, page_lent, page_reply, page_after, said_of, PageAnswers, walks_of, verdicts_on, page_bytes}
 use Rattle.pages.specs.Met.{PageAdmitted, PageMet, bad_tables, bad_size, bad_line, good}
-use Rattle.pages.specs.declared.Answered.{Answered}
+use Rattle.std.specs.declared.result.Result.{Result}
+use Rattle.pages.specs.declared.Refused.{Refused}
 use Rattle.pages.proofs.PageLaws.{tables-refused}
 use Rattle.pages.proofs.MetLaws.{size-refused, line-refused-at, page-admitted, page-met}
 use Rattle.pages.proofs.ReportLaws.{page-length, page-word, page-full, page-breaking, page-walks, page-line, line_of, turn-admitted, line-judged, line-length}
@@ -100,7 +101,7 @@ unfolding page_reply
 reply-small (refused_at e p) h = omega (arith, number-few e)
 reply-small (wrote b) h = omega arith
 
-module _ (a : PageAnswer) {old new : Bytes} {w : Answered} (p : PageAnswers (page_lent (length old) a) old new w) where
+module _ (a : PageAnswer) {old new : Bytes} {w : Result ℕ Refused} (p : PageAnswers (page_lent (length old) a) old new w) where
   said : page_reply_of w ≡ page_reply (page_lent (length old) a)
   said = ap page_reply_of p.says ∙ reply-said (page_lent (length old) a)
 

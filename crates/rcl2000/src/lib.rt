@@ -9,7 +9,7 @@ ghost use Rattle.rcl2000.specs.Code.Reply.{reply_of, page_reply_of};
 
 use answers::Refusal;
 use changes::Change;
-use pages::Answered;
+use pages::Refused;
 
 // The tracker's number of what was written.
 fn number(written: Result<usize, Refusal>) -> u32
@@ -44,14 +44,13 @@ pub fn judge(tables: &[u8], rule: &[u8], order: &[u8], out: &mut [u8]) -> u32
 }
 
 // The tracker's number of what judging a page said.
-fn page_number(answered: Answered) -> u32
-    requires { page_reply_of answered < 4294967296 }
-    ensures { result ≡ page_reply_of answered }
+fn page_number(judged: Result<usize, Refused>) -> u32
+    requires { page_reply_of judged < 4294967296 }
+    ensures { result ≡ page_reply_of judged }
 {
-    match answered {
-        Answered::Refused { refusal, position } => 65536 * u32::from(refusal)
-            + position as u32,
-        Answered::Wrote(l) => l as u32,
+    match judged {
+        Ok(l) => l as u32,
+        Err(Refused { refusal, position }) => 65536 * u32::from(refusal) + position as u32,
     }
 }
 

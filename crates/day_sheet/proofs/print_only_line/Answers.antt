@@ -6,7 +6,7 @@ use Rattle.answers.proofs.AnswerLaws.{lent-within}
 use Rattle.day_sheet.proofs.print_only_line.Goals as goal
 
 pub slice_bounds-line-end-2 : goal.slice_bounds-line-end-2
-slice_bounds-line-end-2 c = lent-within _ c.line.ensures c.in-Wrote.is
+slice_bounds-line-end-2 c = lent-within _ c.line.ensures c.in-Ok.is
 
 pub slice_bounds-print_line-end : goal.slice_bounds-print_line-end
-slice_bounds-print_line-end c = sym (length-take-le _ _ (lent-within _ c.line.ensures c.in-Wrote.is))
+slice_bounds-print_line-end c = sym (length-take-le _ _ (lent-within _ c.line.ensures c.in-Ok.is))

@@ -7,16 +7,16 @@ use Rattle.rcl2000.specs.Code.Reply.{page_reply_of}
 use Rattle.rcl2000.proofs.page_number.Goals as goal
 
 pub overflow_mul-result : goal.overflow_mul-result
-overflow_mul-result c = record { fits = omega (arith, c.from.ensures, c.requires, ap page_reply_of c.in-Refused.is) }
+overflow_mul-result c = record { fits = omega (arith, c.from.ensures, c.requires, ap page_reply_of c.in-Err.is) }
 
 pub overflow_cast-result : goal.overflow_cast-result
-overflow_cast-result c = omega (arith, c.requires, ap page_reply_of c.in-Refused.is)
+overflow_cast-result c = omega (arith, c.requires, ap page_reply_of c.in-Err.is)
 
 pub overflow_add-result : goal.overflow_add-result
-overflow_add-result c = record { fits = omega (arith, c.from.ensures, c.requires, ap page_reply_of c.in-Refused.is) }
+overflow_add-result c = record { fits = omega (arith, c.from.ensures, c.requires, ap page_reply_of c.in-Err.is) }
 
-pub overflow_cast-result-in-Wrote : goal.overflow_cast-result-in-Wrote
-overflow_cast-result-in-Wrote c = omega (arith, c.requires, ap page_reply_of c.in-Wrote.is)
+pub overflow_cast-result-in-Ok : goal.overflow_cast-result-in-Ok
+overflow_cast-result-in-Ok c = omega (arith, c.requires, ap page_reply_of c.in-Ok.is)
 
-pub returns-in-Refused : goal.returns-in-Refused
-returns-in-Refused c = ap (λ (n : ℕ). 65536 * n + c.in-Refused.position) c.from.ensures ∙ ap page_reply_of (sym c.in-Refused.is)
+pub returns-in-Err : goal.returns-in-Err
+returns-in-Err c = ap (λ (n : ℕ). 65536 * n + c.in-Err.position) c.from.ensures ∙ ap page_reply_of (sym c.in-Err.is)
