@@ -12,7 +12,6 @@ use rules::{CHOICES_LIMIT, Checked, Parsed};
 use sharing::gathering::{Added, ROOM, Size};
 use sharing::together::Shared;
 use sharing::{gathering, together};
-use texts::Span;
 
 // So many slots are kept for lines: one for each line and variable but the first.
 const SLOTS: usize = 64;
@@ -87,7 +86,7 @@ fn gather(
     while rest != 0 {
         let j = words::lowest(rest);
         rest = words::less(rest, words::item(j));
-        let Span::Found { from, to } = texts::line(page, j) else {
+        let Some(line) = texts::line(page, j) else {
             return Gathered { n, c, count, lines };
         };
         let size = Size { n, c, count };
@@ -95,7 +94,7 @@ fn gather(
             n: m,
             c: d,
             count: k,
-        } = gathering::add(&page[from..to], nodes, list, vars, size)
+        } = gathering::add(&page[line], nodes, list, vars, size)
         else {
             return Gathered { n, c, count, lines };
         };

@@ -5,7 +5,6 @@ use native.Mathlib.Omega.{arith}
 use Prim.Native.Nat.{◌<◌}
 use borrow.Author.Rules.{rules}
 use Rattle.words.proofs.LoopLaws.{lowest-item, less-smaller}
-use Rattle.texts.proofs.SpansLaws.{lies}
 use Rattle.pages.proofs.LineLaws.{line-is, line-there}
 use Rattle.pages.proofs.GatherLaws.{gathers-none, gathers-left, gathers-next, going_end, going_on}
 use Rattle.pages.proofs.sheaves.gather.Goals as goal
@@ -25,9 +24,6 @@ less-rest-requires c = search rules
 
 pub line-requires : goal.line-requires
 line-requires c = search rules
-
-pub enum_known-from : goal.enum_known-from
-enum_known-from c = search rules
 
 pub enum_told-1 : goal.enum_told-1
 enum_told-1 c = search rules
@@ -55,24 +51,12 @@ shape_of-members-in_default c =
 pub returns-in_default : goal.returns-in_default
 returns-in_default c =
     let j = lowest-item c.loop-rest.invariant.small c.loop-rest-test.true c.lowest-j.ensures in
-    line-there _ _ c.line.ensures c.in_default.is (c.requires.0.inside _ (c.loop-rest.invariant.inside _ (c.lowest-j.ensures.found j)))
-
-pub slice_bounds-add-count : goal.slice_bounds-add-count
-slice_bounds-add-count c =
-    (lies c.line.ensures c.in-Found.is).low
-
-pub slice_bounds-add-start : goal.slice_bounds-add-start
-slice_bounds-add-start c =
-    (lies c.line.ensures c.in-Found.is).low
-
-pub slice_bounds-add-end : goal.slice_bounds-add-end
-slice_bounds-add-end c =
-    (lies c.line.ensures c.in-Found.is).high
+    line-there _ _ c.in_default.ensures (c.requires.0.inside _ (c.loop-rest.invariant.inside _ (c.lowest-j.ensures.found j)))
 
 pub add-requires : goal.add-requires
 add-requires c =
     let j = lowest-item c.loop-rest.invariant.small c.loop-rest-test.true c.lowest-j.ensures in
-    record { line_value = rw (← line-is _ _ c.line.ensures c.in-Found.is) (c.requires.0.accepted _ (c.loop-rest.invariant.inside _ (c.lowest-j.ensures.found j))); room = c.loop-rest.invariant.gathers.sheaf.room }
+    record { line_value = rw (← line-is _ _ c.in-Some.ensures) (c.requires.0.accepted _ (c.loop-rest.invariant.inside _ (c.lowest-j.ensures.found j))); room = c.loop-rest.invariant.gathers.sheaf.room }
 
 pub enum_known-m : goal.enum_known-m
 enum_known-m c = search rules
@@ -144,7 +128,7 @@ crowded-requires c =
     let j = lowest-item c.loop-rest.invariant.small c.loop-rest-test.true c.lowest-j.ensures in
     let found = c.lowest-j.ensures.found j in
     let room : c.loop-rest.lines < 32 = omega (arith, c.loop-rest.invariant.behind _ found, c.requires.0.inside _ (c.loop-rest.invariant.inside _ found), c.requires.0.few) in
-    let G = gathers-next c.loop-rest.invariant.gathers c.add.ensures c.in-Yes.is _ (c.loop-rest.invariant.inside _ found) room (line-is _ _ c.line.ensures c.in-Found.is) in
+    let G = gathers-next c.loop-rest.invariant.gathers c.add.ensures c.in-Yes.is _ (c.loop-rest.invariant.inside _ found) room (line-is _ _ c.in-Some.ensures) in
     (omega (arith, c.loop-rest.invariant.behind _ found, c.requires.0.inside _ (c.loop-rest.invariant.inside _ found), c.requires.0.few), G.sheaf.room.known)
 
 pub loop-rest-smaller-then-crowded : goal.loop-rest-smaller-then-crowded
@@ -156,7 +140,7 @@ loop-rest-preserved-then-crowded c =
     let j = lowest-item c.loop-rest.invariant.small c.loop-rest-test.true c.lowest-j.ensures in
     let found = c.lowest-j.ensures.found j in
     let room : c.loop-rest.lines < 32 = omega (arith, c.loop-rest.invariant.behind _ found, c.requires.0.inside _ (c.loop-rest.invariant.inside _ found), c.requires.0.few) in
-    going_end (gathers-next c.loop-rest.invariant.gathers c.add.ensures c.in-Yes.is _ (c.loop-rest.invariant.inside _ found) room (line-is _ _ c.line.ensures c.in-Found.is))
+    going_end (gathers-next c.loop-rest.invariant.gathers c.add.ensures c.in-Yes.is _ (c.loop-rest.invariant.inside _ found) room (line-is _ _ c.in-Some.ensures))
 
 pub loop-rest-smaller : goal.loop-rest-smaller
 loop-rest-smaller c =
@@ -169,7 +153,7 @@ loop-rest-preserved c =
     let found = c.lowest-j.ensures.found j in
     let room : c.loop-rest.lines < 32 = omega (arith, c.loop-rest.invariant.behind _ found, c.requires.0.inside _ (c.loop-rest.invariant.inside _ found), c.requires.0.few) in
     rw (c.less-rest.ensures, c.item.ensures)
-    (going_on c.args.wanted c.loop-rest.invariant.small c.loop-rest.invariant.inside c.loop-rest.invariant.behind c.lowest-j.ensures j (gathers-next c.loop-rest.invariant.gathers c.add.ensures c.in-Yes.is _ (c.loop-rest.invariant.inside _ found) room (line-is _ _ c.line.ensures c.in-Found.is)))
+    (going_on c.args.wanted c.loop-rest.invariant.small c.loop-rest.invariant.inside c.loop-rest.invariant.behind c.lowest-j.ensures j (gathers-next c.loop-rest.invariant.gathers c.add.ensures c.in-Yes.is _ (c.loop-rest.invariant.inside _ found) room (line-is _ _ c.in-Some.ensures)))
 
 pub shape_of-nodes : goal.shape_of-nodes
 shape_of-nodes c =
