@@ -34,10 +34,7 @@ module _ (page : Bytes) (k : ℕ) where
       let z : ◌≡◌ {A = ℕ} 0 1 = cc (at_some (lines page) k [] h, missing s) in
       absurd (omega arith)
 
--- Counting lines: none, one more, all, too many.
-pub counting-none : (page : Bytes) → Counting page 0 0
-counting-none page = record { sofar = omega arith; few = omega arith }
-
+-- Counting lines: one more, all.
 pub counting-next : {page : Bytes} {at n e : ℕ} → Counting page at n → n ≤ 32 → Sought 10 page at e → at < length page → Counting page (e + 1) (n + 1)
 counting-next {page} {at} {n} {e} c few f h = record { sofar = omega (arith, c.sofar, ap length (next-line f h)); few = omega arith }
 
@@ -47,6 +44,3 @@ counting-all {page} {at} {n} c h =
     let none_left : length (lines (drop at page)) ≡ 0 = rw (drop_of_length-le page {i = at} h) in
     let all : n ≡ length (lines page) = omega (arith, c.sofar) in
     record { few = λ q. all; many = λ q. omega arith }
-
-pub counting-enough : {page : Bytes} {at n : ℕ} → Counting page at n → 32 < n → Counted (length (lines page)) n
-counting-enough c h = record { few = λ q. absurd (omega arith); many = λ q. omega (arith, c.sofar) }

@@ -2,15 +2,14 @@
 -- Assumes nothing.
 use mathlib.Core.Path.{◌≡◌, refl, sym, ap, ◌∙◌}
 use mathlib.Core.Bool.{Bool, true, false}
-use mathlib.Core.List.{[], ◌∷◌, ◌++◌}
+use mathlib.Core.List.{[], ◌∷◌}
 use mathlib.Core.Option.{Option, none, some}
-use Prim.Native.Nat.{ℕ, suc, ◌+◌, ◌-◌, ◌*◌, ◌≤◌, ◌<◌}
+use Prim.Native.Nat.{ℕ, suc, ◌+◌, ◌≤◌, ◌<◌}
 use native.Mathlib.Numerals.{add-one}
 use native.Mathlib.Omega.{arith}
 use lib.Dec.{eqb}
-use lib.ListN.{length, get_or, take, drop}
-use lib.Seq.{take-length, take-take, take_all, take-append-le, take_at, drop_at, length-take-le}
-use borrow.Rule.Slice.PartMut.{mid_of, post_of, put_mid, take_put, same_len_mid}
+use lib.ListN.{length, get_or, take}
+use lib.Seq.{take-length, take-take, take_all, length-take-le}
 use Rattle.texts.specs.Scan.{slice, index_of, index_after}
 use Rattle.answers.specs.Answer.{refused, lent}
 use Rattle.answers.specs.Written.{Answers}
@@ -18,8 +17,6 @@ use Rattle.answers.specs.declared.Refusal.{Refusal}
 use Rattle.answers.specs.declared.Written.{Written}
 use Rattle.answers.specs.declared.Written.TheVariants.{Refused, Wrote}
 use Rattle.answers.proofs.AnswerLaws.{written_of, answered-case, lent-refused}
-use Rattle.texts.specs.Code.Overwritten.{Overwritten}
-use Rattle.texts.proofs.OverwrittenLaws.{written-length}
 use Rattle.syntax.specs.Bytes.{Bytes, same}
 use Rattle.syntax.proofs.BytesLaws.{not_same}
 use Rattle.rules.specs.Accept.{refusal}
@@ -30,9 +27,9 @@ use Rattle.formulas.proofs.RebuildLaws.{reduced-wrote, wrote-reduced, accepted-f
 use Rattle.formulas.proofs.WrittenLaws.{answers-wrote, answers-refused}
 use Rattle.formulas.specs.Quantifiers.{colon, up_to, quantifier_part}
 use Rattle.pages.specs.Page.{part_of}
-use Rattle.pages.specs.Code.Parts.{sheet_room, slot_room, line_at, EndsPart, PartSays, no_part, some_part, Slotted, SlotSays, no_slot, some_slot, Held}
-use Rattle.pages.specs.declared.parts.Part.{Part}
-use Rattle.pages.specs.declared.parts.Part.TheVariants.{Refused as NoPart, Ends}
+use Rattle.pages.specs.Code.Parts.{sheet_room, line_at, EndsPart, PartSays, no_part, some_part, Slotted, SlotSays, no_slot, some_slot, Held}
+use Rattle.std.specs.declared.result.Result.{Result}
+use Rattle.std.specs.declared.result.Result.TheVariants.{Ok, Err}
 
 through-take : (f : Bytes) → quantifier_part f ≡ take (suc (index_of colon f)) f
 unfolding quantifier_part index_of
@@ -62,7 +59,7 @@ unfolding reduced
 refused-reduced w d h = rw (h, reduced)
 
 module _ {w old new : Bytes} {r : Written} (room : sheet_room ≤ length old) (a : Answers (lent (length old) (reduced w)) old new r) where
-  pub part-refused : {e : Refusal} → r ≡ Refused e → PartSays w new (NoPart e)
+  pub part-refused : {e : Refusal} → r ≡ Refused e → PartSays w new (Err e)
   part-refused {e} q = no_part (go (refusal w) refl)
     where
       go : (o : Option Refusal) → refusal w ≡ o → refusal w ≡ some e
@@ -74,7 +71,7 @@ module _ {w old new : Bytes} {r : Written} (room : sheet_room ≤ length old) (a
           let same : d ≡ e = cc in
           h ∙ ap some same
 
-  pub part-found : {n m : ℕ} → r ≡ Wrote n → EndsPart (take n new) m → PartSays w new (Ends m)
+  pub part-found : {n m : ℕ} → r ≡ Wrote n → EndsPart (take n new) m → PartSays w new (Ok m)
   part-found {n} {m} q p =
       let k = answers-wrote (reduced w) (length old) a q in
       let f = reduced-wrote w k.text k.is in
@@ -95,56 +92,25 @@ pub record OnSheet (w new : Bytes) (n : ℕ) : Type 0 where
   pub short : n ≤ sheet_room
   pub text : take n new ≡ part_of w
 
-pub says-ends : {w new : Bytes} {r : Part} {n : ℕ} → PartSays w new r → r ≡ Ends n → OnSheet w new n
+pub says-ends : {w new : Bytes} {r : Result ℕ Refusal} {n : ℕ} → PartSays w new r → r ≡ Ok n → OnSheet w new n
 says-ends (no_part e) q = let z : ◌≡◌ {A = ℕ} 0 1 = cc in absurd (omega arith)
 says-ends {n = n} (some_part {n = m} e l t) q = let s : m ≡ n = cc in record { ok = e; short = rw (← s) l; text = rw (← s) t }
 
-pub says-refused : {w new : Bytes} {r : Part} {e : Refusal} → PartSays w new r → r ≡ NoPart e → refusal w ≡ some e
+pub says-refused : {w new : Bytes} {r : Result ℕ Refusal} {e : Refusal} → PartSays w new r → r ≡ Err e → refusal w ≡ some e
 says-refused {e = e} (no_part {e = d} h) q = let s : d ≡ e = cc in h ∙ ap some s
 says-refused (some_part e l t) q = let z : ◌≡◌ {A = ℕ} 0 1 = cc in absurd (omega arith)
 
-pub says-accepted : {w new : Bytes} {r : Part} {e : Refusal} {A : Type 0} → PartSays w new r → r ≡ NoPart e → refusal w ≡ none → A
-says-accepted x q ok = let z : ◌≡◌ {A = ℕ} 0 1 = cc (says-refused x q, ok) in absurd (omega arith)
-
--- A part in slot k: one that is short is put there, a longer one is not.
-pub hold-long : (p slots : Bytes) (k : ℕ) → slot_room < length p → Slotted p slots slots k
-hold-long p slots k h = record { text = λ l. absurd (omega arith); kept = refl; same = refl }
-
-pub hold-short : {p slots tail : Bytes} {k m : ℕ} → k * slot_room ≤ length slots → Overwritten p (mid_of (k * slot_room) (length slots - k * slot_room) slots) tail m
-    → Slotted p slots (put_mid (k * slot_room) (length slots - k * slot_room) slots tail) k
-hold-short {p} {slots} {tail} {k} start put =
-    let behind : drop (k * slot_room) (put_mid (k * slot_room) (length slots - k * slot_room) slots tail) ≡ tail ++ post_of (k * slot_room) (length slots - k * slot_room) slots =
-    drop_at (take (k * slot_room) slots) _ (k * slot_room) (length-take-le (k * slot_room) slots start) in
-    let wide : length p ≤ length tail = omega (arith, written-length put, put.fits) in
-    record {
-      text = λ l. rw behind (take-append-le (length p) tail _ wide ∙ rw put.bytes (take_at p _ (length p) refl));
-      kept = take_put (k * slot_room) (length slots - k * slot_room) slots tail start;
-      same = same_len_mid (k * slot_room) (length slots - k * slot_room) slots tail (written-length put);
-    }
-
 -- What stands on the sheet is put in the slot.
-pub sheet-refused : {w sheet old new : Bytes} {k : ℕ} {r : Part} {e : Refusal} → PartSays w sheet r → r ≡ NoPart e → SlotSays w old new k (NoPart e)
+pub sheet-refused : {w sheet old new : Bytes} {k : ℕ} {r : Result ℕ Refusal} {e : Refusal} → PartSays w sheet r → r ≡ Err e → SlotSays w old new k (Err e)
 sheet-refused x q = no_slot (says-refused x q)
 
-pub sheet-found : {w sheet old new : Bytes} {k n : ℕ} {r : Part} → PartSays w sheet r → r ≡ Ends n → length sheet ≡ sheet_room → Slotted (take n sheet) old new k → SlotSays w old new k (Ends n)
+pub sheet-found : {w sheet old new : Bytes} {k n : ℕ} {r : Result ℕ Refusal} → PartSays w sheet r → r ≡ Ok n → length sheet ≡ sheet_room → Slotted (take n sheet) old new k → SlotSays w old new k (Ok n)
 sheet-found {w} {sheet} {n = n} x q full h =
     let s = says-ends x q in
     let long : length (take n sheet) ≡ n = length-take-le n sheet (omega (arith, s.short)) in
     some_slot {n = n} s.ok (sym long ∙ ap length s.text) (rw s.text at h)
 
--- Two lines' parts, as they stand on two sheets.
-pub again-same : {v w a b : Bytes} {p q : Part} {n m : ℕ} {r : Bool} → PartSays v a p → p ≡ Ends n → PartSays w b q → q ≡ Ends m → r ≡ same (take n a) (take m b) → r ≡ same (part_of v) (part_of w)
-again-same x e y f h = h ∙ rw ((says-ends x e).text, (says-ends y f).text)
-
 -- Two lines' parts, as they are held.
 module _ {page slots lens : Bytes} {n i j : ℕ} (h : Held page slots lens n) (a : i < n) (b : j < n) where
   pub held-apart : (get_or lens i 0 ≡ get_or lens j 0 → ⊥) → false ≡ same (part_of (line_at page i)) (part_of (line_at page j))
   held-apart ne = sym (not_same (part_of (line_at page i)) (part_of (line_at page j)) (λ e. ne (h.size i a ∙ ap length e ∙ sym (h.size j b))))
-
-  pub held_same : {r : Bool} → get_or lens i 0 ≡ get_or lens j 0 → get_or lens i 0 ≤ slot_room
-      → r ≡ same (take (i * slot_room + get_or lens i 0 - i * slot_room) (drop (i * slot_room) slots)) (take (j * slot_room + get_or lens i 0 - j * slot_room) (drop (j * slot_room) slots))
-      → r ≡ same (part_of (line_at page i)) (part_of (line_at page j))
-  held_same e short is =
-      let p : i * slot_room + get_or lens i 0 - i * slot_room ≡ get_or lens i 0 = omega arith in
-      let q : j * slot_room + get_or lens i 0 - j * slot_room ≡ get_or lens j 0 = omega arith in
-      is ∙ rw (p, q, h.text i a short, h.text j b (omega arith))

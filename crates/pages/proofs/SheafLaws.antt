@@ -4,9 +4,8 @@ use mathlib.Core.Path.{◌≡◌, refl, sym, ap, ◌∙◌}
 use mathlib.Core.Bool.{Bool, true, false, ◌||◌, true≢false, or-false}
 use mathlib.Core.List.{List}
 use mathlib.Core.Option.{some}
-use Prim.Native.Nat.{ℕ, ◌+◌, ◌*◌, ◌^◌, ◌≤◌, ◌<◌}
+use Prim.Native.Nat.{ℕ, ◌+◌, ◌^◌, ◌≤◌, ◌<◌}
 use native.Mathlib.Decide.{ℕ_discrete}
-use native.Mathlib.Nat.{mul-le-mul}
 use native.Mathlib.Omega.{arith}
 use lib.Dec.{lit<}
 use lib.ListN.{length, get_or, set, length-set}
@@ -20,12 +19,8 @@ use Rattle.syntax.specs.Rule.{Rule, rule_of}
 use Rattle.verdicts.specs.Verdict.{full_count, breaking_count}
 use Rattle.verdicts.specs.Code.Judging.{TablesAt, KnownCounts}
 use Rattle.pages.specs.Page.{page_limit}
-use Rattle.pages.specs.Code.Parts.{line_at, Ready}
-use Rattle.pages.specs.Code.Sheaves.{LinesOf, Wanted, Sizes, Spread, Spreads, KnownLines, Grows}
-
--- So many slots are asked for at most.
-pub slots-few : (lines count : ℕ) → lines ≤ page_limit + 1 → count ≤ 8 → lines * count ≤ 264
-slots-few lines count p q = mul-le-mul p q
+use Rattle.pages.specs.Code.Parts.{line_at}
+use Rattle.pages.specs.Code.Sheaves.{LinesOf, Sizes, Spread, Spreads, KnownLines, Grows}
 
 -- ---- words of lines
 
@@ -93,14 +88,6 @@ module _ {members counts fulls breakings fulls' breakings' : List ℕ} {many ful
           (get_or-set_other fulls' at j full 0 ne ∙ s.0, get_or-set_other breakings' at j (get_or counts l 0) 0 ne ∙ s.1)
 
 -- ---- lines that have their counts
-
-pub wanted-lines : {page : Bytes} {groups : List ℕ} {many w : ℕ} → Ready page groups many → LinesOf w many → Wanted page w
-wanted-lines ready L = record {
-  small = L.small;
-  few = omega (arith, ready.count, ready.few);
-  inside = λ j h. omega (arith, ready.count, L.inside j h);
-  accepted = λ j h. ready.accepted j (L.inside j h);
-}
 
 pub known-none : (ts : List ℕ) (page : Bytes) (fulls breakings : List ℕ) → length fulls ≡ page_limit → length breakings ≡ page_limit → KnownLines ts page fulls breakings 0
 known-none ts page fulls breakings f b = record {

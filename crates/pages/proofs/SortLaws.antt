@@ -1,6 +1,6 @@
 -- Laws of sorting a page's lines by their quantifier parts: the first line with a part, the lines so far, the walks.
 -- Assumes nothing.
-use mathlib.Core.Path.{◌≡◌, refl, sym, ap, ◌∙◌}
+use mathlib.Core.Path.{◌≡◌, refl, sym, ap, subst, ◌∙◌}
 use mathlib.Core.Bool.{Bool, true, false, cond, ◌||◌}
 use mathlib.Core.List.{List, [], ◌∷◌, ◌++◌}
 use mathlib.Core.Option.{none, some}
@@ -12,6 +12,11 @@ use lib.Dec.{eqb, ltb}
 use lib.ListN.{length, get_or, take, drop, set, length-set, drop_of_length-le}
 use lib.Seq.{take-take, take-suc, drop-cons, get_or-set_same, get_or-set_other}
 use borrow.Author.Tests.{ltb-true, ltb-false, lt-ltb, le-ltb, eq-eqb, ne_eqb}
+use Rattle.std.specs.declared.option.Option.{Option}
+use Rattle.std.specs.declared.option.Option.TheVariants.{Some, None}
+use Rattle.std.specs.Option.{MatchOption, unwrap_or}
+use Rattle.std.specs.Int.{from_bool}
+use Rattle.std.specs.Result.{MatchResult, IsErrAnd}
 use Rattle.answers.specs.declared.Refusal.{Refusal}
 use Rattle.syntax.specs.Bytes.{Bytes, same}
 use Rattle.syntax.proofs.BytesLaws.{same-own}
@@ -20,10 +25,9 @@ use Rattle.rules.specs.Accept.{refusal}
 use Rattle.pages.specs.Page.{PageAnswer, refused_at, past_lines, part_of, parts_of, among, different_from, walks_of}
 use Rattle.pages.specs.Code.Parts.{slot_room, line_at, first_with, Slotted, SlotSays, no_slot, some_slot, Held, Seeking, Wide, Ready, Sorting}
 use Rattle.pages.specs.Code.Parts.{SortSays, line_refused, all_sorted}
-use Rattle.pages.specs.declared.parts.Part.{Part}
-use Rattle.pages.specs.declared.parts.Part.TheVariants.{Refused as NoPart, Ends}
-use Rattle.pages.specs.declared.parts.Sorted.{Sorted}
-use Rattle.pages.specs.declared.parts.Sorted.TheVariants.{Refused as Unsorted, Walks}
+use Rattle.pages.specs.declared.parts.RefusedLine.{RefusedLine}
+use Rattle.std.specs.declared.result.Result.{Result}
+use Rattle.std.specs.declared.result.Result.TheVariants.{Ok, Err}
 
 -- The parts are as many as the lines, and each is its line's.
 pub length-parts : (ws : List Bytes) → length (parts_of ws) ≡ length ws
@@ -42,25 +46,40 @@ first-from : (p : Bytes) (ps : List Bytes) (j : ℕ) → j < length ps → first
 unfolding first_with
 first-from p ps j h = rw (drop-cons ps j [] h)
 
-pub seek-first : (page : Bytes) (k : ℕ) → Seeking page k 0
-seek-first page k = record { sofar = omega arith }
-
 module _ {page : Bytes} {k j : ℕ} (s : Seeking page k j) (h : j < length (lines page)) {r : Bool} (is : r ≡ same (part_of (line_at page k)) (part_of (line_at page j))) where
   from-here : first_with (part_of (line_at page k)) (drop j (parts_of (lines page))) ≡ cond r 0 (suc (first_with (part_of (line_at page k)) (drop (suc j) (parts_of (lines page)))))
   from-here = first-from (part_of (line_at page k)) (parts_of (lines page)) j (omega (arith, length-parts (lines page))) ∙ rw (parts_at (lines page) j h, is)
 
-  pub seek_hit : r ≡ true → j ≡ first_with (part_of (line_at page k)) (parts_of (lines page))
+  seek_hit : r ≡ true → j ≡ first_with (part_of (line_at page k)) (parts_of (lines page))
   seek_hit e =
       let here : first_with (part_of (line_at page k)) (drop j (parts_of (lines page))) ≡ 0 = from-here ∙ rw e in
       omega (arith, s.sofar)
 
-  pub seek-next : r ≡ false → Seeking page k (j + 1)
+  seek-next : r ≡ false → Seeking page k (j + 1)
   seek-next e =
       let on : first_with (part_of (line_at page k)) (drop j (parts_of (lines page))) ≡ suc (first_with (part_of (line_at page k)) (drop (j + 1) (parts_of (lines page)))) = from-here ∙ rw (e, add-one) in
       record { sofar = omega (arith, s.sofar) }
 
-pub seek-self : {page : Bytes} {k : ℕ} → Seeking page k k → k < length (lines page) → k ≡ first_with (part_of (line_at page k)) (parts_of (lines page))
+seek-self : {page : Bytes} {k : ℕ} → Seeking page k k → k < length (lines page) → k ≡ first_with (part_of (line_at page k)) (parts_of (lines page))
 seek-self {page} {k} s h = seek_hit s h (sym (same-own (part_of (line_at page k)))) refl
+
+-- No line before j has the part of line k.
+abbrev pub NoneBefore : Bytes → ℕ → ℕ → Type 0
+NoneBefore page k j = (i : ℕ) → i < j → false ≡ same (part_of (line_at page k)) (part_of (line_at page i))
+
+-- The first line before k that has its part, if there is one.
+abbrev pub FoundFirst : Bytes → ℕ → Option ℕ → Type 0
+FoundFirst page k o = MatchOption o (NoneBefore page k k) (λ j. (j < k) × (true ≡ same (part_of (line_at page k)) (part_of (line_at page j))) × NoneBefore page k j)
+
+seek-to : (page : Bytes) (k j : ℕ) → j ≤ length (lines page) → NoneBefore page k j → Seeking page k j
+seek-to page k zero h f = record { sofar = omega arith }
+seek-to page k (suc j) h f =
+    let more : j + 1 ≡ suc j = omega arith in
+    subst (λ (i : ℕ). Seeking page k i) more (seek-next (seek-to page k j (omega arith) (λ i l. f i (omega arith))) (omega arith) (f j (omega arith)) refl)
+
+pub found-first : (page : Bytes) (k : ℕ) → k < length (lines page) → (o : Option ℕ) → FoundFirst page k o → unwrap_or o k ≡ first_with (part_of (line_at page k)) (parts_of (lines page))
+found-first page k h None f = seek-self (seek-to page k k (omega arith) f) h
+found-first page k h (Some j) f = seek_hit (seek-to page k j (omega (arith, f.0)) f.2) (omega (arith, f.0)) f.1 refl
 
 -- A text is among those before a place exactly where the first that is equal stands before it.
 first-suc : (m k : ℕ) → ltb (suc m) (suc k) ≡ ltb m k
@@ -124,11 +143,11 @@ pub record InSlot (w old new : Bytes) (k n : ℕ) : Type 0 where
   pub size : n ≡ length (part_of w)
   pub slot : Slotted (part_of w) old new k
 
-pub slot-ends : {w old new : Bytes} {k n : ℕ} {r : Part} → SlotSays w old new k r → r ≡ Ends n → InSlot w old new k n
+pub slot-ends : {w old new : Bytes} {k n : ℕ} {r : Result ℕ Refusal} → SlotSays w old new k r → r ≡ Ok n → InSlot w old new k n
 slot-ends (no_slot e) q = let z : ◌≡◌ {A = ℕ} 0 1 = cc in absurd (omega arith)
 slot-ends {n = n} (some_slot {n = m} e l t) q = let s : m ≡ n = cc in record { ok = e; size = sym s ∙ l; slot = t }
 
-slot-refused : {w old new : Bytes} {k : ℕ} {r : Part} {e : Refusal} → SlotSays w old new k r → r ≡ NoPart e → refusal w ≡ some e
+slot-refused : {w old new : Bytes} {k : ℕ} {r : Result ℕ Refusal} {e : Refusal} → SlotSays w old new k r → r ≡ Err e → refusal w ≡ some e
 slot-refused {e = e} (no_slot {e = d} h) q = let s : d ≡ e = cc in h ∙ ap some s
 slot-refused (some_slot e l t) q = let z : ◌≡◌ {A = ℕ} 0 1 = cc in absurd (omega arith)
 
@@ -157,6 +176,11 @@ held_next {page} {slots} {more} {lens} {k} {n} h there room x = record {
         let before : j < k = omega (arith, ne) in
         rw (get_or-set_other lens k j n 0 ne) (λ short. stayed (j * slot_room) (get_or lens j 0) (k * slot_room) more slots x.slot.kept (omega arith) ∙ h.text j before short)
 
+-- One walk more, as a number.
+pub one-if : (b : Bool) → from_bool b ≡ cond b 1 0
+one-if true = refl
+one-if false = refl
+
 pub one_more : {new : ℕ} (first k : ℕ) → new ≡ cond (eqb first k) 1 0 → new ≤ 1
 one_more first k e = rw e (go (eqb first k))
   where
@@ -164,22 +188,13 @@ one_more first k e = rw e (go (eqb first k))
     go true = omega arith
     go false = omega arith
 
--- Sorting: no line, one more, a refused one, all.
-pub sorting-none : (page slots lens groups : List ℕ) → Sorting page slots lens groups 0 0
-sorting-none page slots lens groups = record {
-  held = record { within = omega arith; accepted = λ j l. absurd (omega arith); size = λ j l. absurd (omega arith); text = λ j l. absurd (omega arith) };
-  grouped = λ j l. absurd (omega arith);
-  past = λ a. refl;
-  few = omega arith;
-  counted = omega arith;
-}
-
-module _ {page slots more lens groups : List ℕ} {walks k : ℕ} {r : Part} (s : Sorting page slots lens groups walks k) (h : k < length (lines page))
+-- Sorting: one more, a refused one, all.
+module _ {page slots more lens groups : List ℕ} {walks k : ℕ} {r : Result ℕ Refusal} (s : Sorting page slots lens groups walks k) (h : k < length (lines page))
     (x : SlotSays (line_at page k) slots more k r) where
-  pub sorting-refused : {e : Refusal} → r ≡ NoPart e → (a : PageAnswer) → past_lines 1 (lines page) a ≡ refused_at e (k + 1)
+  pub sorting-refused : {e : Refusal} → r ≡ Err e → (a : PageAnswer) → past_lines 1 (lines page) a ≡ refused_at e (k + 1)
   sorting-refused q a = sym (s.past a) ∙ past-refused (lines page) k h a (slot-refused x q)
 
-  module _ {n : ℕ} (q : r ≡ Ends n) (room : k < length lens) where
+  module _ {n : ℕ} (q : r ≡ Ok n) (room : k < length lens) where
     pub sorting-held : Held page more (set lens k n) (k + 1)
     sorting-held = held_next s.held h room (slot-ends x q)
 
@@ -200,7 +215,7 @@ module _ {page slots more lens groups : List ℕ} {walks k : ℕ} {r : Part} (s 
         grouped j l (no ne) = rw (get_or-set_other groups k j first 0 ne) (s.grouped j (omega (arith, ne)))
 
 pub sorting-all : {page slots lens groups : List ℕ} {walks many k : ℕ} → Sorting page slots lens groups walks k → length (lines page) ≡ many → many ≤ 32 → many ≤ k
-    → SortSays page groups many (Walks walks)
+    → SortSays page groups many (Ok walks)
 unfolding different_from
 sorting-all {page} {slots} {lens} {groups} {walks} {many} {k} s count few all =
     let end : k ≡ many = omega (arith, s.held.within) in
@@ -230,12 +245,19 @@ wide-next {lens = lens} {groups = groups} k n j v w e = record {
   wide_groups = length-set groups j v ∙ w.wide_groups;
 }
 
+-- What a line's slot said, where a refusal is given its place.
+module _ {E F : Type 0} (P : E → F → Type 0) where
+  pub mapped-ok : (r : Result ℕ E) {m : Result ℕ F} {n : ℕ} → MatchResult r (λ x. m ≡ Ok x) (λ e. IsErrAnd m (P e)) → m ≡ Ok n → r ≡ Ok n
+  mapped-ok (Ok x) {n = n} h q = let e : x ≡ n = cc in ap (λ (i : ℕ). Ok i) e
+  mapped-ok (Err e) h q = absurd (rw q at h)
+
+  pub mapped-err : (r : Result ℕ E) {m : Result ℕ F} {l : F} → MatchResult r (λ x. m ≡ Ok x) (λ e. IsErrAnd m (P e)) → m ≡ Err l → (e : E) × (r ≡ Err e) × P e l
+  mapped-err (Ok x) h q = let z : ◌≡◌ {A = ℕ} 0 1 = cc in absurd (omega arith)
+  mapped-err (Err e) h q = (e, refl, rw q at h)
+
 -- What sorting said.
-pub was-refused : {page groups : List ℕ} {many p : ℕ} {s : Sorted} {e : Refusal} → SortSays page groups many s → s ≡ Unsorted e p → (a : PageAnswer) → past_lines 1 (lines page) a ≡ refused_at e p
-was-refused {p = p} {e = e} (line_refused {e = d} {p = q} h l) is a =
-    let x : d ≡ e = cc in
-    let y : q ≡ p = cc in
-    rw (← x, ← y) (h a)
+pub was-refused : {page groups : List ℕ} {many : ℕ} {s : Result ℕ RefusedLine} {l : RefusedLine} → SortSays page groups many s → s ≡ Err l → (a : PageAnswer) → past_lines 1 (lines page) a ≡ refused_at l.refusal l.position
+was-refused {l = l} (line_refused {l = m} h w) is a = let x : m ≡ l = cc in rw (← x) (h a)
 was-refused (all_sorted r e) is a = let z : ◌≡◌ {A = ℕ} 0 1 = cc in absurd (omega arith)
 
 pub record Grouped (page groups : List ℕ) (many n : ℕ) : Type 0 where
@@ -243,7 +265,7 @@ pub record Grouped (page groups : List ℕ) (many n : ℕ) : Type 0 where
   pub walks : n ≡ walks_of (lines page)
   pub few : n ≤ 32
 
-pub was-sorted : {page groups : List ℕ} {many n : ℕ} {s : Sorted} → SortSays page groups many s → s ≡ Walks n → Grouped page groups many n
+pub was-sorted : {page groups : List ℕ} {many n : ℕ} {s : Result ℕ RefusedLine} → SortSays page groups many s → s ≡ Ok n → Grouped page groups many n
 was-sorted (line_refused h l) is = let z : ◌≡◌ {A = ℕ} 0 1 = cc in absurd (omega arith)
 was-sorted {page = page} {n = n} (all_sorted {n = m} r e) is =
     let x : n ≡ walks_of (lines page) = cc in

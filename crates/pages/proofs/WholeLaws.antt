@@ -24,8 +24,8 @@ use Rattle.verdicts.specs.Verdict.{full_count, breaking_count}
 use Rattle.verdicts.specs.Code.Judging.{TablesAt, Loaded}
 use Rattle.verdicts.proofs.HeldLaws.{held-rule}
 use Rattle.verdicts.proofs.LoadedLaws.{loaded-whole}
-use Rattle.sharing.specs.declared.together.Shared.{Shared}
-use Rattle.sharing.specs.declared.together.Shared.TheVariants.{Yes}
+use Rattle.std.specs.declared.option.Option.{Option}
+use Rattle.std.specs.declared.option.Option.TheVariants.{Some}
 use Rattle.sharing.specs.Code.Part.{Part}
 use Rattle.sharing.specs.Code.Gathering.{Bound}
 use Rattle.sharing.specs.Code.Laying.{Starts}
@@ -86,8 +86,8 @@ module _ {p : Parsed} {starts members : List ℕ} {many : ℕ} (W : Whole p star
       (omega (arith, q.many), rw (← e) q.fits)
 
 -- What counting together says.
-pub as-counted : {ts : List ℕ} {p : Parsed} {starts : List ℕ} {many : ℕ} {breaking : List ℕ} {r : Shared} {full : ℕ} → CountsTogether ts p starts many breaking r
-    → r ≡ Yes full → (length breaking ≡ page_limit) × CountsAll ts p starts many breaking full
+pub as-counted : {ts : List ℕ} {p : Parsed} {starts : List ℕ} {many : ℕ} {breaking : List ℕ} {r : Option ℕ} {full : ℕ} → CountsTogether ts p starts many breaking r
+    → r ≡ Some full → (length breaking ≡ page_limit) × CountsAll ts p starts many breaking full
 as-counted no q = let z : ◌≡◌ {A = ℕ} 0 1 = cc in absurd (omega arith)
 as-counted {ts = ts} {p = p} {starts = starts} {many = many} {breaking = breaking} {full = full} (yes {full = f} l C) q =
     let e : f ≡ full = cc in

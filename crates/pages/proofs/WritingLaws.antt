@@ -2,13 +2,13 @@
 -- Assumes nothing.
 use mathlib.Core.Path.{◌≡◌, refl, sym, ap, ◌∙◌}
 use mathlib.Core.Bool.{Bool, true, false, cond, ◌||◌}
-use mathlib.Core.List.{List, [], ◌∷◌, ◌++◌, append_assoc, append-nil}
+use mathlib.Core.List.{List, [], ◌∷◌, ◌++◌, append_assoc}
 use mathlib.Core.Option.{some}
 use Prim.Native.Nat.{ℕ, zero, suc, ◌+◌, ◌-◌, ◌*◌, ◌≤◌, ◌<◌}
 use native.Mathlib.Numerals.{add-one}
 use native.Mathlib.Omega.{arith}
 use lib.Dec.{eqb, ltb}
-use lib.ListN.{length, get_or, get_elem?, take, drop, set, length-drop, drop_of_length-le}
+use lib.ListN.{length, get_or, get_elem?, take, drop, set, drop_of_length-le}
 use lib.Seq.{take_at, take-append-add, drop_at, length-take-le}
 use borrow.Rule.Slice.PartMut.{mid_of, post_of, put_mid}
 use Rattle.tables.specs.Bytes.{lowest_first}
@@ -22,10 +22,6 @@ use Rattle.verdicts.proofs.SheetLaws.{length-written}
 use Rattle.pages.specs.Page.{some_line, page_outcome, full_sum, breaking_sum, line_bytes, page_bytes}
 use Rattle.pages.specs.Code.Tallies.{tally_at, Rows, worse_of, Summed, head_room, head_bytes}
 use Rattle.pages.specs.declared.writing.Sums.{Sums}
-
--- Bytes written over as many are all there is.
-pub all-over : {w old new : List ℕ} {n : ℕ} → Overwritten w old new n → length old ≤ length w → new ≡ w
-all-over {w} {old} o h = o.bytes ∙ rw (drop_of_length-le old {i = length w} h, append-nil w)
 
 -- The word of an accepted line is 0, 1 or 2, and the page's word is the greatest of its lines'.
 pub word_small : (full breaking : ℕ) → word_number (outcome_of full breaking) ≤ 2
@@ -120,11 +116,3 @@ page-written {vs} z {tail} {text} {m} s walks room t body head =
     let all : text ≡ head_bytes s walks ++ (tail ++ rest) = head.bytes ∙ ap (λ (l : List ℕ). head_bytes s walks ++ l) behind in
     let lines : take m (tail ++ rest) ≡ line_bytes vs = rw (body.bytes, append_assoc) (take_at (line_bytes vs) _ m (sym body.count)) in
     rw (all, take-append-add (head_bytes s walks) (tail ++ rest) m, lines, t.word, t.full, t.breaking)
-
--- A choice copied out of the choices.
-pub choice-read : (a : ℕ) (s : List ℕ) {z f : List ℕ} {n : ℕ} → Overwritten (take (a + 8 - a) (drop a s)) z f n → length z ≡ 8 → a + 8 ≤ length s → f ≡ take 8 (drop a s)
-choice-read a s {z} o e h =
-    let eight : a + 8 - a ≡ 8 = omega arith in
-    let rest : 8 ≤ length (drop a s) = omega (arith, length-drop a s) in
-    let all : length (take (a + 8 - a) (drop a s)) ≡ 8 = rw eight (length-take-le 8 (drop a s) rest) in
-    all-over o (omega arith) ∙ rw eight

@@ -10,7 +10,7 @@ ghost use Rattle.pages.specs.Code.Parts.{Counted, Ready};
 ghost use Rattle.pages.specs.Code.Tallies.{JudgesLines, JudgesPageOn, Placed};
 
 use answers::{Refusal, Written};
-use parts::Sorted;
+use parts::RefusedLine;
 use tables::Outcome as Read;
 use tables::layout::WHOLE;
 use verdicts::sheet::VERDICT;
@@ -106,13 +106,7 @@ fn on_tables(words: &[u64], page: &[u8], out: &mut [u8]) -> Answered
     ensures { JudgesPageOn words.now page.now out.old out.new result }
 {
     let many = count(page);
-    if many == 0 {
-        return Answered::Refused {
-            refusal: Refusal::Page,
-            position: 0,
-        };
-    }
-    if PAGE_LIMIT < many {
+    if many == 0 || PAGE_LIMIT < many {
         return Answered::Refused {
             refusal: Refusal::Page,
             position: 0,
@@ -120,8 +114,8 @@ fn on_tables(words: &[u64], page: &[u8], out: &mut [u8]) -> Answered
     }
     let mut groups = [0usize; PAGE_LIMIT];
     match parts::sort(page, many, &mut groups) {
-        Sorted::Refused { refusal, position } => Answered::Refused { refusal, position },
-        Sorted::Walks(walks) => judged(words, page, &groups, many, walks, out),
+        Err(RefusedLine { refusal, position }) => Answered::Refused { refusal, position },
+        Ok(walks) => judged(words, page, &groups, many, walks, out),
     }
 }
 

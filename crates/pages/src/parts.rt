@@ -17,18 +17,11 @@ const SHEET: usize = 4096;
 // A part of at most as many bytes is held. Longer ones are rare, and are found again where two of one length are compared.
 const SLOT: usize = 512;
 
-// A line's refusal, or where its quantifier part ends.
+// A refused line's refusal, and its position from 1.
 #[derive(Clone, Copy)]
-enum Part {
-    Refused(Refusal),
-    Ends(usize),
-}
-
-// The first refused line's refusal with its position, or the number of different quantifier parts.
-#[derive(Clone, Copy)]
-pub enum Sorted {
-    Refused { refusal: Refusal, position: usize },
-    Walks(usize),
+pub struct RefusedLine {
+    pub refusal: Refusal,
+    pub position: usize,
 }
 
 // How long a formula is through its first `:`.
@@ -42,25 +35,25 @@ fn part_length(formula: &[u8]) -> usize
     at + 1
 }
 
-// Writes a line's formula, and finds its quantifier part.
-fn part_of(line: &[u8], out: &mut [u8]) -> Part
+// Writes a line's formula, and finds where its quantifier part ends.
+fn part_of(line: &[u8], out: &mut [u8]) -> Result<usize, Refusal>
     requires { sheet_room ≤ length out.old }
     ensures { PartSays line.now out.new result }
 {
     match formulas::reduce(line, out) {
-        Written::Refused(e) => Part::Refused(e),
-        Written::Wrote(n) => Part::Ends(part_length(&out[..n])),
+        Written::Refused(e) => Err(e),
+        Written::Wrote(n) => Ok(part_length(&out[..n])),
     }
 }
 
 // The same for line k.
-fn part_at(page: &[u8], k: usize, out: &mut [u8]) -> Part
+fn part_at(page: &[u8], k: usize, out: &mut [u8]) -> Result<usize, Refusal>
     requires k_in_bounds { k < length (lines page.now) }
     requires sheet_room_in_bounds { sheet_room ≤ length out.old }
     ensures { PartSays (line_at page.now k) out.new result }
 {
     let Some(line) = texts::line(page, k) else {
-        return Part::Refused(Refusal::NotARule);
+        return Err(Refusal::NotARule);
     };
     part_of(&page[line], out)
 }
@@ -77,19 +70,15 @@ fn hold(part: &[u8], k: usize, slots: &mut [u8])
 }
 
 // Finds line k's part, and puts it in slot k where it is short.
-fn slot_of(page: &[u8], k: usize, slots: &mut [u8]) -> Part
+fn slot_of(page: &[u8], k: usize, slots: &mut [u8]) -> Result<usize, Refusal>
     requires k_in_bounds { k < length (lines page.now) }
     requires slot_room_in_bounds { (k + 1) * slot_room ≤ length slots.old }
     ensures { SlotSays (line_at page.now k) slots.old slots.new k result }
 {
     let mut sheet = [0u8; SHEET];
-    match part_at(page, k, &mut sheet) {
-        Part::Refused(e) => Part::Refused(e),
-        Part::Ends(n) => {
-            hold(&sheet[..n], k, slots);
-            Part::Ends(n)
-        }
-    }
+    let n = part_at(page, k, &mut sheet)?;
+    hold(&sheet[..n], k, slots);
+    Ok(n)
 }
 
 // Whether two accepted lines have the same part, found again for both.
@@ -100,10 +89,10 @@ fn alike_again(page: &[u8], i: usize, j: usize) -> bool
 {
     let mut a = [0u8; SHEET];
     let mut b = [0u8; SHEET];
-    let Part::Ends(n) = part_at(page, i, &mut a) else {
+    let Ok(n) = part_at(page, i, &mut a) else {
         return false;
     };
-    let Part::Ends(m) = part_at(page, j, &mut b) else {
+    let Ok(m) = part_at(page, j, &mut b) else {
         return false;
     };
     formulas::alike(&a[..n], &b[..m])
@@ -137,28 +126,13 @@ fn first_with(page: &[u8], slots: &[u8], lens: &[usize], k: usize) -> usize
     ensures value { result ≡ first_with (part_of (line_at page.now k)) (parts_of (lines page.now)) }
     ensures upper_bound { result ≤ k }
 {
-    let mut j = 0;
-    while j < k {
-        if alike(page, slots, lens, k, j) {
-            return j;
-        }
-        j += 1;
-    }
-    k
+    (0..k)
+        .find(|j| alike(page, slots, lens, k, *j))
+        .unwrap_or(k)
 }
 
-// One walk more, where the first line with line k's part is line k itself.
-fn new_walk(first: usize, k: usize) -> usize
-    ensures { result ≡ cond (eqb first k) 1 0 }
-{
-    if first == k {
-        return 1;
-    }
-    0
-}
-
-// Sorts the lines: `groups` gets for each line the first one with its quantifier part.
-pub fn sort(page: &[u8], many: usize, groups: &mut [usize]) -> Sorted
+// Sorts the lines: `groups` gets for each line the first one with its quantifier part. How many different parts there are, or the first refused line.
+pub fn sort(page: &[u8], many: usize, groups: &mut [usize]) -> Result<usize, RefusedLine>
     requires page_len { length (lines page.now) ≡ many }
     requires many_le_page_limit { many ≤ page_limit }
     requires groups_len { length groups.old ≡ page_limit }
@@ -167,23 +141,13 @@ pub fn sort(page: &[u8], many: usize, groups: &mut [usize]) -> Sorted
     let mut slots = [0u8; PAGE_LIMIT * SLOT];
     let mut lens = [0usize; PAGE_LIMIT];
     let mut walks = 0;
-    let mut k = 0;
-    while k < many {
-        match slot_of(page, k, &mut slots) {
-            Part::Refused(e) => {
-                return Sorted::Refused {
-                    refusal: e,
-                    position: k + 1,
-                };
-            }
-            Part::Ends(n) => {
-                lens[k] = n;
-                let first = first_with(page, &slots, &lens, k);
-                groups[k] = first;
-                walks += new_walk(first, k);
-                k += 1;
-            }
-        }
+    for k in 0..many {
+        let position = k + 1;
+        let n = slot_of(page, k, &mut slots).map_err(|refusal| RefusedLine { refusal, position })?;
+        lens[k] = n;
+        let first = first_with(page, &slots, &lens, k);
+        groups[k] = first;
+        walks += usize::from(first == k);
     }
-    Sorted::Walks(walks)
+    Ok(walks)
 }

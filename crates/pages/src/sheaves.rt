@@ -9,8 +9,7 @@ ghost use Rattle.pages.specs.Code.Sheaves.{LinesOf, Wanted, Arrays, Gathers, Siz
 
 use crate::PAGE_LIMIT;
 use rules::{CHOICES_LIMIT, Checked, Parsed};
-use sharing::gathering::{Added, ROOM, Size};
-use sharing::together::Shared;
+use sharing::gathering::{ROOM, Size};
 use sharing::{gathering, together};
 
 // So many slots are kept for lines: one for each line and variable but the first.
@@ -19,9 +18,7 @@ const SLOTS: usize = 64;
 // What was gathered: nodes, clauses, variables and lines.
 #[derive(Clone, Copy)]
 pub struct Gathered {
-    pub n: usize,
-    pub c: usize,
-    pub count: usize,
+    pub size: Size,
     pub lines: usize,
 }
 
@@ -31,14 +28,10 @@ fn alike(groups: &[usize], k: usize, many: usize, known: u64) -> u64
     ensures { LinesOf result many }
 {
     let mut found = 0;
-    let mut j = k;
-    while j < many {
-        if groups[j] == groups[k] {
-            if !words::contains(known, j) {
-                found = words::join(found, words::item(j));
-            }
+    for j in k..many {
+        if groups[j] == groups[k] && !words::contains(known, j) {
+            found = words::join(found, words::item(j));
         }
-        j += 1;
     }
     found
 }
@@ -48,13 +41,8 @@ fn due(groups: &[usize], k: usize, known: u64) -> bool
     requires { (k < page_limit) × (length groups.now ≡ page_limit) }
     ensures { Unit {0} }
 {
-    if words::contains(known, k) {
-        return false;
-    }
-    if groups[k] == k {
-        return true;
-    }
-    words::meet(known, words::item(groups[k])) != 0
+    !words::contains(known, k)
+        && (groups[k] == k || words::meet(known, words::item(groups[k])) != 0)
 }
 
 // Whether one line more would have no slots of its own.
@@ -78,37 +66,31 @@ fn gather(
     requires { Wanted page.now wanted × Arrays nodes.old list.old vars.old starts.old members.old }
     ensures { Gathers page.now wanted nodes.new list.new vars.new starts.new members.new result }
 {
-    let mut n = 0;
-    let mut c = 0;
-    let mut count = 0;
+    let mut size = Size {
+        n: 0,
+        c: 0,
+        count: 0,
+    };
     let mut lines = 0;
     let mut rest = wanted;
     while rest != 0 {
         let j = words::lowest(rest);
         rest = words::less(rest, words::item(j));
         let Some(line) = texts::line(page, j) else {
-            return Gathered { n, c, count, lines };
+            return Gathered { size, lines };
         };
-        let size = Size { n, c, count };
-        let Added::Yes {
-            n: m,
-            c: d,
-            count: k,
-        } = gathering::add(&page[line], nodes, list, vars, size)
-        else {
-            return Gathered { n, c, count, lines };
+        let Some(more) = gathering::add(&page[line], nodes, list, vars, size) else {
+            return Gathered { size, lines };
         };
-        n = m;
-        c = d;
-        count = k;
+        size = more;
         members[lines] = j;
         lines += 1;
-        starts[lines] = c as u64;
-        if crowded(lines + 1, count) {
+        starts[lines] = size.c as u64;
+        if crowded(lines + 1, size.count) {
             rest = 0;
         }
     }
-    Gathered { n, c, count, lines }
+    Gathered { size, lines }
 }
 
 // Puts the counts of gathered lines in the lines' places; which lines those are.
@@ -124,13 +106,11 @@ fn spread(
     ensures { Spreads members.now lines full counts.now fulls.old breakings.old fulls.new breakings.new result }
 {
     let mut known = 0;
-    let mut l = 0;
-    while l < lines {
+    for l in 0..lines {
         let j = members[l];
         fulls[j] = full;
         breakings[j] = counts[l];
         known = words::join(known, words::item(j));
-        l += 1;
     }
     known
 }
@@ -150,7 +130,7 @@ fn counted(
     ensures { CountsLines words.now parsed starts.now members.now lines fulls.old breakings.old fulls.new breakings.new result }
 {
     let mut counts = [0u64; PAGE_LIMIT];
-    let Shared::Yes(full) = together::counts(words, parsed, starts, lines, &mut counts) else {
+    let Some(full) = together::counts(words, parsed, starts, lines, &mut counts) else {
         return 0;
     };
     spread(members, lines, full, &counts, fulls, breakings)
@@ -182,12 +162,7 @@ fn sheaf(words: &[u64], page: &[u8], wanted: u64, fulls: &mut [u64], breakings: 
     if found.lines < 2 {
         return 0;
     }
-    let size = Size {
-        n: found.n,
-        c: found.c,
-        count: found.count,
-    };
-    let parsed = gathering::close(&nodes, &list, &vars, size);
+    let parsed = gathering::close(&nodes, &list, &vars, found.size);
     let outcome = parsed.outcome;
     let Checked::Accepted = outcome else {
         return 0;
@@ -217,14 +192,12 @@ pub fn known(
     ensures { KnownLines words.now page.now fulls.new breakings.new result }
 {
     let mut found = 0;
-    let mut k = 0;
-    while k < many {
+    for k in 0..many {
         if due(groups, k, found) {
             let wanted = alike(groups, k, many, found);
             let more = sheaf(words, page, wanted, fulls, breakings);
             found = words::join(found, more);
         }
-        k += 1;
     }
     found
 }

@@ -39,8 +39,7 @@ pub fn tallied(
     ensures { TalliesOn words.now page.now many fulls.new breakings.new firsts.new }
 {
     let known = sheaves::known(words, page, groups, many, fulls, breakings);
-    let mut k = 0;
-    while k < many {
+    for k in 0..many {
         let Some(line) = texts::line(page, k) else {
             return;
         };
@@ -51,6 +50,5 @@ pub fn tallied(
         let first = judged.first;
         let at = k * CHOICE;
         texts::put(&first, &mut firsts[at..]);
-        k += 1;
     }
 }

@@ -25,10 +25,7 @@ struct Sums {
 fn worse(a: u8, b: u8) -> u8
     ensures { result ≡ worse_of a b }
 {
-    if a < b {
-        return b;
-    }
-    a
+    a.max(b)
 }
 
 // The verdict of line k.
@@ -41,7 +38,7 @@ fn verdict_of(fulls: &[u64], breakings: &[u64], firsts: &[u8], k: usize) -> Verd
     let at = k * CHOICE;
     let end = at + CHOICE;
     let mut first = [0u8; CHOICE];
-    texts::put(&firsts[at..end], &mut first);
+    first.copy_from_slice(&firsts[at..end]);
     ruling::ruled(Tally {
         full: fulls[k],
         breaking: breakings[k],

@@ -1,13 +1,13 @@
 -- A sheaf of rules: the empty one, one with a line more, one as it was, and the rule that all make together.
 -- Assumes nothing.
 use mathlib.Core.Path.{◌≡◌, refl, ap, sym, subst, ◌∙◌}
-use mathlib.Core.Bool.{Bool, true, false}
+use mathlib.Core.Bool.{Bool, true}
 use mathlib.Core.List.{List, [], ◌∷◌, ◌++◌}
 use mathlib.Core.Logic.{⊎_elim}
 use mathlib.Core.Option.{none, some}
 use Prim.Native.Nat.{ℕ, zero, suc, ◌+◌, ◌-◌, ◌<◌, ◌≤◌}
 use native.Mathlib.Omega.{arith}
-use lib.ListN.{length, get_or, take, drop, set, length-append, length-set, length-drop, get_or-append}
+use lib.ListN.{length, get_or, take, drop, length-append, length-drop, get_or-append}
 use lib.Seq.{get_or-take, get_or-drop, get_or-append-add, get_or-append_seam, length-take-le, take-suc, ext_get_or}
 use borrow.Rule.Slice.PartMut.{mid_of, post_of, put_mid}
 use Rattle.syntax.specs.Bytes.{Bytes}
@@ -24,57 +24,32 @@ use Rattle.rules.specs.Code.Parsed.{Fitted, ChecksTree, unfit, fit}
 use Rattle.rules.specs.Code.Thing.{clause}
 use Rattle.rules.specs.Code.Variables.{VariableList, Walked}
 use Rattle.rules.proofs.AcceptLaws.{accepted-gives}
-use Rattle.rules.proofs.NodeLaws.{lt-or-le, more-at}
+use Rattle.rules.proofs.NodeLaws.{lt-or-le}
 use Rattle.values.specs.Code.Clauses.{clause_count}
-use Rattle.sharing.specs.declared.gathering.Added.{Added}
-use Rattle.sharing.specs.declared.gathering.Added.TheVariants.{No, Yes}
+use Rattle.std.specs.declared.option.Option.{Option}
+use Rattle.std.specs.declared.option.Option.TheVariants.{Some, None}
+use Rattle.sharing.specs.declared.gathering.Size.{Size}
 use Rattle.sharing.specs.Code.Part.{Part}
-use Rattle.sharing.specs.Code.Gathering.{clauses_of, all_clauses, start_of, clauses_vars, gather_room, Room, Sheaf, Adds, left, taken, Bound, Copied, Shared, Varied}
+use Rattle.sharing.specs.Code.Gathering.{clauses_of, all_clauses, start_of, clauses_vars, gather_room, Room, Sheaf, Adds, left, taken, Bound, Shared, Varied}
 use Rattle.sharing.proofs.ClausesLaws.{clauses-count, count-some, clauses-at, clauses-vars, vars-more, graft-clauses, last-at, Ended, ended}
 use Rattle.sharing.proofs.ClausesLaws.{all_more, start-next, start-within, start-last, clauses-from}
 
 -- Nodes and lists.
 
-pub copied-kept : {xs ys : List ℕ} {k : ℕ} → Copied xs ys k → Kept xs ys k
-copied-kept p = record { same = p.same }
-
-copied_take : (xs ys : List ℕ) (k : ℕ) → k ≤ length xs → k ≤ length ys → Copied xs ys k → take k ys ≡ take k xs
-copied_take xs ys k h l p =
+kept_take : (xs ys : List ℕ) (k : ℕ) → k ≤ length xs → k ≤ length ys → Kept xs ys k → take k ys ≡ take k xs
+kept_take xs ys k h l p =
     let a : length (take k xs) ≡ k = length-take-le k xs h in
     let b : length (take k ys) ≡ k = length-take-le k ys l in
     ext_get_or 0 (take k ys) (take k xs) (b ∙ sym a) (λ i m. let n : i < k = omega arith in get_or-take k ys i 0 n ∙ p.same i n ∙ sym (get_or-take k xs i 0 n))
 
--- Copying, number by number.
-pub record Copying (xs old ys : List ℕ) (i : ℕ) : Type 0 where
-  pub size : length ys ≡ length old
-  pub copied : Copied xs ys i
+-- The first k of xs were copied to the front of ys.
+module _ (xs ys : List ℕ) {part : List ℕ} {k many : ℕ} (own : k ≤ length xs) (room : length ys ≡ many) (fits : k ≤ many) (is : part ≡ take k xs) where
+  pub copied-length : length (part ++ drop k ys) ≡ many
+  copied-length = rw is (omega (arith, length-append (take k xs) (drop k ys), length-take-le k xs own, length-drop k ys))
 
-pub copying-none : (xs ys : List ℕ) → Copying xs ys ys 0
-copying-none xs ys = record { size = refl; copied = record { same = λ j h. absurd (omega arith) } }
-
-pub copying-next : {xs old ys : List ℕ} {i : ℕ} → Copying xs old ys i → i < length old → Copying xs old (set ys i (get_or xs i 0)) (i + 1)
-copying-next {xs} {old} {ys} {i} p h =
-    let l : i < length ys = omega (arith, p.size) in
-    record {
-      size = length-set ys i (get_or xs i 0) ∙ p.size;
-      copied = record { same = λ j m. more-at (λ (j x : ℕ). x ≡ get_or xs j 0) ys i (get_or xs i 0) 0 l p.copied.same refl j m };
-    }
-
--- Whether the variables are the same.
-
-module _ {vs own : List ℕ} {n k count : ℕ} where
-  pub shared-first : n ≡ 0 → Shared vs n k own count true
-  shared-first e = record { size = λ _ h. absurd (omega arith); same = λ _ h. absurd (omega arith) }
-
-  pub shared-not : Shared vs n k own count false
-  shared-not = record { size = λ e _. let z : ◌≡◌ {A = ℕ} 0 1 = cc in absurd (omega arith); same = λ e _. let z : ◌≡◌ {A = ℕ} 0 1 = cc in absurd (omega arith) }
-
-  pub shared-all : count ≡ k → k ≤ length vs → k ≤ length own → Copied vs own count → Shared vs n k own count true
-  shared-all e h l p =
-      record {
-        size = λ _ _. e;
-        same = λ _ _. ap (λ (i : ℕ). take i own) e ∙ copied_take vs own k h l (subst (λ (i : ℕ). Copied vs own i) e p);
-      }
+  pub copied-front : Kept xs (part ++ drop k ys) k
+  copied-front =
+      rw is (record { same = λ i l. get_or-append (take k xs) (drop k ys) 0 i (omega (arith, length-take-le k xs own)) ∙ get_or-take k xs i 0 l })
 
 -- A list with ys from place c on.
 module _ (list : List ℕ) (c : ℕ) (ys zs : List ℕ) (h : c ≤ length list) where
@@ -136,7 +111,7 @@ pub record Came (κ : Rule) (ns list vs : List ℕ) (n c count : ℕ) (ms list' 
   pub vars : VariableList ms m own k (rule_vars [] κ)
   pub shared : Shared vs n count own k true
   pub size' : length vs' ≡ choices_limit
-  pub copied : Copied own vs' k
+  pub copied : Kept own vs' k
 
 -- Sheaves.
 
@@ -214,7 +189,7 @@ module _ {κs : List Rule} {ns list vs : List ℕ} {n c count : ℕ} (S : Sheaf 
     pub sheaf-more : Sheaf (κs ++ (κ ∷ [])) ms list' vs' m (c + more) k
     sheaf-more =
         let some : 1 ≤ more = omega (arith, count-some κ, L.many) in
-        let s : take k vs' ≡ take k own = copied_take own vs' k (omega (arith, L.size, L.known)) (omega (arith, L.size', L.known)) L.copied in
+        let s : take k vs' ≡ take k own = kept_take own vs' k (omega (arith, L.size, L.known)) (omega (arith, L.size', L.known)) L.copied in
         let a : length (take k own) ≡ k = length-take-le k own (omega (arith, L.size, L.known)) in
         record {
           room = record { nodes = L.stays.size ∙ S.room.nodes; clauses = L.room; vars = L.size'; tidy = L.tidy; few = L.few; below = split_at (λ (i : ℕ). get_or list' i 0 < m) (λ i u. omega (arith, later.room.below i u, L.stays.more)) L.low; known = L.known };
@@ -228,17 +203,16 @@ module _ {κs : List Rule} {ns list vs : List ℕ} {n c count : ℕ} (S : Sheaf 
 
 -- What became of a line, for those that call `add`.
 
-pub as-left : {κs : List Rule} {s ns list vs : List ℕ} {n c count : ℕ} {r : Added} → Adds κs s ns list vs n c count r → r ≡ No → Sheaf κs ns list vs n c count
+pub as-left : {κs : List Rule} {s ns list vs : List ℕ} {n c count : ℕ} {r : Option Size} → Adds κs s ns list vs n c count r → r ≡ None → Sheaf κs ns list vs n c count
 as-left (left S) q = S
 as-left (taken κ e S) q = let z : ◌≡◌ {A = ℕ} 0 1 = cc in absurd (omega arith)
 
-pub as-taken : {κs : List Rule} {s ns list vs : List ℕ} {n c count : ℕ} {r : Added} {m e k : ℕ} → Adds κs s ns list vs n c count r → r ≡ Yes m e k → (κ : Rule) × (rule_of s ≡ some κ) × Sheaf (κs ++ (κ ∷ [])) ns list vs m e k
+pub as-taken : {κs : List Rule} {s ns list vs : List ℕ} {n c count : ℕ} {r : Option Size} {size : Size} → Adds κs s ns list vs n c count r → r ≡ Some size
+    → (κ : Rule) × (rule_of s ≡ some κ) × Sheaf (κs ++ (κ ∷ [])) ns list vs size.n size.c size.count
 as-taken (left S) q = let z : ◌≡◌ {A = ℕ} 0 1 = cc in absurd (omega arith)
-as-taken {m = m} {e = e} {k = k} (taken {m = m'} {e = e'} {k = k'} κ x S) q =
-    let qm : m' ≡ m = cc in
-    let qe : e' ≡ e = cc in
-    let qk : k' ≡ k = cc in
-    (κ, x, rw qm at (rw qe at (rw qk at S)))
+as-taken {size = size} (taken {size = size'} κ x S) q =
+    let e : size' ≡ size = cc in
+    (κ, x, rw e at S)
 
 -- A sheaf's clauses end where the next line's begin.
 pub sheaf-end : {κs : List Rule} {ns list vs : List ℕ} {n c count : ℕ} → Sheaf κs ns list vs n c count → start_of κs (length κs) ≡ c
@@ -288,11 +262,8 @@ line_read {list = list} {ys = ys} {c = c} R b x =
 
 module _ {s ns list vs ms list' : List ℕ} {n c count m more : ℕ} (R : Room ns list vs n c count) (x : Line s ns list n c ms list' m more) where
   -- It was left out.
-  pub line-left : (κs : List Rule) → Sheaf κs ns list vs n c count → Adds κs s ms list' vs n c count No
+  pub line-left : (κs : List Rule) → Sheaf κs ns list vs n c count → Adds κs s ms list' vs n c count None
   line-left κs S = left (sheaf-kept S (kept-later x.listing.stays) (x.listing.stays.size ∙ R.nodes) x.room x.front)
-
-  pub line-some : 1 ≤ more
-  line-some = omega (arith, x.listing.listed.size)
 
   -- The part of the list that is the line's.
   module _ (fits : c + more ≤ gather_room) where
@@ -328,7 +299,7 @@ module _ {s ns list vs ms list' : List ℕ} {n c count m more : ℕ} (R : Room n
           ⊎_elim (λ (h : choices_limit < t). absurd (omega (arith, part-vars.more h, listing-few x.listing ok))) (λ (h : t ≤ choices_limit). h) (lt-or-le choices_limit t)
 
       -- It was taken in.
-      pub line_taken : {vs' : List ℕ} {r : Bool} → m + (c + more) ≤ rule_limit → Shared vs n count own t r → r ≡ true → length vs' ≡ choices_limit → Copied own vs' t → (κs : List Rule) → Sheaf κs ns list vs n c count → Adds κs s ms list' vs' n c count (Yes m (c + more) t)
+      pub line_taken : {vs' : List ℕ} {r : Bool} → m + (c + more) ≤ rule_limit → Shared vs n count own t r → r ≡ true → length vs' ≡ choices_limit → Kept own vs' t → (κs : List Rule) → Sheaf κs ns list vs n c count → Adds κs s ms list' vs' n c count (Some (record { n = m; c = c + more; count = t }))
       line_taken few w q size'' copied κs S =
           taken (rule_in x.listing) x.listing.is
           (sheaf-more S (record {
@@ -348,6 +319,13 @@ module _ {s ns list vs ms list' : List ℕ} {n c count m more : ℕ} (R : Room n
             copied = copied;
           }))
 
+-- It has no more variables than there is room for.
+pub own-few : {s ns list vs ms ys own : List ℕ} {n c count m more t : ℕ} → Room ns list vs n c count → length (put_mid c (length list - c) list ys) ≡ length list
+    → Listing s (mk ns n) (mk ms m) ys more (rule_of s) → c + more ≤ gather_room → refusal s ≡ none
+    → Varied ms m (take (c + more - c) (drop c (put_mid c (length list - c) list ys))) (length (take (c + more - c) (drop c (put_mid c (length list - c) list ys)))) own t
+    → t ≤ choices_limit
+own-few R b x fits ok v = part-few R (line_read R b x) fits ok v
+
 -- The rule of all.
 
 pub as-fit : {ns ks vs : List ℕ} {n root : ℕ} {f : Found} {p r k : ℕ} → ChecksTree ns n root ks vs f → f ≡ Tree p r k → (p ≡ n) × (r ≡ root) × ((ρ : Rule) → HoldsRule ns root ρ → Fitted ns n ks vs k ρ)
@@ -358,9 +336,9 @@ as-fit {ns} {ks} {vs} {n} {root} {f} {p} {r} {k} (fit {count = k'} g) q =
     let e : k' ≡ k = cc in
     (a, b, λ ρ h. rw e at (g ρ h))
 
-module _ {ns list vs : List ℕ} {n c count : ℕ} (R : Room ns list vs n c count) {tree : List ℕ} (size : length tree ≡ rule_limit) (copied : Copied ns tree n) where
+module _ {ns list vs : List ℕ} {n c count : ℕ} (R : Room ns list vs n c count) {tree : List ℕ} (size : length tree ≡ rule_limit) (copied : Kept ns tree n) where
   tree-tidy : Tidy tree n
-  tree-tidy = tidy-kept (copied-kept copied) (omega (arith, R.few)) (omega arith) R.tidy
+  tree-tidy = tidy-kept copied (omega (arith, R.few)) (omega arith) R.tidy
 
   pub close-joinable : 1 ≤ c → Joinable (mk tree n) list c 0
   close-joinable l =
@@ -386,7 +364,7 @@ module _ {ns list vs : List ℕ} {n c count : ℕ} (R : Room ns list vs n c coun
           size = q;
           each = λ i u.
               let e : get_or (all_clauses κs) i all-ended.final ≡ get_or all-ended.before i all-ended.final = ap (λ (x : List Clause). get_or x i all-ended.final) all-ended.is ∙ last-at all-ended.before all-ended.final all-ended.final i (omega arith) in
-              rw e at (clause-kept ns tree n (get_or list i 0) (get_or (all_clauses κs) i all-ended.final) (copied-kept copied) (R.below i u) (S.each i all-ended.final u));
+              rw e at (clause-kept ns tree n (get_or list i 0) (get_or (all_clauses κs) i all-ended.final) copied (R.below i u) (S.each i all-ended.final u));
         }
 
     all-holds : HoldsRule tree' root all_rule
@@ -396,7 +374,7 @@ module _ {ns list vs : List ℕ} {n c count : ℕ} (R : Room ns list vs n c coun
       all-vars : S.choices ≡ rule_vars [] all_rule
       all-vars =
           let u : 0 < n = omega (arith, R.below 0 (omega arith)) in
-          let a = all-kept ns tree n (take count vs) S.choices (copied-kept copied) S.knows.below S.knows.holds in
+          let a = all-kept ns tree n (take count vs) S.choices copied S.knows.below S.knows.holds in
           let b = all-later (mk tree n) (mk tree' m) (take count vs) S.choices j.stays S.knows.below a in
           all_one tree' (take count vs) S.choices (rule_vars [] all_rule) b (rw (w.same refl u) at f.knows.holds)
 

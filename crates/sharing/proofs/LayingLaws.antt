@@ -15,7 +15,6 @@ use Rattle.words.proofs.WordsLaws.{has_in, word_in, any_here, any_none, and-true
 use Rattle.words.proofs.LoopLaws.{or_right}
 use Rattle.tables.specs.Tables.{Tables}
 use Rattle.syntax.specs.Rule.{Rule, rule_vars}
-use Rattle.syntax.specs.Code.Arena.{Tidy}
 use Rattle.syntax.proofs.NameLaws.{all-length}
 use Rattle.rules.specs.declared.Parsed.{Parsed}
 use Rattle.walks.specs.Code.Context.{Covers, open_in, Context}
@@ -24,7 +23,7 @@ use Rattle.walks.proofs.ContextLaws.{covers-left, covers-right, context-from}
 use Rattle.values.specs.Sets.{set_of, names}
 use Rattle.values.specs.Code.Clauses.{clause_count, clause_at, clause_names}
 use Rattle.values.specs.Code.Nodes.{NamesTo, Variables, Named, SetsNamed}
-use Rattle.values.specs.Code.Plan.{plan_room, levels_from, clauses_at, ClausesIn}
+use Rattle.values.specs.Code.Plan.{levels_from, clauses_at, ClausesIn}
 use Rattle.values.proofs.PlanLaws.{clause-low}
 use Rattle.values.proofs.ClausesLaws.{clauses_of, names-small, clause-small}
 use Rattle.values.proofs.TruthLaws.{low-more}
@@ -34,17 +33,7 @@ use Rattle.judging.specs.Code.Walking.{OwnNodes}
 use Rattle.judging.proofs.PlanningLaws.{joined_small}
 use Rattle.sharing.specs.declared.laying.Range.{Range}
 use Rattle.sharing.specs.Code.Lines.{lines_limit, lines_length, mask_of, from_of, to_of, within, line_of}
-use Rattle.sharing.specs.Code.Laying.{context_of, context_in, Plotted, LaysLines, OrderIn, OrderOf, ByDepth, MaskFor, LineWords, LaysLine}
-
--- ---- one number more
-
-pub put-more : (P : ℕ → ℕ → Type 0) (found : List ℕ) (i : ℕ) → i < length found → ((j : ℕ) → j < i → P j (get_or found j 0)) → (v : ℕ) → P i v
-    → (j : ℕ) → j < i + 1 → P j (get_or (set found i v) j 0)
-put-more P found i l h v p j k = go (ℕ_discrete j i)
-  where
-    go : Dec (j ≡ i) → P j (get_or (set found i v) j 0)
-    go (yes e) = rw (e, get_or-set_same found i v 0 l) p
-    go (no ne) = rw (get_or-set_other found i j v 0 ne) (h j (omega arith))
+use Rattle.sharing.specs.Code.Laying.{context_of, context_in, LaysLines, OrderIn, OrderOf, ByDepth, MaskFor, LineWords, LaysLine}
 
 -- ---- what a mask stands for
 
@@ -160,19 +149,6 @@ module _ {plan : List ℕ} (I : OrderIn plan) (order : List ℕ) (room : length 
   chosen-below o i l =
       let k : i < get_or plan variables_at 0 = omega (arith, chosen-long) in
       omega (arith, get_or-take (get_or plan variables_at 0) order i 0 k, o i k, I.known i k)
-
-module _ {p : Parsed} {plan : List ℕ} (X : Plotted p plan) where
-  pub nodes-tidy : Tidy p.nodes p.n
-  nodes-tidy = rw (sym X.own.nodes, sym X.own.many) X.planned.nodes.tidy
-
-  pub nodes-few : p.n ≤ plan_room
-  nodes-few = omega (arith, X.own.many, X.planned.small)
-
-  pub vars-below : (i : ℕ) → i < length (vars_of p) → get_or (vars_of p) i 0 < p.n
-  vars-below = rw (sym X.own.vars, sym X.own.many) X.planned.turns.nodes
-
-  pub vars-few : length (vars_of p) ≡ p.count
-  vars-few = ap length (sym X.own.vars) ∙ X.many
 
 -- ---- all the lines are right
 

@@ -222,9 +222,6 @@ module _ {ts plan lines : List ℕ} {many : ℕ} {h : Held} (G : Grouped ts plan
     }))
 
 -- The counts of the lines are kept one by one.
-pub keeps-start : (lines : List ℕ) (many e active choice full : ℕ) (breaking old : List ℕ) → KeepsFor lines many e active choice full breaking old old
-keeps-start lines many e active choice full breaking old = record { long = refl; goes = λ ts plan h G deep C K. K }
-
 pub keeps-next : {lines : List ℕ} {many e active choice full : ℕ} {breaking old now new : List ℕ} (l key place : ℕ) → has active l ≡ true → l < many
     → key ≡ meet_of choice (mask_of lines l (e + 1)) → place ≡ slot_for many e l key → Keeping now new place full (get_or breaking l 0) key
     → KeepsFor lines many e active choice full breaking old now → KeepsFor lines many e active choice full breaking old new

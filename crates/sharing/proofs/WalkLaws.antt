@@ -17,7 +17,7 @@ use Rattle.syntax.specs.Rule.{rule_vars}
 use Rattle.walks.specs.Code.Clauses.{false_to, false_in, level_is, Levelled, weight_of, mode_of}
 use Rattle.walks.specs.Code.Kept.{choice_of, Counted}
 use Rattle.walks.specs.Code.Turning.{Turning}
-use Rattle.walks.proofs.TurningLaws.{turning-start, turning-step, turning-end, turning-room, counted-small, counted-whole}
+use Rattle.walks.proofs.TurningLaws.{turning-step, turning-end, turning-room, counted-small, counted-whole}
 use Rattle.values.specs.Sets.{in_set}
 use Rattle.values.specs.Truth.{clause_true}
 use Rattle.values.specs.Code.Clauses.{clause_count, clause_at}
@@ -196,10 +196,6 @@ module _ {ts plan lines : List ℕ} {many : ℕ} {h : Held} (G : Grouped ts plan
       Turning (in_set h.tables (rule_vars [] h.rule)) (clauses_in lines h l) (drop levels_from plan) h.layout.order 1 d (choice_of choice) w rest full breaking
 
   module _ (l d choice w : ℕ) where
-    pub turn-start : w < 2 ^ 64 → (b : ℕ) → b ≡ 0 → TurningFor l d choice w w 0 b
-    turn-start s b z =
-        rw z (turning-start (in_set h.tables (rule_vars [] h.rule)) (clauses_in lines h l) (drop levels_from plan) h.layout.order 1 d (choice_of choice) w s)
-
     pub turn_end : {rest full breaking : ℕ} → d < length h.layout.order
         → ((x : ℕ) → in_set h.tables (rule_vars [] h.rule) (get_or h.layout.order d 0) (choice_of choice) x ≡ has w x)
         → TurningFor l d choice w rest full breaking → rest ≡ 0 → CountedFor plan lines h l d (choice_of choice) full breaking

@@ -6,7 +6,7 @@ ghost use Rattle.syntax.specs.Rule.{Rule};
 ghost use Rattle.syntax.specs.Code.Arena.{Tidy};
 ghost use Rattle.rules.specs.Accept.{choices_limit, refusal};
 ghost use Rattle.rules.specs.declared.Checked.TheVariants.{Accepted};
-ghost use Rattle.sharing.specs.Code.Gathering.{Room, Sheaf, Adds, Bound, Copied, Shared, Varied};
+ghost use Rattle.sharing.specs.Code.Gathering.{Room, Sheaf, Adds, Bound, Shared, Varied};
 
 use answers::Refusal;
 use rules::kinds::NO_KIND;
@@ -23,25 +23,6 @@ pub struct Size {
     pub count: usize,
 }
 
-// A line was left out, or there are so many nodes, clauses and variables with it.
-#[derive(Clone, Copy)]
-pub enum Added {
-    No,
-    Yes { n: usize, c: usize, count: usize },
-}
-
-// Copies the first k.
-fn copy(from: &[u32], k: usize, to: &mut [u32])
-    requires { (k ≤ length from.now) × (k ≤ length to.old) }
-    ensures { Copied from.now to.new k }
-{
-    let mut i = 0;
-    while i < k {
-        to[i] = from[i];
-        i += 1;
-    }
-}
-
 // The variables of the clauses of a list come to `vars`; how many there are.
 fn variables(nodes: &[u32], n: usize, list: &[u32], vars: &mut [u32]) -> usize
     requires tidy { Tidy nodes.now n }
@@ -50,10 +31,8 @@ fn variables(nodes: &[u32], n: usize, list: &[u32], vars: &mut [u32]) -> usize
     ensures { Varied nodes.now n list.now (length list.now) vars.new result }
 {
     let mut count = 0;
-    let mut i = 0;
-    while i < list.len() {
-        count = rules::variables::walk(nodes, n, list[i] as usize, vars, count);
-        i += 1;
+    for k in list {
+        count = rules::variables::walk(nodes, n, *k as usize, vars, count);
     }
     count
 }
@@ -63,44 +42,36 @@ fn shared(vars: &[u32], size: Size, own: &[u32], count: usize) -> bool
     requires { (size.count ≤ length vars.now) × (size.count ≤ length own.now) }
     ensures { Shared vars.now size.n size.count own.now count result }
 {
-    if size.n == 0 {
-        return true;
-    }
-    if count != size.count {
-        return false;
-    }
-    let mut i = 0;
-    while i < count {
-        if own[i] != vars[i] {
-            return false;
-        }
-        i += 1;
-    }
-    true
+    size.n == 0 || (count == size.count && own[..count] == vars[..count])
 }
 
-// Takes an accepted line in, behind those that are there. Where it is left out, what was there is there.
-pub fn add(line: &[u8], nodes: &mut [u32], list: &mut [u32], vars: &mut [u32], size: Size) -> Added
+// Takes an accepted line in, behind those that are there; how many nodes, clauses and variables there are with it.
+// None where it is left out, and then what was there is there.
+pub fn add(
+    line: &[u8],
+    nodes: &mut [u32],
+    list: &mut [u32],
+    vars: &mut [u32],
+    size: Size,
+) -> Option<Size>
     requires line_value { refusal line.now ≡ none }
     requires room { Room nodes.old list.old vars.old size.n size.c size.count }
     ensures { (κs : List Rule) → Sheaf κs nodes.old list.old vars.old size.n size.c size.count → Adds κs line.now nodes.new list.new vars.new size.n size.c size.count result }
 {
     let from = size.c;
-    let Some(listed) = syntax::clauses(line, nodes, size.n, &mut list[from..]) else {
-        return Added::No;
-    };
+    let listed = syntax::clauses(line, nodes, size.n, &mut list[from..])?;
     let n = listed.n;
     let c = from + listed.count;
     if n + c > RULE_LIMIT {
-        return Added::No;
+        return None;
     }
     let mut own = [0u32; CHOICES_LIMIT];
     let count = variables(nodes, n, &list[from..c], &mut own);
     if !shared(vars, size, &own, count) {
-        return Added::No;
+        return None;
     }
-    copy(&own, count, vars);
-    Added::Yes { n, c, count }
+    vars[..count].copy_from_slice(&own[..count]);
+    Some(Size { n, c, count })
 }
 
 // The rule of all clauses, as it is parsed; refused where the lines do not make one, of which nothing is shown.
@@ -112,7 +83,7 @@ pub fn close(nodes: &[u32], list: &[u32], vars: &[u32], size: Size) -> Parsed
         return rules::rejected(Refusal::NotARule);
     }
     let mut tree = [0u32; RULE_LIMIT];
-    copy(nodes, size.n, &mut tree);
+    tree[..size.n].copy_from_slice(&nodes[..size.n]);
     let whole = syntax::join(&mut tree, size.n, list, size.c);
     let mut kinds = [NO_KIND; RULE_LIMIT];
     let mut own = [0u32; CHOICES_LIMIT];

@@ -9,6 +9,7 @@ use crate::lines::{FROM, TO, WORDS};
 use judging::planning;
 use judging::planning::{ORDER, VARIABLE_COUNT};
 use rules::{CHOICES_LIMIT, Parsed, RULE_LIMIT};
+use std::array;
 use values::plan::CLAUSE_COUNT;
 use walks::kept;
 
@@ -27,10 +28,8 @@ fn order_of(plan: &[u64]) -> [u8; CHOICES_LIMIT]
 {
     let count = plan[VARIABLE_COUNT] as usize;
     let mut order = [0u8; CHOICES_LIMIT];
-    let mut d = 0;
-    while d < count {
+    for d in 0..count {
         order[d] = plan[ORDER + d] as u8;
-        d += 1;
     }
     order
 }
@@ -40,13 +39,7 @@ fn by_depth(names: &[u64], order: &[u8]) -> [u64; CHOICES_LIMIT]
     requires { (length names.now ≡ 8) × (length order.now ≤ 8) × ((i : ℕ) → i < length order.now → get_or order.now i 0 < 8) }
     ensures { ByDepth names.now order.now result }
 {
-    let mut found = [0u64; CHOICES_LIMIT];
-    let mut d = 0;
-    while d < CHOICES_LIMIT {
-        found[d] = planning::by_sets(names, order, d);
-        d += 1;
-    }
-    found
+    array::from_fn(|d| planning::by_sets(names, order, d))
 }
 
 // The words of one line.
@@ -55,11 +48,9 @@ fn line(plan: &[u64], scopes: &[u64], sets: &[u64], range: Range, lines: &mut [u
     ensures { LaysLine plan.now scopes.now sets.now range lines.old lines.new }
 {
     let at = WORDS * range.line;
-    let mut d = 0;
-    while d < CHOICES_LIMIT {
+    for (d, set) in sets.iter().enumerate() {
         let named = planning::by_clauses(plan, scopes, range.from, range.to, d);
-        lines[at + d] = kept::spread(words::join(sets[d], named));
-        d += 1;
+        lines[at + d] = kept::spread(words::join(*set, named));
     }
     lines[at + FROM] = range.from as u64;
     lines[at + TO] = range.to as u64;
@@ -80,14 +71,12 @@ pub fn lay(parsed: Parsed, plan: &[u64], starts: &[u64], many: usize, lines: &mu
     let names = values::names::sets(&terms, vars);
     let chosen = plan[VARIABLE_COUNT] as usize;
     let sets = by_depth(&names, &order[..chosen]);
-    let mut l = 0;
-    while l < many {
+    for l in 0..many {
         let range = Range {
             line: l,
             from: starts[l] as usize,
             to: starts[l + 1] as usize,
         };
         line(plan, &scopes, &sets, range, lines);
-        l += 1;
     }
 }

@@ -25,13 +25,6 @@ const ROOM: usize = 15360;
 // Where there may be more choices, each line is better off with an order of its own: three variables of 64 items each are not too many.
 const MOST_CHOICES: u64 = 262144;
 
-// The lines were not counted, or there are so many full choices.
-#[derive(Clone, Copy)]
-pub enum Shared {
-    No,
-    Yes(u64),
-}
-
 // The full choices, and each line's breaking ones, from nothing chosen.
 fn all(
     t: &[u64],
@@ -66,14 +59,15 @@ fn all(
     full
 }
 
-// The counts of the lines whose clauses begin where `starts` says, where 1, 2, .. is an order of the variables.
+// The counts of the lines whose clauses begin where `starts` says, where 1, 2, .. is an order of the variables; how many full choices there are.
+// None where the lines were not counted.
 pub fn counts(
     t: &[u64],
     parsed: Parsed,
     starts: &[u64],
     many: usize,
     breaking: &mut [u64],
-) -> Shared
+) -> Option<u64>
     requires lent_by { LentBy t.now parsed × Starts starts.now many × Ranges parsed starts.now many × (many ≤ lines_limit) × (length breaking.old ≡ lines_limit) }
     requires by_index { (l : ℕ) → get_or breaking.old l 0 ≡ 0 }
     ensures { CountsTogether t.now parsed starts.now many breaking.new result }
@@ -84,23 +78,20 @@ pub fn counts(
     let vars = parsed.vars;
     let names = values::names::names(&parsed.nodes, parsed.n, &vars[..count]);
     if !walks::ordered(&names, order, count) {
-        return Shared::No;
+        return None;
     }
     let mut plan = [0u64; planning::LENGTH];
     let many_choices = walking::lay_first(t, parsed, order, &mut plan);
     // A line by itself sees at once that there is nothing to walk.
-    if many_choices == 0 {
-        return Shared::No;
-    }
-    if MOST_CHOICES < many_choices {
-        return Shared::No;
+    if many_choices == 0 || MOST_CHOICES < many_choices {
+        return None;
     }
     let mut lines = [0u64; WORDS * LINES];
     laying::lay(parsed, &plan, starts, many, &mut lines);
     if many * count <= FEW_SLOTS {
         let mut few = [0u64; FEW_ROOM];
-        return Shared::Yes(all(t, &plan, &lines, many, &mut few, breaking));
+        return Some(all(t, &plan, &lines, many, &mut few, breaking));
     }
     let mut kept = [0u64; ROOM];
-    Shared::Yes(all(t, &plan, &lines, many, &mut kept, breaking))
+    Some(all(t, &plan, &lines, many, &mut kept, breaking))
 }

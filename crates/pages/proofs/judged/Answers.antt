@@ -7,10 +7,6 @@ use Rattle.pages.proofs.PageLaws.{placed-answers}
 use borrow.Author.Rules.{rules}
 use Rattle.pages.proofs.judged.Goals as goal
 
-pub tallied-requires : goal.tallied-requires
-tallied-requires c =
-    record { loaded = c.requires.loaded; ready = c.requires.ready; groups_len = c.requires.groups_len; lanes = record { for_fulls = search rules; for_breakings = search rules; for_firsts = search rules } }
-
 pub write_page-requires : goal.write_page-requires
 write_page-requires c =
     record { lanes = record { for_fulls = search rules; for_breakings = search rules; for_firsts = search rules }; many_le_page_limit = (c.requires.ready.few, c.requires.walks_le_page_limit); all_fit = all_fit c.requires.ready c.tallied.ensures c.requires.loaded }

@@ -2,16 +2,15 @@
 -- Internal: contracts of entry points do not speak of it. Assumes nothing.
 use Rattle.std.specs.Prelude.{◌≡◌, cond, List, [], ◌∷◌, ℕ, suc, ◌+◌, ◌*◌, ◌≤◌, ◌<◌, length, get_or, take, drop}
 use Rattle.std.proofs.Math.Option.{none, some}
+use Rattle.std.specs.declared.result.Result.{Result}
+use Rattle.std.specs.declared.result.Result.TheVariants.{Ok, Err}
 use Rattle.answers.specs.declared.Refusal.{Refusal}
 use Rattle.texts.specs.Pieces.{lines}
 use Rattle.syntax.specs.Bytes.{Bytes, same}
 use Rattle.rules.specs.Accept.{refusal}
 use Rattle.formulas.specs.Quantifiers.{quantifier_part}
 use Rattle.pages.specs.Page.{PageAnswer, refused_at, page_limit, past_lines, part_of, parts_of, different_from, walks_of}
-use Rattle.pages.specs.declared.parts.Part.{Part}
-use Rattle.pages.specs.declared.parts.Part.TheVariants.{Refused as NoPart, Ends}
-use Rattle.pages.specs.declared.parts.Sorted.{Sorted}
-use Rattle.pages.specs.declared.parts.Sorted.TheVariants.{Refused as Unsorted, Walks}
+use Rattle.pages.specs.declared.parts.RefusedLine.{RefusedLine}
 
 -- Line j of a page, from 0.
 abbrev pub line_at : Bytes → ℕ → Bytes
@@ -46,9 +45,9 @@ pub record EndsPart (f : Bytes) (r : ℕ) : Type 0 where
   pub within : r ≤ length f
 
 -- A line is refused, or its quantifier part stands in front of the lent bytes.
-pub data PartSays (w new : Bytes) : Part → Type 0 where
-  no_part : {e : Refusal} → refusal w ≡ some e → PartSays w new (NoPart e)
-  some_part : {n : ℕ} → refusal w ≡ none → n ≤ sheet_room → take n new ≡ part_of w → PartSays w new (Ends n)
+pub data PartSays (w new : Bytes) : Result ℕ Refusal → Type 0 where
+  no_part : {e : Refusal} → refusal w ≡ some e → PartSays w new (Err e)
+  some_part : {n : ℕ} → refusal w ≡ none → n ≤ sheet_room → take n new ≡ part_of w → PartSays w new (Ok n)
 
 -- The text p stands in front of slot k, if it is short; the slots before it are as they were.
 pub record Slotted (p old new : Bytes) (k : ℕ) : Type 0 where
@@ -57,9 +56,9 @@ pub record Slotted (p old new : Bytes) (k : ℕ) : Type 0 where
   pub same : length new ≡ length old
 
 -- A line is refused, or its quantifier part has n bytes and stands so.
-pub data SlotSays (w old new : Bytes) (k : ℕ) : Part → Type 0 where
-  no_slot : {e : Refusal} → refusal w ≡ some e → SlotSays w old new k (NoPart e)
-  some_slot : {n : ℕ} → refusal w ≡ none → n ≡ length (part_of w) → Slotted (part_of w) old new k → SlotSays w old new k (Ends n)
+pub data SlotSays (w old new : Bytes) (k : ℕ) : Result ℕ Refusal → Type 0 where
+  no_slot : {e : Refusal} → refusal w ≡ some e → SlotSays w old new k (Err e)
+  some_slot : {n : ℕ} → refusal w ≡ none → n ≡ length (part_of w) → Slotted (part_of w) old new k → SlotSays w old new k (Ok n)
 
 -- The first k lines are accepted; how long their parts are is known, and the short ones stand in front of their slots.
 pub record Held (page : Bytes) (slots lens : List ℕ) (k : ℕ) : Type 0 where
@@ -99,6 +98,6 @@ pub record Sorting (page slots lens groups : List ℕ) (walks k : ℕ) : Type 0 
   pub counted : walks + different_from (take k (parts_of (lines page))) (drop k (parts_of (lines page))) ≡ walks_of (lines page)
 
 -- A line is refused, or all are sorted.
-pub data SortSays (page groups : List ℕ) (many : ℕ) : Sorted → Type 0 where
-  line_refused : {e : Refusal} {p : ℕ} → ((a : PageAnswer) → past_lines 1 (lines page) a ≡ refused_at e p) → p ≤ page_limit → SortSays page groups many (Unsorted e p)
-  all_sorted : {n : ℕ} → Ready page groups many → n ≡ walks_of (lines page) → SortSays page groups many (Walks n)
+pub data SortSays (page groups : List ℕ) (many : ℕ) : Result ℕ RefusedLine → Type 0 where
+  line_refused : {l : RefusedLine} → ((a : PageAnswer) → past_lines 1 (lines page) a ≡ refused_at l.refusal l.position) → l.position ≤ page_limit → SortSays page groups many (Err l)
+  all_sorted : {n : ℕ} → Ready page groups many → n ≡ walks_of (lines page) → SortSays page groups many (Ok n)

@@ -53,7 +53,7 @@ pub record Members (page : Bytes) (wanted : ℕ) (κs : List Rule) (starts membe
 pub record Gathers (page : Bytes) (wanted : ℕ) (nodes list vars starts members : List ℕ) (r : Gathered) : Type 0 where
   pub rules : List Rule
   pub many : length rules ≡ r.lines
-  pub sheaf : Sheaf rules nodes list vars r.n r.c r.count
+  pub sheaf : Sheaf rules nodes list vars r.size.n r.size.c r.size.count
   pub members_of : Members page wanted rules starts members
 
 -- Lengths and lines below the limit.

@@ -2,6 +2,8 @@
 -- Internal: contracts of entry points do not speak of it. Assumes nothing.
 use Rattle.std.specs.Prelude.{◌≡◌, Bool, true, List, [], ◌∷◌, ◌++◌, ℕ, zero, suc, ◌+◌, ◌<◌, ◌≤◌, length, get_or, take}
 use Rattle.std.proofs.Math.Option.{some}
+use Rattle.std.specs.declared.option.Option.{Option}
+use Rattle.std.specs.declared.option.Option.TheVariants.{Some, None}
 use Rattle.syntax.specs.Bytes.{Bytes}
 use Rattle.syntax.specs.Term.{Choices}
 use Rattle.syntax.specs.Rule.{Clause, Rule, last, also, clause_vars, rule_vars, rule_of}
@@ -11,8 +13,7 @@ use Rattle.rules.specs.Accept.{rule_limit, choices_limit}
 use Rattle.rules.specs.Code.Parsed.{Fitted}
 use Rattle.rules.specs.Code.Variables.{VariableList}
 use Rattle.values.specs.Code.Clauses.{clause_count}
-use Rattle.sharing.specs.declared.gathering.Added.{Added}
-use Rattle.sharing.specs.declared.gathering.Added.TheVariants.{No, Yes}
+use Rattle.sharing.specs.declared.gathering.Size.{Size}
 use Rattle.sharing.specs.Code.Part.{Part}
 
 -- Lists of clauses.
@@ -64,9 +65,9 @@ pub record Sheaf (κs : List Rule) (ns list vs : List ℕ) (n c count : ℕ) : T
   pub common : (l : ℕ) (d : Rule) → l < length κs → rule_vars [] (get_or κs l d) ≡ choices
 
 -- What became of a line: it was left out, or its rule is the last one.
-pub data Adds (κs : List Rule) (s : Bytes) (ns list vs : List ℕ) (n c count : ℕ) : Added → Type 0 where
-  left : Sheaf κs ns list vs n c count → Adds κs s ns list vs n c count No
-  taken : {m e k : ℕ} (κ : Rule) → rule_of s ≡ some κ → Sheaf (κs ++ (κ ∷ [])) ns list vs m e k → Adds κs s ns list vs n c count (Yes m e k)
+pub data Adds (κs : List Rule) (s : Bytes) (ns list vs : List ℕ) (n c count : ℕ) : Option Size → Type 0 where
+  left : Sheaf κs ns list vs n c count → Adds κs s ns list vs n c count None
+  taken : {size : Size} (κ : Rule) → rule_of s ≡ some κ → Sheaf (κs ++ (κ ∷ [])) ns list vs size.n size.c size.count → Adds κs s ns list vs n c count (Some size)
 
 -- The rule of all, with its tree, its kinds and its variables; each rule is a part of it.
 pub record Bound (κs : List Rule) (ns : List ℕ) (n root : ℕ) (ks vs : List ℕ) (count : ℕ) : Type 0 where
@@ -79,10 +80,6 @@ pub record Bound (κs : List Rule) (ns : List ℕ) (n root : ℕ) (ks vs : List 
   pub part : (l : ℕ) (d : Rule) → l < length κs → Part tree (get_or κs l d) (start_of κs l) (start_of κs (l + 1))
 
 -- On the way.
-
--- The first k of ys are those of xs.
-pub record Copied (xs ys : List ℕ) (k : ℕ) : Type 0 where
-  pub same : (i : ℕ) → i < k → get_or ys i 0 ≡ get_or xs i 0
 
 -- Where r is true, and there is a line already, its variables are those counted.
 pub record Shared (vs : List ℕ) (n k : ℕ) (own : List ℕ) (count : ℕ) (r : Bool) : Type 0 where

@@ -1,6 +1,8 @@
 -- The counts of gathered lines: what the walk starts from, and what it gives.
 -- Internal: contracts of entry points do not speak of it. Assumes nothing.
 use Rattle.std.specs.Prelude.{◌≡◌, List, [], ℕ, ◌+◌, ◌*◌, ◌<◌, ◌≤◌, length, get_or}
+use Rattle.std.specs.declared.option.Option.{Option}
+use Rattle.std.specs.declared.option.Option.TheVariants.{Some, None}
 use Rattle.tables.specs.Tables.{Tables}
 use Rattle.syntax.specs.Rule.{Rule, rule_vars}
 use Rattle.syntax.specs.Code.Arena.{HoldsRule}
@@ -15,8 +17,6 @@ use Rattle.judging.specs.Code.Counting.{no_choice}
 use Rattle.judging.specs.Code.Lent.{CaseBy}
 use Rattle.sharing.specs.Code.Part.{Part}
 use Rattle.sharing.specs.Code.Lines.{lines_limit, lines_length, whole_slots, Held, clauses_in, full_below, Grouped}
-use Rattle.sharing.specs.declared.together.Shared.{Shared}
-use Rattle.sharing.specs.declared.together.Shared.TheVariants.{No, Yes}
 
 -- Nothing is chosen, kept or counted yet.
 pub record Starting (ts plan lines : List ℕ) (many : ℕ) (kept breaking : List ℕ) : Type 0 where
@@ -56,6 +56,6 @@ CountsAll ts p starts many breaking full =
     → (full ≡ full_of T κ) × (get_or breaking l 0 ≡ breaking_of T κ)
 
 -- They were counted in one walk, or not at all.
-pub data CountsTogether (ts : List ℕ) (p : Parsed) (starts : List ℕ) (many : ℕ) (breaking : List ℕ) : Shared → Type 0 where
-  no : CountsTogether ts p starts many breaking No
-  yes : {full : ℕ} → length breaking ≡ lines_limit → CountsAll ts p starts many breaking full → CountsTogether ts p starts many breaking (Yes full)
+pub data CountsTogether (ts : List ℕ) (p : Parsed) (starts : List ℕ) (many : ℕ) (breaking : List ℕ) : Option ℕ → Type 0 where
+  no : CountsTogether ts p starts many breaking None
+  yes : {full : ℕ} → length breaking ≡ lines_limit → CountsAll ts p starts many breaking full → CountsTogether ts p starts many breaking (Some full)

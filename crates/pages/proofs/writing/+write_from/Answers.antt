@@ -14,14 +14,6 @@ use Rattle.pages.proofs.writing.+write_from.Goals as goal
 pub returns-then-many-k : goal.returns-then-many-k
 returns-then-many-k t c = record { overwritten = λ vs rows. no_lines rows _ _ c.if-many-k.true; summed = λ vs rows. no-sums rows _ c.if-many-k.true; full_bound = (omega arith, omega arith) }
 
-pub verdict_of-verdict-requires : goal.verdict_of-verdict-requires
-verdict_of-verdict-requires t c =
-    record { lanes = c.requires.lanes; k_lt_page_limit = omega (arith, c.requires.many_le_page_limit, c.if-many-k.false); fits = c.requires.all_fit c.args.k (omega (arith, c.if-many-k.false)) }
-
-pub write-n-requires : goal.write-n-requires
-write-n-requires t c =
-    omega (arith, c.requires.k_in_bounds, c.if-many-k.false)
-
 pub write_from-rest-requires : goal.write_from-rest-requires
 write_from-rest-requires t c =
     let eight : length c.verdict_of-verdict.result.first ≡ 8 = search rules in (
@@ -37,18 +29,6 @@ write_from-rest-requires t c =
         ),
       ),
     )
-
-pub overflow_add-result : goal.overflow_add-result
-overflow_add-result t c =
-    let full : c.verdict_of-verdict.result.full ≡ get_or c.args.fulls.now c.args.k 0 = ap (λ (u : Verdict). u.full) c.verdict_of-verdict.ensures in
-    let fits = c.requires.all_fit c.args.k (omega (arith, c.if-many-k.false)) in
-    record { fits = omega (arith, fits.few, c.requires.many_le_page_limit, c.write_from-rest.ensures.full_bound.0) }
-
-pub overflow_add-result-2 : goal.overflow_add-result-2
-overflow_add-result-2 t c =
-    let breaking : c.verdict_of-verdict.result.breaking ≡ get_or c.args.breakings.now c.args.k 0 = ap (λ (u : Verdict). u.breaking) c.verdict_of-verdict.ensures in
-    let fits = c.requires.all_fit c.args.k (omega (arith, c.if-many-k.false)) in
-    record { fits = omega (arith, fits.part, fits.few, c.requires.many_le_page_limit, c.write_from-rest.ensures.full_bound.1) }
 
 pub returns : goal.returns
 returns t c =

@@ -4,51 +4,19 @@ use mathlib.Core.Path.{◌≡◌, refl, sym, ◌∙◌}
 use mathlib.Core.Bool.{true, false, true≢false}
 use mathlib.Core.Logic.{⊎_elim}
 use native.Mathlib.Omega.{arith}
-use borrow.Author.Rules.{rules}
 use lib.ListN.{length, get_or, length-replicate}
-use lib.Seq.{length-take-le, length_front}
+use lib.Seq.{length_front}
 use Rattle.words.specs.Words.{has}
 use Rattle.words.proofs.WordsLaws.{has-zero}
 use Rattle.words.proofs.LoopLaws.{lowest-item, less-smaller}
 use Rattle.walks.specs.Code.Kept.{choice_of}
-use Rattle.judging.specs.Code.Planning.{sets_from}
 use Rattle.judging.specs.Code.Counting.{depth_of}
-use Rattle.judging.proofs.CountingLaws.{plan-runs, set-small, set-in}
+use Rattle.judging.proofs.CountingLaws.{plan-runs, set-in}
 use Rattle.sharing.specs.Code.Lines.{CountedFor}
 use Rattle.sharing.proofs.LineLaws.{hit-for}
-use Rattle.sharing.proofs.WalkLaws.{some_line, zeros-none, lines_left, outside-less, true-or-false, ranged, line-end, line_small, turn-start, turn_end, turn-next, turn-room, entered-for, turned-for, found-for, kept-front}
-use Prim.Native.Nat.{ℕ, ◌<◌, ◌≤◌, ◌+◌, ◌-◌, ◌^◌}
+use Rattle.sharing.proofs.WalkLaws.{some_line, zeros-none, lines_left, outside-less, true-or-false, ranged, line-end, line_small, turn_end, turn-next, turn-room, entered-for, turned-for, found-for, kept-front}
+use Prim.Native.Nat.{ℕ, ◌<◌, ◌≤◌, ◌+◌, ◌-◌}
 use Rattle.sharing.proofs.counting.+below_items.Goals as goal
-
-pub below-slice_bounds-below-end : goal.below-slice_bounds-below-end
-below-slice_bounds-below-end t c =
-    omega (arith, c.requires.slots)
-
-pub below-slice_bounds-below-end-then-at-eq0 : goal.below-slice_bounds-below-end-then-at-eq0
-below-slice_bounds-below-end-then-at-eq0 t c =
-    sym (length-take-le 3072 c.args.kept.now c.requires.slots)
-
-pub below-below-requires : goal.below-below-requires
-below-below-requires t c =
-    record {
-      layout = c.requires.held.layout;
-      tables = c.requires.held.tables;
-      rule = c.requires.held.rule;
-      planned = c.requires.grouped.planned;
-      modes = omega arith;
-      within = c.requires.within;
-      room = c.requires.room;
-      stored = c.requires.stored;
-      keeps = c.requires.keeps.whole;
-    }
-
-pub below-shape_of-cache-then-at-eq0 : goal.below-shape_of-cache-then-at-eq0
-below-shape_of-cache-then-at-eq0 t c =
-    c.below.ensures.room
-
-pub below-shape_of-kept-then-at-eq0 : goal.below-shape_of-kept-then-at-eq0
-below-shape_of-kept-then-at-eq0 t c =
-    length_front c.args.kept.now c.below.new.kept 3072 c.below.ensures.slots
 
 pub below-returns-then-at-eq0 : goal.below-returns-then-at-eq0
 below-returns-then-at-eq0 t c =
@@ -75,56 +43,12 @@ below-returns-then-at-eq0-2 t c =
           ((line-end G 0 d c.args.at.choice end 0 refl).fulls, λ l a. line-end G l d c.args.at.choice end _ (c.requires.none l a), st, ke);
     }
 
-pub below-bounds-plan-850 : goal.below-bounds-plan-850
-below-bounds-plan-850 t c =
-    omega (arith, c.requires.grouped.planned.long)
-
-pub below-overflow_sub-d : goal.below-overflow_sub-d
-below-overflow_sub-d t c =
-    omega (arith, c.requires.within)
-
-pub below-items-requires : goal.below-items-requires
-below-items-requires t c =
-    (omega (arith, c.decreases), (c.requires, omega (arith, c.if-at-eq0-2.false), omega (arith, c.if-at-eq0.false)))
-
-pub below-shape_of-cache-then-d-eq0 : goal.below-shape_of-cache-then-d-eq0
-below-shape_of-cache-then-d-eq0 t c =
-    c.items.ensures.room
-
-pub below-shape_of-kept-then-d-eq0 : goal.below-shape_of-kept-then-d-eq0
-below-shape_of-kept-then-d-eq0 t c =
-    c.items.ensures.slots
-
-pub below-shape_of-breaking-then-d-eq0 : goal.below-shape_of-breaking-then-d-eq0
-below-shape_of-breaking-then-d-eq0 t c =
-    c.items.ensures.counts
-
-pub below-returns-then-d-eq0 : goal.below-returns-then-d-eq0
-below-returns-then-d-eq0 t c =
-    c.items.ensures
-
-pub below-looked-missing-requires : goal.below-looked-missing-requires
-below-looked-missing-requires t c =
-    (c.requires.listed, c.requires.long, omega (arith, c.if-d-eq0.false), omega (arith, c.requires.grouped.planned.turns.many, c.requires.grouped.planned.turns.short, c.if-at-eq0-2.false), c.requires.counts)
-
-pub below-lowest-requires : goal.below-lowest-requires
-below-lowest-requires t c =
-    search rules
-
 pub below-known-requires : goal.below-known-requires
 below-known-requires t c =
     let l : ℕ = c.lowest.result in
     let here = lowest-item c.requires.listed.small c.if-at-eq0.false c.lowest.ensures in
     let active = c.lowest.ensures.found here in
     let hit = c.looked-missing.ensures.hits l active (rw c.if-missing-eq0.true (has-zero l)) in record { many_le_lines_limit = (c.requires.listed.few, c.requires.long, omega (arith, c.if-d-eq0.false), omega (arith, c.requires.grouped.planned.turns.many, c.requires.grouped.planned.turns.short, c.if-at-eq0-2.false), omega (arith, c.requires.listed.few, c.requires.listed.inside l active)); hit_for = record { fits = hit.fits; there = hit.there; key = hit.key; is = refl } }
-
-pub below-shape_of-kept-then-missing-eq0 : goal.below-shape_of-kept-then-missing-eq0
-below-shape_of-kept-then-missing-eq0 t c =
-    refl
-
-pub below-shape_of-breaking-then-missing-eq0 : goal.below-shape_of-breaking-then-missing-eq0
-below-shape_of-breaking-then-missing-eq0 t c =
-    c.looked-missing.ensures.long
 
 pub below-returns-then-missing-eq0 : goal.below-returns-then-missing-eq0
 below-returns-then-missing-eq0 t c =
@@ -146,28 +70,6 @@ below-returns-then-missing-eq0 t c =
           (rw deep at full, λ k a. rw deep at (found-for G ke (d - 1) choice c.requires.listed lo c.looked-missing.ensures _ full k a (none k) _ refl), st, ke);
     }
 
-pub below-items-full-requires : goal.below-items-full-requires
-below-items-full-requires t c = (
-  omega (arith, c.decreases),
-  (
-    record {
-      held = c.requires.held;
-      grouped = c.requires.grouped;
-      long = c.requires.long;
-      listed = record { small = c.looked-missing.ensures.small; few = c.requires.listed.few; inside = λ l a. c.requires.listed.inside l (c.looked-missing.ensures.inside l a) };
-      within = c.requires.within;
-      room = c.requires.room;
-      slots = c.requires.slots;
-      counts = c.looked-missing.ensures.long ∙ c.requires.counts;
-      none = λ l a. c.looked-missing.ensures.other l a ∙ c.requires.none l (c.looked-missing.ensures.inside l a);
-      stored = c.requires.stored;
-      keeps = c.requires.keeps;
-    },
-    omega (arith, c.if-at-eq0-2.false),
-    omega (arith, c.if-missing-eq0.false),
-  ),
-)
-
 pub below-keep-requires : goal.below-keep-requires
 below-keep-requires t c =
     let some = some_line c.looked-missing.result c.looked-missing.ensures.small c.if-missing-eq0.false in
@@ -179,18 +81,6 @@ below-keep-requires t c =
       (line_small c.requires.grouped some.0 _ (r.1 some.0 some.1)).0,
       c.items-full.ensures.counts ∙ c.looked-missing.ensures.long ∙ c.requires.counts,
     )
-
-pub below-shape_of-cache : goal.below-shape_of-cache
-below-shape_of-cache t c =
-    c.items-full.ensures.room
-
-pub below-shape_of-kept : goal.below-shape_of-kept
-below-shape_of-kept t c =
-    c.keep.ensures.long ∙ c.items-full.ensures.slots
-
-pub below-shape_of-breaking : goal.below-shape_of-breaking
-below-shape_of-breaking t c =
-    c.items-full.ensures.counts ∙ c.looked-missing.ensures.long
 
 pub below-returns : goal.below-returns
 below-returns t c =
@@ -213,115 +103,13 @@ below-returns t c =
           );
     }
 
-pub items-last-requires : goal.items-last-requires
-items-last-requires t c =
-    (record { kept = c.args.kept.now; is = c.requires.0 }, c.if-at-eq1.true, c.requires.2)
-
-pub items-shape_of-cache-then-at-eq1 : goal.items-shape_of-cache-then-at-eq1
-items-shape_of-cache-then-at-eq1 t c =
-    (c.last.ensures c.args.kept.now).room
-
-pub items-shape_of-breaking-then-at-eq1 : goal.items-shape_of-breaking-then-at-eq1
-items-shape_of-breaking-then-at-eq1 t c =
-    (c.last.ensures c.args.kept.now).counts
-
-pub items-returns-then-at-eq1 : goal.items-returns-then-at-eq1
-items-returns-then-at-eq1 t c =
-    c.last.ensures c.args.kept.now
-
-pub items-bounds-plan-850 : goal.items-bounds-plan-850
-items-bounds-plan-850 t c =
-    omega (arith, c.requires.0.grouped.planned.long)
-
-pub items-overflow_sub-d : goal.items-overflow_sub-d
-items-overflow_sub-d t c =
-    omega (arith, c.requires.0.within)
-
-pub items-overflow_add-v : goal.items-overflow_add-v
-items-overflow_add-v t c =
-    omega (arith, c.requires.0.grouped.planned.turns.many, c.requires.0.grouped.planned.turns.short)
-
-pub items-offset_bounds-plan-d : goal.items-offset_bounds-plan-d
-items-offset_bounds-plan-d t c =
-    omega (arith, c.requires.0.grouped.planned.turns.many, c.requires.0.grouped.planned.turns.short)
-
-pub items-bounds-plan-d : goal.items-bounds-plan-d
-items-bounds-plan-d t c =
-    omega (arith, c.requires.0.grouped.planned.turns.many, c.requires.0.grouped.planned.turns.short, c.requires.0.grouped.planned.long)
-
-pub items-overflow_add-rest : goal.items-overflow_add-rest
-items-overflow_add-rest t c =
-    omega (arith, c.requires.0.grouped.planned.turns.many, c.requires.0.grouped.planned.turns.short)
-
-pub items-offset_bounds-plan-d-2 : goal.items-offset_bounds-plan-d-2
-items-offset_bounds-plan-d-2 t c =
-    omega (arith, c.requires.0.grouped.planned.turns.many, c.requires.0.grouped.planned.turns.short)
-
-pub items-bounds-plan-d-2 : goal.items-bounds-plan-d-2
-items-bounds-plan-d-2 t c =
-    omega (arith, c.requires.0.grouped.planned.turns.many, c.requires.0.grouped.planned.turns.short, c.requires.0.grouped.planned.long)
-
-pub items-offset_bounds-cache-plan : goal.items-offset_bounds-cache-plan
-items-offset_bounds-cache-plan t c =
-    omega (arith, set-small c.requires.0.grouped.planned (depth_of c.args.plan.now c.args.at.left) (omega (arith, c.requires.0.grouped.planned.turns.many, c.requires.0.within, c.requires.1)))
-
-pub items-bounds-cache-plan : goal.items-bounds-cache-plan
-items-bounds-cache-plan t c =
-    omega (arith, set-small c.requires.0.grouped.planned (depth_of c.args.plan.now c.args.at.left) (omega (arith, c.requires.0.grouped.planned.turns.many, c.requires.0.within, c.requires.1)), c.requires.0.room)
-
-pub items-loop-rest-init : goal.items-loop-rest-init
-items-loop-rest-init t c =
-    let d : ℕ = depth_of c.args.plan.now c.args.at.left in
-    let w : ℕ = get_or c.args.cache.now (get_or c.args.plan.now (sets_from + d) 0) 0 in
-    let fit : w < 2 ^ 64 = omega (arith, c.slice_known-4-1.given (get_or c.args.plan.now (sets_from + d) 0)) in
-    (refl, refl, refl, fit, λ l a. refl, λ h G st ke. (λ l a. turn-start G l d c.args.at.choice w fit _ (c.requires.0.none l a), st, ke))
-
-pub items-lowest-x-requires : goal.items-lowest-x-requires
-items-lowest-x-requires t c =
-    search rules
-
-pub items-item-requires : goal.items-item-requires
-items-item-requires t c =
-    search rules
-
-pub items-less-rest-requires : goal.items-less-rest-requires
-items-less-rest-requires t c =
-    search rules
-
-pub items-put-chosen-requires : goal.items-put-chosen-requires
-items-put-chosen-requires t c =
-    let l = lowest-item c.loop-rest.invariant.3 c.loop-rest-test.true c.lowest-x.ensures in
-    let d : ℕ = depth_of c.args.plan.now c.args.at.left in
-    let lo : d < length c.requires.0.held.layout.order = omega (arith, c.requires.0.grouped.planned.turns.many, c.requires.0.within, c.requires.1) in
-    (omega (arith, c.requires.0.grouped.planned.turns.variables d lo, c.requires.0.grouped.planned.turns.known d lo, c.requires.0.grouped.planned.turns.few), omega arith)
-
-pub items-overflow_add-d : goal.items-overflow_add-d
-items-overflow_add-d t c =
-    omega (arith, c.requires.0.grouped.planned.turns.many, c.requires.0.grouped.planned.turns.short)
-
 pub items-settle-requires : goal.items-settle-requires
 items-settle-requires t c =
     (c.requires.0.grouped.planned.whole, plan-runs c.requires.0.grouped.planned, c.loop-rest.invariant.0 ∙ c.requires.0.room, omega (arith, c.requires.0.grouped.planned.turns.many, c.requires.0.grouped.planned.turns.short, c.requires.0.within, c.requires.1))
 
-pub items-overflow_add-d-in-loop-rest : goal.items-overflow_add-d-in-loop-rest
-items-overflow_add-d-in-loop-rest t c =
-    omega (arith, c.requires.0.grouped.planned.turns.many, c.requires.0.grouped.planned.turns.short)
-
 pub items-failed-closed-requires : goal.items-failed-closed-requires
 items-failed-closed-requires t c =
     (plan-runs c.requires.0.grouped.planned, c.settle.auto.cache ∙ c.loop-rest.invariant.0 ∙ c.requires.0.room, c.requires.0.listed, ranged c.requires.0.grouped c.requires.0.long)
-
-pub items-less-requires : goal.items-less-requires
-items-less-requires t c =
-    search rules
-
-pub items-overflow_sub-next : goal.items-overflow_sub-next
-items-overflow_sub-next t c =
-    omega (arith, c.requires.1)
-
-pub items-slice_bounds-below-end : goal.items-slice_bounds-below-end
-items-slice_bounds-below-end t c =
-    refl
 
 pub items-below-sum-requires : goal.items-below-sum-requires
 items-below-sum-requires t c =
@@ -345,10 +133,6 @@ items-below-sum-requires t c =
         keeps = r.2;
       },
     )
-
-pub items-slice_bounds-add-end : goal.items-slice_bounds-add-end
-items-slice_bounds-add-end t c =
-    sym (c.below-sum.ensures.counts ∙ length-replicate {A = ℕ} 32 0)
 
 pub items-add-requires : goal.items-add-requires
 items-add-requires t c =
@@ -395,18 +179,6 @@ items-loop-rest-preserved t c =
           let u = turned-for G choice c.lowest-x.result d (c.args.at.left - 1) c.requires.0.listed lo deep c.put-chosen.ensures c.settle.ensures c.failed-closed.ensures c.less.ensures c.below-sum.ensures zeros-none r.1 r.2 in
           (λ l a. rw (c.less-rest.ensures, c.item.ensures, c.add.ensures.each l a) (turn-next G (u.items l a) _ (r.0 l a) x (c.lowest-x.ensures.found x)), u.caches, u.keeps),
     )
-
-pub items-shape_of-cache : goal.items-shape_of-cache
-items-shape_of-cache t c =
-    c.loop-rest.invariant.0
-
-pub items-shape_of-kept : goal.items-shape_of-kept
-items-shape_of-kept t c =
-    c.loop-rest.invariant.1
-
-pub items-shape_of-breaking : goal.items-shape_of-breaking
-items-shape_of-breaking t c =
-    c.loop-rest.invariant.2
 
 pub items-returns : goal.items-returns
 items-returns t c =

@@ -2,101 +2,25 @@
 -- Assumes nothing.
 use mathlib.Core.Path.{◌≡◌, refl, ◌∙◌}
 use mathlib.Core.Bool.{true}
-use Prim.Native.Nat.{ℕ, ◌<◌, ◌≤◌, ◌+◌, ◌^◌}
+use Prim.Native.Nat.{ℕ, ◌<◌, ◌≤◌, ◌+◌}
 use native.Mathlib.Omega.{arith}
-use borrow.Author.Rules.{rules}
 use lib.ListN.{length, get_or, length-replicate}
 use Rattle.words.specs.Words.{has}
 use Rattle.words.proofs.LoopLaws.{lowest-item, less-smaller}
 use Rattle.walks.specs.Code.Kept.{choice_of}
-use Rattle.judging.specs.Code.Planning.{sets_from}
 use Rattle.judging.specs.Code.Counting.{depth_of}
-use Rattle.judging.proofs.CountingLaws.{plan-runs, set-small, set-in}
+use Rattle.judging.proofs.CountingLaws.{plan-runs, set-in}
 use Rattle.sharing.specs.Code.Lines.{CountedFor}
-use Rattle.sharing.proofs.WalkLaws.{some_line, zeros-none, adds-last, outside-closed, ranged, turn-start, turn_end, turn-next, turn-room, last-for}
+use Rattle.sharing.proofs.WalkLaws.{some_line, zeros-none, adds-last, outside-closed, ranged, turn_end, turn-next, turn-room, last-for}
 use Rattle.sharing.proofs.counting.last.Goals as goal
-
-pub bounds-plan-850 : goal.bounds-plan-850
-bounds-plan-850 c =
-    omega (arith, c.requires.0.is.grouped.planned.long)
-
-pub overflow_sub-d : goal.overflow_sub-d
-overflow_sub-d c =
-    omega (arith, c.requires.0.is.within)
-
-pub overflow_add-v : goal.overflow_add-v
-overflow_add-v c =
-    omega (arith, c.requires.0.is.grouped.planned.turns.many, c.requires.0.is.grouped.planned.turns.short)
-
-pub offset_bounds-plan-d : goal.offset_bounds-plan-d
-offset_bounds-plan-d c =
-    omega (arith, c.requires.0.is.grouped.planned.turns.many, c.requires.0.is.grouped.planned.turns.short)
-
-pub bounds-plan-d : goal.bounds-plan-d
-bounds-plan-d c =
-    omega (arith, c.requires.0.is.grouped.planned.turns.many, c.requires.0.is.grouped.planned.turns.short, c.requires.0.is.grouped.planned.long)
-
-pub overflow_add-rest : goal.overflow_add-rest
-overflow_add-rest c =
-    omega (arith, c.requires.0.is.grouped.planned.turns.many, c.requires.0.is.grouped.planned.turns.short)
-
-pub offset_bounds-plan-d-2 : goal.offset_bounds-plan-d-2
-offset_bounds-plan-d-2 c =
-    omega (arith, c.requires.0.is.grouped.planned.turns.many, c.requires.0.is.grouped.planned.turns.short)
-
-pub bounds-plan-d-2 : goal.bounds-plan-d-2
-bounds-plan-d-2 c =
-    omega (arith, c.requires.0.is.grouped.planned.turns.many, c.requires.0.is.grouped.planned.turns.short, c.requires.0.is.grouped.planned.long)
-
-pub offset_bounds-cache-plan : goal.offset_bounds-cache-plan
-offset_bounds-cache-plan c =
-    omega (arith, set-small c.requires.0.is.grouped.planned (depth_of c.args.plan.now c.args.at.left) (omega (arith, c.requires.0.is.grouped.planned.turns.many, c.requires.0.is.within, c.requires.1)))
-
-pub bounds-cache-plan : goal.bounds-cache-plan
-bounds-cache-plan c =
-    omega (arith, set-small c.requires.0.is.grouped.planned (depth_of c.args.plan.now c.args.at.left) (omega (arith, c.requires.0.is.grouped.planned.turns.many, c.requires.0.is.within, c.requires.1)), c.requires.0.is.room)
-
-pub loop-rest-init : goal.loop-rest-init
-loop-rest-init c =
-    let d : ℕ = depth_of c.args.plan.now c.args.at.left in
-    let w : ℕ = get_or c.args.cache.now (get_or c.args.plan.now (sets_from + d) 0) 0 in
-    let fit : w < 2 ^ 64 = omega (arith, c.slice_known-3-1.given (get_or c.args.plan.now (sets_from + d) 0)) in
-    (refl, refl, fit, λ l a. refl, λ h G st. (λ l a. turn-start G l d c.args.at.choice w fit _ (c.requires.0.is.none l a), st))
-
-pub lowest-x-requires : goal.lowest-x-requires
-lowest-x-requires c = search rules
-
-pub item-requires : goal.item-requires
-item-requires c = search rules
-
-pub less-rest-requires : goal.less-rest-requires
-less-rest-requires c = search rules
-
-pub put-chosen-requires : goal.put-chosen-requires
-put-chosen-requires c =
-    let l = lowest-item c.loop-rest.invariant.2 c.loop-rest-test.true c.lowest-x.ensures in
-    let d : ℕ = depth_of c.args.plan.now c.args.at.left in
-    let lo : d < length c.requires.0.is.held.layout.order = omega (arith, c.requires.0.is.grouped.planned.turns.many, c.requires.0.is.within, c.requires.1) in
-    (omega (arith, c.requires.0.is.grouped.planned.turns.variables d lo, c.requires.0.is.grouped.planned.turns.known d lo, c.requires.0.is.grouped.planned.turns.few), omega arith)
-
-pub overflow_add-d : goal.overflow_add-d
-overflow_add-d c =
-    omega (arith, c.requires.0.is.grouped.planned.turns.many, c.requires.0.is.grouped.planned.turns.short)
 
 pub settle-requires : goal.settle-requires
 settle-requires c =
     (c.requires.0.is.grouped.planned.whole, plan-runs c.requires.0.is.grouped.planned, c.loop-rest.invariant.0 ∙ c.requires.0.is.room, omega (arith, c.requires.0.is.grouped.planned.turns.many, c.requires.0.is.grouped.planned.turns.short, c.requires.0.is.within, c.requires.1))
 
-pub overflow_add-d-in-loop-rest : goal.overflow_add-d-in-loop-rest
-overflow_add-d-in-loop-rest c =
-    omega (arith, c.requires.0.is.grouped.planned.turns.many, c.requires.0.is.grouped.planned.turns.short)
-
 pub failed-closed-requires : goal.failed-closed-requires
 failed-closed-requires c =
     (plan-runs c.requires.0.is.grouped.planned, c.settle.auto.cache ∙ c.loop-rest.invariant.0 ∙ c.requires.0.is.room, c.requires.0.is.listed, ranged c.requires.0.is.grouped c.requires.0.is.long)
-
-pub slice_bounds-add-end : goal.slice_bounds-add-end
-slice_bounds-add-end c = refl
 
 pub add-requires : goal.add-requires
 add-requires c =
@@ -143,14 +67,6 @@ loop-rest-preserved c =
           let u = last-for G choice c.lowest-x.result d c.requires.0.is.listed lo end c.put-chosen.ensures c.settle.ensures c.failed-closed.ensures r.1 in
           (λ l a. rw (c.less-rest.ensures, c.item.ensures, adds-last c.add.ensures l) (turn-next G (u.0 l a) _ (r.0 l a) x (c.lowest-x.ensures.found x)), u.1),
     )
-
-pub shape_of-cache : goal.shape_of-cache
-shape_of-cache c =
-    c.loop-rest.invariant.0
-
-pub shape_of-breaking : goal.shape_of-breaking
-shape_of-breaking c =
-    c.loop-rest.invariant.1
 
 pub returns : goal.returns
 returns c =

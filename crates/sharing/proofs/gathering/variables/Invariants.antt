@@ -1,12 +1,7 @@
--- `variables` walks over one clause after the other: the loop has the variables of the first i.
+-- `variables` walks over one clause after the other: the loop has the variables of the clauses before k.
 -- Assumes nothing.
-use Prim.Native.Nat.{◌-◌, ◌≤◌}
-use lib.ListN.{length}
 use Rattle.sharing.specs.Code.Gathering.{Varied}
 use Rattle.sharing.proofs.gathering.variables.Given as goal
 
-abbrev pub invariant-loop-i : goal.invariant-loop-i
-invariant-loop-i l = (l.i ≤ length l.list) × Varied l.nodes l.n l.list l.i l.vars l.count
-
-abbrev pub decreases-loop-i : goal.decreases-loop-i
-decreases-loop-i l = length l.list - l.i
+abbrev pub invariant-loop-k : goal.invariant-loop-k
+invariant-loop-k l = Varied l.nodes l.n l.list l.k-index l.vars l.count

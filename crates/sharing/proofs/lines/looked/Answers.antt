@@ -7,7 +7,7 @@ use native.Mathlib.Omega.{arith}
 use lib.Dec.{lit<}
 use lib.ListN.{length, length-set}
 use Rattle.words.proofs.WordsLaws.{has-zero, join-lt}
-use Rattle.sharing.proofs.LineLaws.{going_start, Turn, turn, key-at, hit-is}
+use Rattle.sharing.proofs.LineLaws.{going_start, turn, key-at, hit-is}
 use Rattle.sharing.proofs.LookedLaws.{Seen, Unseen, hit-on, miss-on, seen_all}
 use Rattle.sharing.proofs.lines.looked.Goals as goal
 
@@ -19,58 +19,25 @@ loop-rest-init c = (
       (Unseen c.args.lines.now c.args.kept.now c.args.at.many (c.args.d - 1) c.args.at.choice c.args.breaking.now c.args.breaking.now 0) c.requires.0 (λ l. (has-zero l, refl)),
 )
 
-pub overflow_mul-l : goal.overflow_mul-l
-overflow_mul-l c =
-    let here : Turn c.args.at.active c.args.at.many c.loop-rest.rest c.lowest-l.result = turn c.requires.0 c.loop-rest.invariant.2 c.loop-rest-test.true c.lowest-l.ensures in
-    omega (arith, here.few)
-
-pub overflow_add-l : goal.overflow_add-l
-overflow_add-l c =
-    let here : Turn c.args.at.active c.args.at.many c.loop-rest.rest c.lowest-l.result = turn c.requires.0 c.loop-rest.invariant.2 c.loop-rest-test.true c.lowest-l.ensures in
-    omega (arith, here.few, c.requires.3)
-
-pub offset_bounds-lines-l : goal.offset_bounds-lines-l
-offset_bounds-lines-l c =
-    let here : Turn c.args.at.active c.args.at.many c.loop-rest.rest c.lowest-l.result = turn c.requires.0 c.loop-rest.invariant.2 c.loop-rest-test.true c.lowest-l.ensures in
-    omega (arith, here.few, c.requires.3)
-
 pub bounds-lines-l : goal.bounds-lines-l
 bounds-lines-l c =
-    let here : Turn c.args.at.active c.args.at.many c.loop-rest.rest c.lowest-l.result = turn c.requires.0 c.loop-rest.invariant.2 c.loop-rest-test.true c.lowest-l.ensures in
-    omega (arith, here.few, c.requires.1, c.requires.3)
+    omega (arith, (turn c.requires.0 c.loop-rest.invariant.2 c.loop-rest-test.true c.lowest-l.ensures).few, c.requires.1, c.requires.3)
 
 pub slot-place-requires : goal.slot-place-requires
 slot-place-requires c =
-    let here : Turn c.args.at.active c.args.at.many c.loop-rest.rest c.lowest-l.result = turn c.requires.0 c.loop-rest.invariant.2 c.loop-rest-test.true c.lowest-l.ensures in
-    (c.requires.0.few, c.requires.2, c.requires.3, here.few)
-
-pub hit-requires : goal.hit-requires
-hit-requires c =
-    c.slot-place.ensures.1
-
-pub taken-requires : goal.taken-requires
-taken-requires c =
-    let H = c.hit.ensures c.if-hit.true in
-    (c.slot-place.ensures.1, H.0, omega (arith, H.1))
-
-pub offset_bounds-breaking-l : goal.offset_bounds-breaking-l
-offset_bounds-breaking-l c =
-    let here : Turn c.args.at.active c.args.at.many c.loop-rest.rest c.lowest-l.result = turn c.requires.0 c.loop-rest.invariant.2 c.loop-rest-test.true c.lowest-l.ensures in
-    omega (arith, here.few)
+    (c.requires.0.few, c.requires.2, c.requires.3, (turn c.requires.0 c.loop-rest.invariant.2 c.loop-rest-test.true c.lowest-l.ensures).few)
 
 pub bounds-breaking-l : goal.bounds-breaking-l
 bounds-breaking-l c =
-    let here : Turn c.args.at.active c.args.at.many c.loop-rest.rest c.lowest-l.result = turn c.requires.0 c.loop-rest.invariant.2 c.loop-rest-test.true c.lowest-l.ensures in
-    omega (arith, here.few, c.requires.4, c.loop-rest.invariant.1)
+    omega (arith, (turn c.requires.0 c.loop-rest.invariant.2 c.loop-rest-test.true c.lowest-l.ensures).few, c.requires.4, c.loop-rest.invariant.1)
 
 pub loop-rest-smaller-then-hit : goal.loop-rest-smaller-then-hit
 loop-rest-smaller-then-hit c =
-    let here : Turn c.args.at.active c.args.at.many c.loop-rest.rest c.lowest-l.result = turn c.requires.0 c.loop-rest.invariant.2 c.loop-rest-test.true c.lowest-l.ensures in
-    rw (c.less-rest.ensures, c.item.ensures) here.less
+    rw (c.less-rest.ensures, c.item.ensures) (turn c.requires.0 c.loop-rest.invariant.2 c.loop-rest-test.true c.lowest-l.ensures).less
 
 pub loop-rest-preserved-then-hit : goal.loop-rest-preserved-then-hit
 loop-rest-preserved-then-hit c =
-    let here : Turn c.args.at.active c.args.at.many c.loop-rest.rest c.lowest-l.result = turn c.requires.0 c.loop-rest.invariant.2 c.loop-rest-test.true c.lowest-l.ensures in
+    let here = turn c.requires.0 c.loop-rest.invariant.2 c.loop-rest-test.true c.lowest-l.ensures in
     let l : ℕ = c.lowest-l.result in
     let now : List ℕ = c.loop-rest.breaking in
     let H = c.hit.ensures c.if-hit.true in
@@ -87,21 +54,15 @@ loop-rest-preserved-then-hit c =
 
 pub loop-rest-smaller : goal.loop-rest-smaller
 loop-rest-smaller c =
-    let here : Turn c.args.at.active c.args.at.many c.loop-rest.rest c.lowest-l.result = turn c.requires.0 c.loop-rest.invariant.2 c.loop-rest-test.true c.lowest-l.ensures in
-    rw (c.less-rest.ensures, c.item.ensures) here.less
+    rw (c.less-rest.ensures, c.item.ensures) (turn c.requires.0 c.loop-rest.invariant.2 c.loop-rest-test.true c.lowest-l.ensures).less
 
 pub loop-rest-preserved : goal.loop-rest-preserved
 loop-rest-preserved c =
-    let here : Turn c.args.at.active c.args.at.many c.loop-rest.rest c.lowest-l.result = turn c.requires.0 c.loop-rest.invariant.2 c.loop-rest-test.true c.lowest-l.ensures in
     rw (c.join-missing.ensures, c.item-else-hit.ensures, c.less-rest.ensures, c.item.ensures) (
       join-lt c.loop-rest.missing _,
       c.loop-rest.invariant.1,
-      miss-on c.args.lines.now c.args.kept.now c.args.at.many (c.args.d - 1) c.args.at.choice c.args.breaking.now c.loop-rest.breaking c.loop-rest.missing c.loop-rest.invariant.0 here c.loop-rest.invariant.2,
+      miss-on c.args.lines.now c.args.kept.now c.args.at.many (c.args.d - 1) c.args.at.choice c.args.breaking.now c.loop-rest.breaking c.loop-rest.missing c.loop-rest.invariant.0 (turn c.requires.0 c.loop-rest.invariant.2 c.loop-rest-test.true c.lowest-l.ensures) c.loop-rest.invariant.2,
     )
-
-pub shape_of-breaking : goal.shape_of-breaking
-shape_of-breaking c =
-    c.loop-rest.invariant.1
 
 pub returns : goal.returns
 returns c =

@@ -2,29 +2,12 @@
 -- Assumes nothing.
 use mathlib.Core.Path.{◌≡◌, refl, sym, ◌∙◌}
 use native.Mathlib.Omega.{arith}
-use Prim.Native.Nat.{◌*◌, ◌≤◌}
 use lib.ListN.{length}
-use lib.Seq.{length-take-le}
 use Rattle.sharing.specs.Code.Together.{no, yes}
 use Rattle.judging.proofs.WalkingLaws.{vars-long, tested}
-use Rattle.sharing.proofs.LineLaws.{mul-le}
 use Rattle.sharing.proofs.TogetherLaws.{plotted, starting, counts_all}
 use borrow.Author.Rules.{rules}
 use Rattle.sharing.proofs.together.counts.Goals as goal
-
-pub slice_bounds-order-end : goal.slice_bounds-order-end
-slice_bounds-order-end c =
-    sym (length-take-le _ _ c.requires.lent_by.0.few)
-
-pub slice_bounds-vars-end : goal.slice_bounds-vars-end
-slice_bounds-vars-end c =
-    let vars-room : length c.args.parsed.vars ≡ 8 = search rules in
-    omega (arith, c.requires.lent_by.0.few, vars-room)
-
-pub slice_bounds-names-end-2 : goal.slice_bounds-names-end-2
-slice_bounds-names-end-2 c =
-    let vars-room : length c.args.parsed.vars ≡ 8 = search rules in
-    sym (vars-long c.requires.lent_by.0 vars-room)
 
 pub returns-then-not-ordered : goal.returns-then-not-ordered
 returns-then-not-ordered c = no
@@ -37,18 +20,10 @@ lay_first-many_choices-requires c =
 pub returns-then-many_choices-eq0 : goal.returns-then-many_choices-eq0
 returns-then-many_choices-eq0 c = no
 
-pub returns-then-many_choices-gt-MOST_CHOICES : goal.returns-then-many_choices-gt-MOST_CHOICES
-returns-then-many_choices-gt-MOST_CHOICES c = no
-
 pub lay-requires : goal.lay-requires
 lay-requires c =
     let vars-room : length c.args.parsed.vars ≡ 8 = search rules in
     (plotted c.requires.lent_by.0 c.lay_first-many_choices.ensures.lays (vars-long c.requires.lent_by.0 vars-room), c.requires.lent_by.3, c.requires.lent_by.1, refl)
-
-pub overflow_mul-many : goal.overflow_mul-many
-overflow_mul-many c =
-    let small : c.args.many * c.args.parsed.count ≤ 32 * 8 = mul-le _ _ 32 8 c.requires.lent_by.3 c.requires.lent_by.0.few in
-    omega (arith, small)
 
 pub all-requires : goal.all-requires
 all-requires c =
