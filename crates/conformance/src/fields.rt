@@ -3,10 +3,8 @@
 ghost use Rattle.std.specs.Prelude.{◌≡◌, ◌≤◌, ◌*◌, length};
 
 use crate::output::word;
-use protocol::Taken;
 use std::io;
 use std::io::{Stdout, Write};
-use texts::Span;
 
 // No output is longer.
 const LENGTHS: usize = 65536;
@@ -19,21 +17,15 @@ pub const MOST: usize = 4294967295;
 
 // Whether the line begins with this name.
 pub fn is_named(line: &[u8], name: &[u8]) -> bool {
-    let Span::Found { from, to } = texts::field(line, 0) else {
+    let Some(first) = texts::field(line, 0) else {
         return false;
     };
-    &line[from..to] == name
+    &line[first] == name
 }
 
 // Whether the line begins with this name and has no more than this many fields.
 pub fn is_command(line: &[u8], name: &[u8], count: usize) -> bool {
-    if !is_named(line, name) {
-        return false;
-    }
-    let Span::Missing = texts::field(line, count) else {
-        return false;
-    };
-    true
+    is_named(line, name) && texts::field(line, count).is_none()
 }
 
 // A field that was read: the first n of the lent bytes, or the number n; 0 where it is malformed.
@@ -55,10 +47,10 @@ pub fn read_bytes(line: &[u8], k: usize, out: &mut [u8]) -> Field
     requires { length line.now ≤ 2 * length out.old }
     ensures { result.n ≤ length out.new }
 {
-    let Span::Found { from, to } = texts::field(line, k) else {
+    let Some(field) = texts::field(line, k) else {
         return Field { good: false, n: 0 };
     };
-    let Taken::Took(n) = protocol::read_bytes(&line[from..to], out) else {
+    let Some(n) = protocol::read_bytes(&line[field], out) else {
         return Field { good: false, n: 0 };
     };
     Field { good: true, n }
@@ -68,10 +60,10 @@ pub fn read_bytes(line: &[u8], k: usize, out: &mut [u8]) -> Field
 pub fn read_number(line: &[u8], k: usize, most: usize) -> Field
     requires { most ≤ 4294967295 }
 {
-    let Span::Found { from, to } = texts::field(line, k) else {
+    let Some(field) = texts::field(line, k) else {
         return Field { good: false, n: 0 };
     };
-    let Taken::Took(n) = protocol::read_number(&line[from..to], most) else {
+    let Some(n) = protocol::read_number(&line[field], most) else {
         return Field { good: false, n: 0 };
     };
     Field { good: true, n }
@@ -101,9 +93,9 @@ pub fn read_word(text: &[u8]) -> Word {
     if text.len() != DIGITS {
         return Word { good: false, w: 0 };
     }
-    let Taken::Took(_) = protocol::read_bytes(text, &mut bytes) else {
+    if protocol::read_bytes(text, &mut bytes).is_none() {
         return Word { good: false, w: 0 };
-    };
+    }
     Word {
         good: true,
         w: word(&bytes, 0),

@@ -7,14 +7,13 @@ use crate::commands::unknown;
 use crate::fields::{MOST, Word, read_bytes, read_length, read_number, read_word, room};
 use std::io;
 use std::io::Stdout;
-use texts::Span;
 
 // The reader's word, in field 2.
 fn users(line: &[u8]) -> Word {
-    let Span::Found { from, to } = texts::field(line, 2) else {
+    let Some(field) = texts::field(line, 2) else {
         return Word { good: false, w: 0 };
     };
-    read_word(&line[from..to])
+    read_word(&line[field])
 }
 
 // Makes the call, with the rules that were read.

@@ -6,10 +6,8 @@ use crate::calls::{next_state, print_refused, untouched};
 use crate::fields::{MOST, read_word};
 use crate::output::{print_decimal, word};
 use changes::Change;
-use protocol::Taken;
 use std::io;
 use std::io::{Stdout, Write};
-use texts::Span;
 use verdicts::sheet;
 
 // The field of the first call.
@@ -25,7 +23,7 @@ pub enum Asked {
 
 // A number, which a call takes.
 fn closing(number: &[u8]) -> Asked {
-    let Taken::Took(n) = protocol::read_number(number, MOST) else {
+    let Some(n) = protocol::read_number(number, MOST) else {
         return Asked::Malformed;
     };
     Asked::Asks(Change::Closing(n as u32))
@@ -37,7 +35,7 @@ fn opening(text: &[u8]) -> Asked {
     if colon == text.len() {
         return Asked::Malformed;
     }
-    let Taken::Took(user) = protocol::read_number(&text[..colon], MOST) else {
+    let Some(user) = protocol::read_number(&text[..colon], MOST) else {
         return Asked::Malformed;
     };
     let digits = colon + 1;
@@ -69,10 +67,10 @@ fn change(text: &[u8]) -> Asked {
 
 // What field k of the line asks for.
 pub fn change_in(line: &[u8], k: usize) -> Asked {
-    let Span::Found { from, to } = texts::field(line, k) else {
+    let Some(field) = texts::field(line, k) else {
         return Asked::Missing;
     };
-    change(&line[from..to])
+    change(&line[field])
 }
 
 // Whether every field behind the rule asks for a call. A line has no more fields than bytes, and one.

@@ -9,8 +9,8 @@ use lib.ListN.{length, get_or, get_elem?, take, drop, drop_of_length-le}
 use Rattle.syntax.specs.Bytes.{Bytes}
 use Rattle.texts.specs.Pieces.{split, lines}
 use Rattle.texts.specs.Code.Spans.{Spans, Sought}
-use Rattle.texts.specs.declared.Span.{Span}
-use Rattle.texts.specs.declared.Span.TheVariants.{Missing, Found}
+use Rattle.std.specs.Prelude.{Some, None}
+use Rattle.std.specs.declared.ops.Range.{Range}
 use Rattle.texts.proofs.SpansLaws.{next-line, lies, missing}
 use Rattle.pages.specs.Code.Parts.{line_at, Counted, Counting}
 
@@ -25,13 +25,13 @@ at_some [] k d h = absurd (omega arith)
 at_some (x ∷ ws) zero d h = refl
 at_some (x ∷ ws) (suc k) d h = at_some ws k d (omega arith)
 
-module _ (page : Bytes) (k : ℕ) {p : Span} (s : Spans page (get_elem? (lines page) k) p) where
-  pub line-is : {a e : ℕ} → p ≡ Found a e → line_at page k ≡ take (e - a) (drop a page)
-  line-is q = some_at (lines page) k [] (lies s q).bytes
+module _ (page : Bytes) (k : ℕ) where
+  pub line-is : {p : Range ℕ} → Spans page (get_elem? (lines page) k) (Some p) → line_at page k ≡ take (p.end - p.start) (drop p.start page)
+  line-is s = some_at (lines page) k [] (lies s).bytes
 
-  pub line-there : {A : Type 0} → p ≡ Missing → k < length (lines page) → A
-  line-there q h =
-      let z : ◌≡◌ {A = ℕ} 0 1 = cc (at_some (lines page) k [] h, missing s q) in
+  pub line-there : {A : Type 0} → Spans page (get_elem? (lines page) k) None → k < length (lines page) → A
+  line-there s h =
+      let z : ◌≡◌ {A = ℕ} 0 1 = cc (at_some (lines page) k [] h, missing s) in
       absurd (omega arith)
 
 -- Counting lines: one more, all.

@@ -10,7 +10,6 @@ ghost use Rattle.pages.specs.Code.Parts.{sheet_room, slot_room, line_at, first_w
 
 use crate::{PAGE_LIMIT, Refused};
 use answers::Refusal;
-use texts::Span;
 
 // No formula has more bytes.
 const SHEET: usize = 4096;
@@ -44,10 +43,10 @@ fn part_at(page: &[u8], k: usize, out: &mut [u8]) -> Result<usize, Refusal>
     requires sheet_room_in_bounds { sheet_room ≤ length out.old }
     ensures { PartSays (line_at page.now k) out.new result }
 {
-    let Span::Found { from, to } = texts::line(page, k) else {
+    let Some(line) = texts::line(page, k) else {
         return Err(Refusal::NotARule);
     };
-    part_of(&page[from..to], out)
+    part_of(&page[line], out)
 }
 
 // Puts a short part in slot k.

@@ -10,7 +10,6 @@ use crate::PAGE_LIMIT;
 use rules::{CHOICES_LIMIT, Parsed};
 use sharing::gathering::{ROOM, Size};
 use sharing::{gathering, together};
-use texts::Span;
 
 // So many slots are kept for lines: one for each line and variable but the first.
 const SLOTS: usize = 64;
@@ -76,10 +75,10 @@ fn gather(
     while rest != 0 {
         let j = words::lowest(rest);
         rest = words::less(rest, words::item(j));
-        let Span::Found { from, to } = texts::line(page, j) else {
+        let Some(line) = texts::line(page, j) else {
             return Gathered { size, lines };
         };
-        let Some(more) = gathering::add(&page[from..to], nodes, list, vars, size) else {
+        let Some(more) = gathering::add(&page[line], nodes, list, vars, size) else {
             return Gathered { size, lines };
         };
         size = more;

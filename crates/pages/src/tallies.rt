@@ -7,7 +7,6 @@ ghost use Rattle.pages.specs.Code.Parts.{Ready};
 ghost use Rattle.pages.specs.Code.Tallies.{Lanes, TalliesOn};
 
 use crate::{CHOICE, sheaves};
-use texts::Span;
 use verdicts::Verdict;
 
 // The verdict on a line, whose counts may be known.
@@ -41,11 +40,11 @@ pub fn tallied(
 {
     let known = sheaves::known(words, page, groups, many, fulls, breakings);
     for k in 0..many {
-        let Span::Found { from, to } = texts::line(page, k) else {
+        let Some(line) = texts::line(page, k) else {
             return;
         };
         let shared = words::contains(known, k);
-        let judged = verdict(words, &page[from..to], shared, fulls[k], breakings[k]);
+        let judged = verdict(words, &page[line], shared, fulls[k], breakings[k]);
         fulls[k] = judged.full;
         breakings[k] = judged.breaking;
         let first = judged.first;

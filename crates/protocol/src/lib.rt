@@ -6,73 +6,49 @@ ghost use Rattle.std.specs.Prelude.{◌≡◌, ◌≤◌, ◌<◌, ◌+◌, ◌*
 ghost use Rattle.texts.specs.Code.Overwritten.{Overwritten};
 ghost use Rattle.protocol.specs.Hex.{hex_digit, hex_value, hex_of, field_of, pairs, from_hex};
 ghost use Rattle.protocol.specs.Numbers.{value_of};
-ghost use Rattle.protocol.specs.Code.Taken.{Bytes, took, AtMost};
+ghost use Rattle.protocol.specs.Code.Taken.{Bytes, Digit, took, AtMost};
 
-// A field that was read: how many bytes it gave, or what number.
-#[derive(Clone, Copy)]
-pub enum Taken {
-    Malformed,
-    Took(usize),
-}
-
-// Writes the bytes that a field stands for.
-pub fn read_bytes(field: &[u8], out: &mut [u8]) -> Taken
+// Writes the bytes that a field stands for, and says how many.
+pub fn read_bytes(field: &[u8], out: &mut [u8]) -> Option<usize>
     requires { length field.now ≤ 2 * length out.old }
     ensures { Bytes (from_hex field.now) out.old out.new result }
 {
     if field.len() == 0 {
-        return Taken::Malformed;
+        return None;
     }
     if field.len() == 1 {
         if field[0] == b'-' {
-            return Taken::Took(0);
+            return Some(0);
         }
-        return Taken::Malformed;
+        return None;
     }
     read_pairs(field, out)
 }
 
-fn read_pairs(field: &[u8], out: &mut [u8]) -> Taken
+fn read_pairs(field: &[u8], out: &mut [u8]) -> Option<usize>
     requires { length field.now ≤ 2 * length out.old }
     ensures { Bytes (pairs field.now) out.old out.new result }
 {
-    let mut n = 0;
-    let mut at = 0;
-    while at + 1 < field.len() {
-        let high = value(field[at]);
-        let low = value(field[at + 1]);
-        if high >= 16 {
-            return Taken::Malformed;
-        }
-        if low >= 16 {
-            return Taken::Malformed;
-        }
+    let count = field.len() / 2;
+    for n in 0..count {
+        let high = value(field[2 * n])?;
+        let low = value(field[2 * n + 1])?;
         out[n] = 16 * high + low;
-        n += 1;
-        at += 2;
     }
-    if at < field.len() {
-        return Taken::Malformed;
+    if 2 * count < field.len() {
+        return None;
     }
-    Taken::Took(n)
+    Some(count)
 }
 
-fn value(c: u8) -> u8
-    ensures { result ≡ hex_value c }
+fn value(c: u8) -> Option<u8>
+    ensures { Digit (hex_value c) result }
 {
-    if c < 48 {
-        return 16;
+    match c {
+        b'0'..=b'9' => Some(c - b'0'),
+        b'a'..=b'f' => Some(c - b'a' + 10),
+        _ => None,
     }
-    if c <= 57 {
-        return c - 48;
-    }
-    if c < 97 {
-        return 16;
-    }
-    if c <= 102 {
-        return c - 87;
-    }
-    16
 }
 
 // Writes the field of the bytes b.
@@ -91,16 +67,11 @@ fn write_pairs(b: &[u8], out: &mut [u8]) -> usize
     requires { 2 * length b.now ≤ length out.old }
     ensures { Overwritten (hex_of b.now) out.old out.new result }
 {
-    let mut i = 0;
-    let mut at = 0;
-    while i < b.len() {
-        let x = b[i];
-        out[at] = digit(x / 16);
-        out[at + 1] = digit(x % 16);
-        i += 1;
-        at += 2;
+    for (i, x) in b.iter().enumerate() {
+        out[2 * i] = digit(*x / 16);
+        out[2 * i + 1] = digit(*x % 16);
     }
-    at
+    2 * b.len()
 }
 
 fn digit(d: u8) -> u8
@@ -111,36 +82,23 @@ fn digit(d: u8) -> u8
 }
 
 // The number that a field stands for, where it is at most so much.
-pub fn read_number(field: &[u8], most: usize) -> Taken
+pub fn read_number(field: &[u8], most: usize) -> Option<usize>
     requires { most ≤ 4294967295 }
     ensures { (result ≡ took (value_of most field.now)) × AtMost most result }
 {
     if field.len() == 0 {
-        return Taken::Malformed;
+        return None;
     }
     let mut n = 0;
-    let mut i = 0;
-    while i < field.len() {
-        let c = field[i];
-        if c < 48 {
-            return Taken::Malformed;
+    for &c in field {
+        if c < 48 || 57 < c {
+            return None;
         }
-        if 57 < c {
-            return Taken::Malformed;
-        }
-        let more = 10 * n + digit_value(c);
+        let more = 10 * n + (c - 48) as usize;
         if most < more {
-            return Taken::Malformed;
+            return None;
         }
         n = more;
-        i += 1;
     }
-    Taken::Took(n)
-}
-
-fn digit_value(c: u8) -> usize
-    requires { (48 ≤ c) × (c ≤ 57) }
-    ensures { result + 48 ≡ c }
-{
-    (c - 48) as usize
+    Some(n)
 }

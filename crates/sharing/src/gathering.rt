@@ -57,9 +57,7 @@ pub fn add(
     ensures { (κs : List Rule) → Sheaf κs nodes.old list.old vars.old size.n size.c size.count → Adds κs line.now nodes.new list.new vars.new size.n size.c size.count result }
 {
     let from = size.c;
-    let Some(listed) = syntax::clauses(line, nodes, size.n, &mut list[from..]) else {
-        return None;
-    };
+    let listed = syntax::clauses(line, nodes, size.n, &mut list[from..])?;
     let n = listed.n;
     let c = from + listed.count;
     if n + c > RULE_LIMIT {

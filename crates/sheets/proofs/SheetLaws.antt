@@ -1,7 +1,7 @@
 -- Laws of the line at a place: a sheet of one line, and the lines of the rules with their total.
 -- Assumes nothing.
 use mathlib.Core.Path.{◌≡◌, refl, sym, ap, ◌∙◌}
-use mathlib.Core.Bool.{true, false}
+use mathlib.Core.Bool.{true}
 use mathlib.Core.List.{List, [], ◌∷◌, ◌++◌}
 use mathlib.Core.Option.{Option, none, some}
 use Prim.Native.Nat.{ℕ, zero, suc, ◌+◌, ◌-◌, ◌≤◌, ◌<◌}
@@ -12,13 +12,13 @@ use lib.Dec.{eqb}
 use lib.ListN.{length, get_elem?, length-append}
 use Rattle.syntax.specs.Bytes.{Bytes}
 use Rattle.tables.specs.Tables.{Tables}
-use Rattle.texts.specs.declared.Span.{Span}
-use Rattle.texts.specs.declared.Span.TheVariants.{Missing, Found}
+use Rattle.std.specs.Prelude.{Option as Maybe, is_some}
+use Rattle.std.specs.declared.ops.Range.{Range}
 use Rattle.texts.specs.Pieces.{lines}
 use Rattle.texts.specs.Code.Overwritten.{Overwritten}
-use Rattle.texts.specs.Code.Spans.{Spans}
+use Rattle.texts.specs.Code.Spans.{Spans, no_piece, piece}
 use Rattle.texts.proofs.OverwrittenLaws.{none_written}
-use Rattle.texts.proofs.SpansLaws.{beyond, missing, lies}
+use Rattle.texts.proofs.SpansLaws.{beyond}
 use Rattle.verdicts.specs.Verdict.{turn_verdict}
 use Rattle.sheets.specs.Line.{line_text}
 use Rattle.sheets.specs.Total.{total_of, total_text}
@@ -113,8 +113,6 @@ module _ (rules : Bytes) (place : ℕ) (h : length (lines rules) < place) where
   pub first-foot : place ≡ 1 → true ≡ eqb place (length (lines rules) + 1)
   first-foot e = sym (eq-eqb place (length (lines rules) + 1) (omega arith))
 
-  pub next-foot : {p : Span} {a e : ℕ} → Spans rules (get_elem? (lines rules) (place - 2)) p → p ≡ Found a e → (place ≡ 1 → ⊥) → true ≡ eqb place (length (lines rules) + 1)
-  next-foot f q one = sym (eq-eqb place (length (lines rules) + 1) (omega (arith, within (lines rules) (place - 2) (lies f q).bytes, one)))
-
-  pub no-foot : {p : Span} → Spans rules (get_elem? (lines rules) (place - 2)) p → p ≡ Missing → (place ≡ 1 → ⊥) → false ≡ eqb place (length (lines rules) + 1)
-  no-foot f q one = sym (ne_eqb place (length (lines rules) + 1) (λ e. omega (arith, past (lines rules) (place - 2) (missing f q), one)))
+  pub next-foot : {p : Maybe (Range ℕ)} → Spans rules (get_elem? (lines rules) (place - 2)) p → (place ≡ 1 → ⊥) → is_some p ≡ eqb place (length (lines rules) + 1)
+  next-foot (piece a b w) one = sym (eq-eqb place (length (lines rules) + 1) (omega (arith, within (lines rules) (place - 2) w, one)))
+  next-foot (no_piece n) one = sym (ne_eqb place (length (lines rules) + 1) (λ e. omega (arith, past (lines rules) (place - 2) n, one)))

@@ -3,7 +3,6 @@
 #![tactic(auto)]
 
 use answers::Refusal;
-use texts::Span;
 
 mod text;
 pub mod total;
@@ -81,10 +80,10 @@ pub fn judged_line(words: &[u64], rules: &[u8], place: usize, out: &mut [u8]) ->
     if place == 0 {
         return 0;
     }
-    let Span::Found { from, to } = texts::line(rules, place - 1) else {
+    let Some(line) = texts::line(rules, place - 1) else {
         return foot(words, rules, place, out);
     };
-    rule_line(words, &rules[from..to], place, out)
+    rule_line(words, &rules[line], place, out)
 }
 
 // The total, straight behind the lines; nothing further.
@@ -108,10 +107,7 @@ fn is_foot(rules: &[u8], place: usize) -> bool
     if place == 1 {
         return true;
     }
-    let Span::Missing = texts::line(rules, place - 2) else {
-        return true;
-    };
-    false
+    texts::line(rules, place - 2).is_some()
 }
 
 // The line of one rule on accepted tables.

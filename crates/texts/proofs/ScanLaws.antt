@@ -1,33 +1,29 @@
--- Laws of `index_of` in a part of a text: its first byte is the one that is looked for, or is passed, or there is none.
+-- Laws of `index_of`: the place of the first such byte, or the number of all bytes.
 -- Assumes nothing.
-use mathlib.Core.Path.{◌≡◌, refl}
-use mathlib.Core.List.{List, ◌∷◌}
-use Prim.Native.Nat.{ℕ, suc, ◌+◌, ◌≤◌, ◌<◌}
+use mathlib.Core.Path.{◌≡◌, refl, sym, ap, ◌∙◌}
+use mathlib.Core.List.{List, [], ◌∷◌}
+use Prim.Native.Nat.{ℕ, zero, suc, ◌+◌, ◌-◌, ◌<◌, ◌≤◌}
 use native.Mathlib.Omega.{arith}
-use lib.ListN.{length, get_or, take, length-take}
-use lib.Seq.{length-take-le, drop-cons, get_or-take}
-use native.Mathlib.Numerals.{add-one}
-use lib.ListN.{drop_of_length-le}
 use borrow.Author.Tests.{eq-eqb, ne_eqb}
+use lib.ListN.{length, get_or, take, drop}
+use Rattle.std.proofs.lemmas.List.{drop-take}
 use Rattle.texts.specs.Scan.{slice, index_of}
 
--- A part that is not empty begins with its first byte.
-front : (s : List ℕ) (a b : ℕ) → a < b → b ≤ length s → slice a b s ≡ get_or s a 0 ∷ slice (a + 1) b s
+-- The first c among the bytes xs.
+pub index-first : (c n : ℕ) (xs : List ℕ) → n < length xs → ((k : ℕ) → k < n → get_or xs k 0 ≡ c → ⊥) → get_or xs n 0 ≡ c → index_of c xs ≡ n
+unfolding index_of
+index-first c n [] l f e = absurd (omega arith)
+index-first c zero (x ∷ xs) l f e = rw (eq-eqb x c e)
+index-first c (suc n) (x ∷ xs) l f e = rw (ne_eqb x c (f 0 (omega arith))) (ap suc (index-first c n xs (omega arith) (λ k h. f (suc k) (omega arith)) e))
+
+-- No c among them.
+pub index-free : (c : ℕ) (xs : List ℕ) → ((k : ℕ) → k < length xs → get_or xs k 0 ≡ c → ⊥) → index_of c xs ≡ length xs
+unfolding index_of
+index-free c [] f = refl
+index-free c (x ∷ xs) f = rw (ne_eqb x c (f 0 (omega arith))) (ap suc (index-free c xs (λ k h. f (suc k) (omega arith))))
+
+pub slice-take : (s : List ℕ) (a b : ℕ) → a ≤ b → take (b - a) (drop a s) ≡ slice a b s
 unfolding slice
-front s a b l h =
-    let n : a < length (take b s) = omega (arith, length-take-le b s h) in
-    rw (drop-cons (take b s) a 0 n, get_or-take b s a 0 l, add-one)
-
-pub here : (s : List ℕ) (a b c : ℕ) → a < b → b ≤ length s → get_or s a 0 ≡ c → index_of c (slice a b s) ≡ 0
-unfolding index_of
-here s a b c l h e = rw (front s a b l h, eq-eqb (get_or s a 0) c e) refl
-
-pub there : (s : List ℕ) (a b c : ℕ) → a < b → b ≤ length s → (get_or s a 0 ≡ c → ⊥) → index_of c (slice a b s) ≡ suc (index_of c (slice (a + 1) b s))
-unfolding index_of
-there s a b c l h n = rw (front s a b l h, ne_eqb (get_or s a 0) c n) refl
-
-pub end : (s : List ℕ) (a b c : ℕ) → b ≤ a → index_of c (slice a b s) ≡ 0
-unfolding slice index_of
-end s a b c h =
-    let n : length (take b s) ≤ a = omega (arith, length-take b s) in
-    rw (drop_of_length-le (take b s) {i = a} n)
+slice-take s a b l =
+    let e : a + (b - a) ≡ b = omega arith in
+    sym (ap (λ (m : ℕ). drop a (take m s)) (sym e) ∙ drop-take a (b - a) s)

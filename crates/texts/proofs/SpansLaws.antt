@@ -9,10 +9,8 @@ use native.Mathlib.Omega.{arith}
 use lib.ListN.{length, take, drop, get_elem?, length-drop, drop_of_length-le}
 use lib.Seq.{take-length, take_all, take-nil, drop-drop}
 use Rattle.texts.specs.Scan.{slice, index_of}
-use Rattle.texts.specs.declared.Span.{Span}
-use Rattle.texts.specs.declared.Span.TheVariants.{Missing, Found}
-use Rattle.texts.specs.declared.Start.{Start}
-use Rattle.texts.specs.declared.Start.TheVariants.{Nowhere, At}
+use Rattle.std.specs.Prelude.{Some, None}
+use Rattle.std.specs.declared.ops.Range.{Range}
 use Rattle.texts.specs.Pieces.{split, on_first, lines}
 use Rattle.texts.specs.Code.Spans.{Spans, no_piece, piece, Starts, no_start, start, Sought}
 use Rattle.texts.proofs.PiecesLaws.{split-first, split-few, split_one}
@@ -55,53 +53,49 @@ pub record Along (c k : ℕ) (s : List ℕ) (at n : ℕ) : Type 0 where
 pub along-first : (c k : ℕ) (s : List ℕ) → Along c k s 0 k
 along-first c k s = record { same = λ final. refl }
 
-pub along-next : {c k : ℕ} {s : List ℕ} {at e n : ℕ} → Along c k s at n → Sought c s at e → (e ≡ length s → ⊥) → 0 < n → Along c k s (e + 1) (n - 1)
-along-next {n = zero} a f x p = absurd (omega arith)
-along-next {n = suc n} a f x p =
-    let m : suc n - 1 ≡ n = omega arith in
-    record { same = λ final. a.same final ∙ rw (first_piece f final x, m) }
+pub along-next : {c k : ℕ} {s : List ℕ} {at e n m : ℕ} → Along c k s at n → Sought c s at e → (e ≡ length s → ⊥) → n ≡ suc m → Along c k s (e + 1) m
+along-next {m = m} a f x p =
+    record { same = λ final. a.same final ∙ rw (p, first_piece f final x) }
 
 pub beyond : (ws : List (List ℕ)) (n : ℕ) → length ws ≤ n → get_elem? ws n ≡ none
 beyond [] n h = refl
 beyond (w ∷ ws) zero h = absurd (omega arith)
 beyond (w ∷ ws) (suc n) h = beyond ws n (omega arith)
 
-pub along-none : {c k : ℕ} {s : List ℕ} {at e n : ℕ} → Along c k s at n → Sought c s at e → e ≡ length s → 0 < n → Starts c k s Nowhere
+pub along-none : {c k : ℕ} {s : List ℕ} {at e n : ℕ} → Along c k s at n → Sought c s at e → e ≡ length s → 0 < n → Starts c k s None
 along-none {c} {s = s} {at = at} {n = n} a f x p =
     no_start (λ final o. let l : length (split c final (drop at s)) ≤ n = omega (arith, few-pieces f final o x) in a.same final ∙ beyond (split c final (drop at s)) n l)
 
-pub along-start : {c k : ℕ} {s : List ℕ} {at n : ℕ} → at ≤ length s → Along c k s at n → n ≡ 0 → Starts c k s (At at)
+pub along-start : {c k : ℕ} {s : List ℕ} {at n : ℕ} → at ≤ length s → Along c k s at n → n ≡ 0 → Starts c k s (Some at)
 along-start h a z = start h (rw z at a.same)
 
 -- What an answer of the search for piece k says.
-pub at-nowhere : {c k : ℕ} {s : List ℕ} {p : Start} → Starts c k s p → p ≡ Nowhere → (final : List (List ℕ)) → length final ≤ 1 → Spans s (get_elem? (split c final s) k) Missing
-at-nowhere (no_start n) q final o = no_piece (n final o)
-at-nowhere (start h e) q final o = let z : ◌≡◌ {A = ℕ} 0 1 = cc in absurd (omega arith)
+pub at-nowhere : {c k : ℕ} {s : List ℕ} → Starts c k s None → (final : List (List ℕ)) → length final ≤ 1 → Spans s (get_elem? (split c final s) k) None
+at-nowhere (no_start n) final o = no_piece (n final o)
 
 pub record Begun (c k : ℕ) (s : List ℕ) (a : ℕ) : Type 0 where
   pub within : a ≤ length s
   pub same : (final : List (List ℕ)) → get_elem? (split c final s) k ≡ get_elem? (split c final (drop a s)) 0
 
-pub at-start : {c k : ℕ} {s : List ℕ} {p : Start} {a : ℕ} → Starts c k s p → p ≡ At a → Begun c k s a
-at-start (no_start n) q = let z : ◌≡◌ {A = ℕ} 0 1 = cc in absurd (omega arith)
-at-start {a = a} (start {a = b} h e) q = let x : b ≡ a = cc in record { within = rw x at h; same = rw x at e }
+pub at-start : {c k : ℕ} {s : List ℕ} {a : ℕ} → Starts c k s (Some a) → Begun c k s a
+at-start (start h e) = record { within = h; same = e }
 
 -- The piece that begins at a: up to the separator, or to the end.
-pub piece-found : {c k : ℕ} {s : List ℕ} {a e : ℕ} (final : List (List ℕ)) → Begun c k s a → Sought c s a e → ((e ≡ length s) → split c final (drop a s) ≡ take (e - a) (drop a s) ∷ []) → Spans s (get_elem? (split c final s) k) (Found a e)
+pub piece-found : {c k : ℕ} {s : List ℕ} {a e : ℕ} (final : List (List ℕ)) → Begun c k s a → Sought c s a e → ((e ≡ length s) → split c final (drop a s) ≡ take (e - a) (drop a s) ∷ []) → Spans s (get_elem? (split c final s) k) (Some (record { start = a; end = e }))
 piece-found {c} {k} {s} {a} {e} final b f one = go (ℕ_discrete e (length s))
   where
-    go : Dec (e ≡ length s) → Spans s (get_elem? (split c final s) k) (Found a e)
-    go (yes q) = piece f.low f.high (b.same final ∙ rw (one q))
-    go (no n) = piece f.low f.high (b.same final ∙ rw (first_piece f final n))
+    go : Dec (e ≡ length s) → Spans s (get_elem? (split c final s) k) (Some (record { start = a; end = e }))
+    go (yes q) = piece {p = record { start = a; end = e }} f.low f.high (b.same final ∙ rw (one q))
+    go (no n) = piece {p = record { start = a; end = e }} f.low f.high (b.same final ∙ rw (first_piece f final n))
 
-pub line-found : {k : ℕ} {s : List ℕ} {a e : ℕ} → Begun 10 k s a → Sought 10 s a e → (a ≡ length s → ⊥) → Spans s (get_elem? (split 10 [] s) k) (Found a e)
+pub line-found : {k : ℕ} {s : List ℕ} {a e : ℕ} → Begun 10 k s a → Sought 10 s a e → (a ≡ length s → ⊥) → Spans s (get_elem? (split 10 [] s) k) (Some (record { start = a; end = e }))
 line-found b f n = piece-found [] b f (λ q. one_piece f [] (λ x. refl) n q)
 
-pub no_line : {k : ℕ} {s : List ℕ} {a : ℕ} → Begun 10 k s a → a ≡ length s → Spans s (get_elem? (split 10 [] s) k) Missing
+pub no_line : {k : ℕ} {s : List ℕ} {a : ℕ} → Begun 10 k s a → a ≡ length s → Spans s (get_elem? (split 10 [] s) k) None
 unfolding split
 no_line {k} {s} {a} b q = no_piece (b.same [] ∙ rw (drop_of_length-le s {i = a} (omega arith)))
 
-pub field_found : {k : ℕ} {s : List ℕ} {a e : ℕ} → Begun 32 k s a → Sought 32 s a e → Spans s (get_elem? (split 32 ([] ∷ []) s) k) (Found a e)
+pub field_found : {k : ℕ} {s : List ℕ} {a e : ℕ} → Begun 32 k s a → Sought 32 s a e → Spans s (get_elem? (split 32 ([] ∷ []) s) k) (Some (record { start = a; end = e }))
 unfolding split
 field_found {k} {s} {a} {e} b f = piece-found ([] ∷ []) b f (λ q. go q (ℕ_discrete a (length s)))
   where
@@ -115,13 +109,8 @@ pub record Lies (s : List ℕ) (w : Option (List ℕ)) (a e : ℕ) : Type 0 wher
   pub high : e ≤ length s
   pub bytes : w ≡ some (take (e - a) (drop a s))
 
-pub lies : {s : List ℕ} {w : Option (List ℕ)} {p : Span} {a e : ℕ} → Spans s w p → p ≡ Found a e → Lies s w a e
-lies (no_piece n) q = let z : ◌≡◌ {A = ℕ} 0 1 = cc in absurd (omega arith)
-lies {a = a} {e = e} (piece {a = b} {e = f} l h t) q =
-    let x : b ≡ a = cc in
-    let y : f ≡ e = cc in
-    record { low = omega arith; high = omega arith; bytes = rw (x, y) at t }
+pub lies : {s : List ℕ} {w : Option (List ℕ)} {p : Range ℕ} → Spans s w (Some p) → Lies s w p.start p.end
+lies (piece l h t) = record { low = l; high = h; bytes = t }
 
-pub missing : {s : List ℕ} {w : Option (List ℕ)} {p : Span} → Spans s w p → p ≡ Missing → w ≡ none
-missing (no_piece n) q = n
-missing (piece l h t) q = let z : ◌≡◌ {A = ℕ} 0 1 = cc in absurd (omega arith)
+pub missing : {s : List ℕ} {w : Option (List ℕ)} → Spans s w None → w ≡ none
+missing (no_piece n) = n

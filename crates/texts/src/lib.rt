@@ -11,6 +11,8 @@ ghost use Rattle.texts.specs.Code.Spans.{Spans, Starts, Sought};
 
 pub mod scan;
 
+use std::ops::Range;
+
 // Writes the bytes of w.
 pub fn put(w: &[u8], out: &mut [u8]) -> usize
     requires { length w.now ≤ length out.old }
@@ -60,25 +62,15 @@ fn digit(d: u64) -> u8
     48 + d as u8
 }
 
-// A piece of a text: its first place and the place behind it.
-#[derive(Clone, Copy)]
-pub enum Span {
-    Missing,
-    Found { from: usize, to: usize },
-}
-
-// Line k of s, from 0.
-pub fn line(s: &[u8], k: usize) -> Span
+// The places of line k of s, from 0.
+pub fn line(s: &[u8], k: usize) -> Option<Range<usize>>
     ensures { Spans s.now (get_elem? (lines s.now) k) result }
 {
-    let Start::At(from) = seek(s, b'\n', k) else {
-        return Span::Missing;
-    };
+    let from = seek(s, b'\n', k)?;
     if from == s.len() {
-        return Span::Missing;
+        return None;
     }
-    let to = line_end(s, from);
-    Span::Found { from, to }
+    Some(from..line_end(s, from))
 }
 
 // Where the line that begins at `from` ends: at its byte 10, or where s ends.
@@ -89,36 +81,25 @@ pub fn line_end(s: &[u8], from: usize) -> usize
     scan::find(s, from, s.len(), b'\n')
 }
 
-// Field k of s, from 0.
-pub fn field(s: &[u8], k: usize) -> Span
+// The places of field k of s, from 0.
+pub fn field(s: &[u8], k: usize) -> Option<Range<usize>>
     ensures { Spans s.now (get_elem? (fields s.now) k) result }
 {
-    let Start::At(from) = seek(s, b' ', k) else {
-        return Span::Missing;
-    };
-    let to = scan::find(s, from, s.len(), b' ');
-    Span::Found { from, to }
-}
-
-#[derive(Clone, Copy)]
-enum Start {
-    Nowhere,
-    At(usize),
+    let from = seek(s, b' ', k)?;
+    Some(from..scan::find(s, from, s.len(), b' '))
 }
 
 // Where piece k of s starts, where the byte c separates pieces.
-fn seek(s: &[u8], c: u8, k: usize) -> Start
+fn seek(s: &[u8], c: u8, k: usize) -> Option<usize>
     ensures { Starts c k s.now result }
 {
     let mut at = 0;
-    let mut left = k;
-    while left > 0 {
+    for _ in 0..k {
         let end = scan::find(s, at, s.len(), c);
         if end == s.len() {
-            return Start::Nowhere;
+            return None;
         }
         at = end + 1;
-        left -= 1;
     }
-    Start::At(at)
+    Some(at)
 }

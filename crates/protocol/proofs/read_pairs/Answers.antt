@@ -1,28 +1,20 @@
 -- `protocol::read_pairs` writes the bytes of `pairs`. The invariant: the digits passed gave the n bytes written.
 -- Assumes nothing.
-use mathlib.Core.Path.{refl}
 use native.Mathlib.Omega.{arith}
-use borrow.Author.Rules.{rules}
-use Rattle.protocol.proofs.HexLaws.{paired_none, paired-next, no-high, no-low, odd-one, all-pairs}
+use Rattle.protocol.proofs.HexLaws.{paired-next, no-high, no-low, odd-one, all-pairs}
 use Rattle.protocol.proofs.read_pairs.Goals as goal
 
-pub loop-at-init : goal.loop-at-init
-loop-at-init c = (omega arith, omega arith, refl, paired_none _ _)
+pub returns-in_err-high : goal.returns-in_err-high
+returns-in_err-high c = rw c.from_residual.ensures (no-high c.loop-n.invariant (omega arith) c.in_err-high.ensures)
 
-pub returns-then-high-ge16 : goal.returns-then-high-ge16
-returns-then-high-ge16 c =
-    no-high c.loop-at.invariant.3 c.loop-at-test.true (rw c.value-high.ensures at c.if-high-ge16.true)
+pub returns-in_err-low : goal.returns-in_err-low
+returns-in_err-low c = rw c.from_residual-in_err-low.ensures (no-low c.loop-n.invariant (omega arith) c.in_ok-high.ensures.1 c.in_err-low.ensures)
 
-pub returns-then-low-ge16 : goal.returns-then-low-ge16
-returns-then-low-ge16 c =
-    no-low c.loop-at.invariant.3 c.loop-at-test.true (rw c.value-high.ensures at c.if-high-ge16.false) (rw c.value-low.ensures at c.if-low-ge16.true)
+pub loop-n-preserved : goal.loop-n-preserved
+loop-n-preserved c = paired-next c.loop-n.invariant (omega arith) c.in_ok-high.ensures c.in_ok-low.ensures (omega (arith, c.requires)) (omega arith)
 
-pub loop-at-preserved : goal.loop-at-preserved
-loop-at-preserved c =
-    (omega arith, omega arith, search rules, rw (c.value-high.ensures, c.value-low.ensures) (paired-next c.loop-at.invariant.3 c.loop-at-test.true (rw c.value-high.ensures at c.if-high-ge16.false) (rw c.value-low.ensures at c.if-low-ge16.false) (omega (arith, c.requires))))
-
-pub returns-then-at-field : goal.returns-then-at-field
-returns-then-at-field c = odd-one c.loop-at.invariant.3 c.if-at-field.true c.loop-at-test.false
+pub returns-then-count-field : goal.returns-then-count-field
+returns-then-count-field c = odd-one c.loop-n.invariant (omega arith) (omega arith)
 
 pub returns : goal.returns
-returns c = all-pairs c.loop-at.invariant.3 c.if-at-field.false
+returns c = all-pairs c.loop-n.invariant (omega arith) (omega arith)

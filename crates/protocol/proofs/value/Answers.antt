@@ -1,27 +1,20 @@
 -- `protocol::value` gives `hex_value`: each arm is one range of bytes.
 -- Assumes nothing.
-use Prim.Native.Nat.{◌<◌}
 use native.Mathlib.Omega.{arith}
-use borrow.Author.Tests.{le-leb, lt-leb}
-use Rattle.protocol.specs.Hex.{hex_value}
+use Rattle.protocol.proofs.HexLaws.{decimal-digit, letter-digit, below-digits, between-digits, above-digits}
 use Rattle.protocol.proofs.value.Goals as goal
 
-pub returns-then-c-lt48 : goal.returns-then-c-lt48
-unfolding hex_value
-returns-then-c-lt48 c = let l : c.args.c < 97 = omega arith in rw (lt-leb 48 _ c.if-c-lt48.true, lt-leb 97 _ l)
+pub returns-in-48-to-57 : goal.returns-in-48-to-57
+returns-in-48-to-57 c = let e = decimal-digit c.args.c (omega arith) (omega arith) in (omega (arith, e), omega (arith, e))
 
-pub returns-then-c-le57 : goal.returns-then-c-le57
-unfolding hex_value
-returns-then-c-le57 c = rw (le-leb 48 _ c.if-c-lt48.false, le-leb _ 57 c.if-c-le57.true)
+pub returns-in-97-to-102 : goal.returns-in-97-to-102
+returns-in-97-to-102 c = let e = letter-digit c.args.c (omega arith) (omega arith) in (omega (arith, e), omega (arith, e))
 
-pub returns-then-c-lt97 : goal.returns-then-c-lt97
-unfolding hex_value
-returns-then-c-lt97 c = rw (le-leb 48 _ c.if-c-lt48.false, lt-leb _ 57 c.if-c-le57.false, lt-leb 97 _ c.if-c-lt97.true)
+pub returns-in_default : goal.returns-in_default
+returns-in_default c = omega (arith, below-digits c.args.c (omega arith))
 
-pub returns-then-c-le102 : goal.returns-then-c-le102
-unfolding hex_value
-returns-then-c-le102 c = rw (le-leb 48 _ c.if-c-lt48.false, lt-leb _ 57 c.if-c-le57.false, le-leb 97 _ c.if-c-lt97.false, le-leb _ 102 c.if-c-le102.true)
+pub returns-in_default-2 : goal.returns-in_default-2
+returns-in_default-2 c = omega (arith, between-digits c.args.c (omega arith) (omega arith))
 
-pub returns : goal.returns
-unfolding hex_value
-returns c = rw (le-leb 48 _ c.if-c-lt48.false, lt-leb _ 57 c.if-c-le57.false, le-leb 97 _ c.if-c-lt97.false, lt-leb _ 102 c.if-c-le102.false)
+pub returns-in_default-3 : goal.returns-in_default-3
+returns-in_default-3 c = omega (arith, above-digits c.args.c (omega arith))

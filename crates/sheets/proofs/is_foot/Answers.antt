@@ -1,13 +1,11 @@
 -- `sheets::is_foot` finds the place straight behind the lines: it is 1, or there is a line before it.
 -- Assumes nothing.
-use Rattle.sheets.proofs.SheetLaws.{first-foot, next-foot, no-foot}
+use mathlib.Core.Path.{◌∙◌}
+use Rattle.sheets.proofs.SheetLaws.{first-foot, next-foot}
 use Rattle.sheets.proofs.is_foot.Goals as goal
 
 pub returns-then-place-eq1 : goal.returns-then-place-eq1
 returns-then-place-eq1 c = first-foot _ _ c.requires c.if-place-eq1.true
 
-pub returns-in_default : goal.returns-in_default
-returns-in_default c = next-foot _ _ c.requires c.line.ensures c.in_default.is c.if-place-eq1.false
-
 pub returns : goal.returns
-returns c = no-foot _ _ c.requires c.line.ensures c.in-Missing.is c.if-place-eq1.false
+returns c = c.is_some.ensures ∙ next-foot _ _ c.requires c.line.ensures c.if-place-eq1.false

@@ -3,7 +3,6 @@
 use Prim.Native.Nat.{◌<◌}
 use native.Mathlib.Omega.{arith}
 use lib.ListN.{length}
-use Rattle.texts.proofs.SpansLaws.{lies}
 use Rattle.sheets.proofs.JudgedLaws.{long-made, zero-made, no-line-at, found-made}
 use Rattle.sheets.proofs.judged_line.Goals as goal
 
@@ -17,20 +16,11 @@ returns-then-place-eq0 c = λ T H. zero-made T c.args.rules.now _ _ c.if-place-e
 
 pub foot-requires : goal.foot-requires
 foot-requires c =
-    record { loaded = c.requires.loaded; line_room_in_bounds = c.requires.line_room_in_bounds; rules_len_bound = (c.if-rules-gt-RULES_LIMIT.false, no-line-at c.args.rules.now c.args.place c.line.ensures c.in_default.is c.if-place-eq0.false) }
+    record { loaded = c.requires.loaded; line_room_in_bounds = c.requires.line_room_in_bounds; rules_len_bound = (c.if-rules-gt-RULES_LIMIT.false, no-line-at c.args.rules.now c.args.place c.in_default.ensures c.if-place-eq0.false) }
 
 pub returns-in_default : goal.returns-in_default
 returns-in_default c = c.foot.ensures
 
-pub slice_bounds-rule_line-count : goal.slice_bounds-rule_line-count
-slice_bounds-rule_line-count c = (lies c.line.ensures c.in-Found.is).low
-
-pub slice_bounds-rule_line-start : goal.slice_bounds-rule_line-start
-slice_bounds-rule_line-start c = (lies c.line.ensures c.in-Found.is).low
-
-pub slice_bounds-rule_line-end : goal.slice_bounds-rule_line-end
-slice_bounds-rule_line-end c = (lies c.line.ensures c.in-Found.is).high
-
 pub returns : goal.returns
 returns c =
-    λ T H. found-made T _ _ c.if-rules-gt-RULES_LIMIT.false c.if-place-eq0.false c.line.ensures c.in-Found.is (c.rule_line.ensures T H)
+    λ T H. found-made T _ _ c.if-rules-gt-RULES_LIMIT.false c.if-place-eq0.false c.in-Some.ensures (c.rule_line.ensures T H)

@@ -4,14 +4,11 @@ use native.Mathlib.Omega.{arith}
 use Rattle.texts.proofs.SpansLaws.{at-nowhere, at-start, line-found, no_line}
 use Rattle.texts.proofs.line.Goals as goal
 
-pub returns-in_default : goal.returns-in_default
-returns-in_default c = at-nowhere c.seek.ensures c.in_default.is _ (omega arith)
+pub returns-in_err-from : goal.returns-in_err-from
+returns-in_err-from c = rw c.from_residual.ensures (at-nowhere c.in_err-from.ensures _ (omega arith))
 
 pub returns-then-from-s : goal.returns-then-from-s
-returns-then-from-s c = no_line (at-start c.seek.ensures c.in-At.is) c.if-from-s.true
-
-pub line_end-to-requires : goal.line_end-to-requires
-line_end-to-requires c = (at-start c.seek.ensures c.in-At.is).within
+returns-then-from-s c = no_line (at-start c.in_ok-from.ensures) c.if-from-s.true
 
 pub returns : goal.returns
-returns c = line-found (at-start c.seek.ensures c.in-At.is) c.line_end-to.ensures c.if-from-s.false
+returns c = line-found (at-start c.in_ok-from.ensures) c.line_end.ensures c.if-from-s.false

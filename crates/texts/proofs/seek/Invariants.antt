@@ -1,12 +1,9 @@
--- `texts::seek` finds where piece k starts. The invariant: piece k of the text is piece `left` of what stands from `at` on.
+-- `texts::seek` finds where piece k starts. The invariant: behind the separators that were passed it is a piece of that many less.
 -- Assumes nothing.
-use Prim.Native.Nat.{◌≤◌}
+use Prim.Native.Nat.{◌≤◌, ◌-◌}
 use lib.ListN.{length}
 use Rattle.texts.proofs.SpansLaws.{Along}
 use Rattle.texts.proofs.seek.Given as goal
 
-abbrev pub invariant-loop-left : goal.invariant-loop-left
-invariant-loop-left l = (l.at ≤ length l.s) × Along l.c l.k l.s l.at l.left
-
-abbrev pub decreases-loop-left : goal.decreases-loop-left
-decreases-loop-left l = l.left
+abbrev pub invariant-loop : goal.invariant-loop
+invariant-loop l = (l.at ≤ length l.s) × Along l.c l.k l.s l.at (l.k - l.counter)

@@ -5,8 +5,8 @@ use Rattle.pages.proofs.parts.part_at.Goals as goal
 
 pub returns-in_default : goal.returns-in_default
 returns-in_default c =
-    line-there _ _ c.line.ensures c.in_default.is c.requires.k_in_bounds
+    line-there _ _ c.in_default.ensures c.requires.k_in_bounds
 
 pub returns : goal.returns
 returns c =
-    rw (line-is _ _ c.line.ensures c.in-Found.is) c.part_of.ensures
+    rw (line-is _ _ c.in-Some.ensures) c.part_of.ensures

@@ -12,7 +12,7 @@ loop-rest-init c =
 
 pub add-requires-clause-line_value : goal.add-requires-clause-line_value
 add-requires-clause-line_value c =
-    rw (← line-is _ _ c.line.ensures c.in-Found.is) (c.requires.0.accepted _ (next c.requires.0 c.loop-rest.invariant c.loop-rest-test.true c.lowest-j.ensures).wants)
+    rw (← line-is _ _ c.in-Some.ensures) (c.requires.0.accepted _ (next c.requires.0 c.loop-rest.invariant c.loop-rest-test.true c.lowest-j.ensures).wants)
 
 pub returns-in_default-add : goal.returns-in_default-add
 returns-in_default-add c =
@@ -29,12 +29,12 @@ bounds-starts-lines c =
 pub crowded-requires : goal.crowded-requires
 crowded-requires c =
     let N = next c.requires.0 c.loop-rest.invariant c.loop-rest-test.true c.lowest-j.ensures in
-    let G = gathers-more c.requires.0 c.loop-rest.invariant c.loop-rest-test.true c.lowest-j.ensures c.add.ensures c.in-Some.is (line-is _ _ c.line.ensures c.in-Found.is) in
+    let G = gathers-more c.requires.0 c.loop-rest.invariant c.loop-rest-test.true c.lowest-j.ensures c.add.ensures c.in-Some-add.is (line-is _ _ c.in-Some.ensures) in
     (omega (arith, N.room), G.sheaf.room.known)
 
 pub loop-rest-preserved-then-crowded : goal.loop-rest-preserved-then-crowded
 loop-rest-preserved-then-crowded c =
-    going_end (gathers-more c.requires.0 c.loop-rest.invariant c.loop-rest-test.true c.lowest-j.ensures c.add.ensures c.in-Some.is (line-is _ _ c.line.ensures c.in-Found.is))
+    going_end (gathers-more c.requires.0 c.loop-rest.invariant c.loop-rest-test.true c.lowest-j.ensures c.add.ensures c.in-Some-add.is (line-is _ _ c.in-Some.ensures))
 
 pub loop-rest-smaller : goal.loop-rest-smaller
 loop-rest-smaller c =
@@ -46,4 +46,4 @@ loop-rest-preserved c =
     let low = (next c.requires.0 c.loop-rest.invariant c.loop-rest-test.true c.lowest-j.ensures).low in
     rw (c.less-rest.ensures, c.item.ensures)
     (going_on c.args.wanted c.loop-rest.invariant.small c.loop-rest.invariant.inside c.loop-rest.invariant.behind c.lowest-j.ensures low
-    (gathers-more c.requires.0 c.loop-rest.invariant c.loop-rest-test.true c.lowest-j.ensures c.add.ensures c.in-Some.is (line-is _ _ c.line.ensures c.in-Found.is)))
+    (gathers-more c.requires.0 c.loop-rest.invariant c.loop-rest-test.true c.lowest-j.ensures c.add.ensures c.in-Some-add.is (line-is _ _ c.in-Some.ensures)))
