@@ -15,9 +15,11 @@ use Rattle.walks.specs.Code.Turning.{Descending}
 use Rattle.values.specs.Sets.{in_set, breaks}
 use Rattle.values.specs.Code.Plan.{plan_length, plan_room, levels_from}
 use Rattle.values.proofs.ClausesLaws.{clauses_of}
-use Rattle.judging.specs.Code.Lent.{vars_of, CaseBy, OrderList, InTurn}
+use Rattle.judging.specs.Code.Lent.{vars_of, CaseBy, LentBy, OrderList, InTurn}
 use Rattle.judging.specs.Code.Planning.{Layout, Planned, Caches, Keeps}
 use Rattle.judging.specs.Code.Counting.{no_choice}
+use Rattle.judging.specs.declared.walking.Walk.{Walk}
+use Rattle.judging.specs.declared.walking.Desk.{Desk}
 
 -- The list is an order of the rule's variables.
 pub record Ordered (p : Parsed) (order : List ℕ) : Type 0 where
@@ -58,6 +60,15 @@ pub record Stands (ts : List ℕ) (p : Parsed) (order : List ℕ) (e d mode choi
   pub room : length cache ≡ plan_room
   pub slots : length kept ≡ many
   pub ready : (T : Tables) (ρ : Rule) → CaseBy ts p T ρ → Ready ts plan T ρ order e d mode choice cache kept
+
+-- A walk's slices hold its parsed rule, and its order is one of the rule's variables.
+pub record Sound (w : Walk) : Type 0 where
+  pub lent : LentBy w.t.now w.parsed.now
+  pub ordered : Ordered w.parsed.now w.order.now
+
+-- A desk stands so for a walk.
+abbrev pub StandsFor : Walk → ℕ → ℕ → ℕ → ℕ → Desk → List ℕ → ℕ → Type 0
+StandsFor w e d mode choice k kept many = Stands w.t.now w.parsed.now w.order.now e d mode choice k.plan k.cache kept many
 
 -- The first breaking choice along the caller's order, where there is one, has its first d items in the choice r.
 abbrev pub Descends : List ℕ → Parsed → List ℕ → ℕ → ℕ → Type 0

@@ -5,22 +5,22 @@ use native.Mathlib.Omega.{arith}
 use Rattle.judging.proofs.WalkingLaws.{once-for, after-for}
 use Rattle.judging.proofs.CountingLaws.{plan-runs}
 use Rattle.judging.proofs.DescendLaws.{keeps-none, ready_on}
-use Rattle.judging.proofs.walking.turn.Goals as goal
+use Rattle.judging.proofs.walking.Desk.turn.Goals as goal
 
-pub returns-then-plan-d : goal.returns-then-plan-d
-returns-then-plan-d c =
-    record { small = c.requires.3.small; long = c.requires.3.long; room = c.requires.3.room; slots = c.requires.3.slots; ready = λ T ρ C. ready_on (once-for c.requires.0 c.requires.1 C) (after-for c.requires.0 c.requires.1 C) c.requires.2 c.if-plan-d.true (c.requires.3.ready T ρ C) }
+pub returns-then-self-d : goal.returns-then-self-d
+returns-then-self-d c =
+    record { small = c.requires.2.small; long = c.requires.2.long; room = c.requires.2.room; slots = c.requires.2.slots; ready = λ T ρ C. ready_on (once-for c.requires.0.lent c.requires.0.ordered C) (after-for c.requires.0.lent c.requires.0.ordered C) c.requires.1 c.if-self-d.true (c.requires.2.ready T ρ C) }
 
 pub entered-requires : goal.entered-requires
 entered-requires c =
-    (c.requires.0.lent.ready.whole, plan-runs (c.lay.ensures.along c.requires.0.lent.tables c.requires.0.lent.rule c.requires.0.lent.is_case).planned, c.requires.3.room, omega (arith, c.requires.2, c.requires.1.list.short))
+    (c.requires.0.lent.lent.ready.whole, plan-runs (c.lay.ensures.along c.requires.0.lent.lent.tables c.requires.0.lent.lent.rule c.requires.0.lent.lent.is_case).planned, c.requires.2.room, omega (arith, c.requires.1, c.requires.0.ordered.list.short))
 
 pub returns : goal.returns
 returns c =
     record {
       small = c.entered.ensures.modes;
       long = c.lay.ensures.long;
-      room = c.entered.ensures.room ∙ c.requires.3.room;
+      room = c.entered.ensures.room ∙ c.requires.2.room;
       slots = c.clear.ensures.0;
       ready = λ T ρ C.
           let A = c.lay.ensures.along T ρ C in
