@@ -37,6 +37,7 @@ use Rattle.values.proofs.ReadsLaws.{sets-read}
 use Rattle.judging.specs.Code.Planning.{order_from, sets_from, contexts_from, Layout, Planned, Caches, Keeps}
 use Rattle.judging.specs.Code.Counting.{depth_of, CountedAt, Entered, Enters, EntersTo, Standing, Stays, LeastAt, no_choice}
 use Rattle.judging.specs.Code.Walking.{Along, Lays, Ready, Stands}
+use Rattle.judging.specs.declared.walking.Walk.{Walk}
 use Rattle.judging.proofs.CountingLaws.{set-in, caches-on, below-whole}
 
 -- No item of w but those of rest counts.
@@ -93,23 +94,17 @@ module _ {ts plan : List ℕ} {y : Layout} {T : Tables} {ρ : Rule} (P : Planned
 -- ---- along the caller's order
 
 -- A plan was laid and its first level entered; so many slots are zeros.
-pub stands-first : (many : ℕ) {ts : List ℕ} {p : Parsed} {order : List ℕ} {e mode : ℕ} {plan cache cache' : List ℕ} → Lays ts p order e plan
-    → EntersTo ts plan 0 no_choice cache cache' mode → length cache ≡ plan_room → Stands ts p order e 0 mode no_choice plan cache' (replicate many 0) (length {A = ℕ} (replicate many 0))
+pub stands-first : (many : ℕ) {w : Walk} {e mode : ℕ} {plan cache cache' : List ℕ} → Lays w.t.now w.parsed.now w.order.now e plan
+    → EntersTo w.t.now plan 0 no_choice cache cache' mode → length cache ≡ plan_room → Stands w e 0 mode no_choice (record { plan = plan; cache = cache' }) (replicate many 0)
 stands-first many L E room = record {
   small = E.modes;
   long = L.long;
   room = E.room ∙ room;
-  slots = refl;
   ready = λ T ρ C.
       let A = L.along T ρ C in
       let e = E.goes A.layout T ρ A.planned in
       record { along = A; stored = e.0; keeps = keeps-none A.planned (replicate many 0) (λ j l. get_or-replicate {A = ℕ} many j 0 0 (omega (arith, length-replicate {A = ℕ} many 0))); modes = e.1 };
 }
-
--- As many slots as there are.
-pub stands_here : {ts : List ℕ} {p : Parsed} {order : List ℕ} {e d mode choice : ℕ} {plan cache kept : List ℕ} {many : ℕ}
-    → Stands ts p order e d mode choice plan cache kept many → Stands ts p order e d mode choice plan cache kept (length kept)
-stands_here s = record { small = s.small; long = s.long; room = s.room; slots = refl; ready = s.ready }
 
 module _ {ts plan : List ℕ} {T : Tables} {ρ : Rule} {order : List ℕ} (once : Once (length (rule_vars [] ρ)) order) (after : After (names (rule_vars [] ρ)) order) where
   pub own-long : {e : ℕ} (A : Along ts plan T ρ order e) → length A.layout.order ≡ length order

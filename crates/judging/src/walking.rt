@@ -5,7 +5,7 @@ ghost use Rattle.values.specs.Code.Plan.{plan_length};
 ghost use Rattle.values.specs.Code.Multiplied.{CeilingBy};
 ghost use Rattle.judging.specs.Code.Planning.{Laid, Plans};
 ghost use Rattle.judging.specs.Code.Counting.{no_choice};
-ghost use Rattle.judging.specs.Code.Walking.{Ordered, Lays, Descends, CountsBy, WalksBy, Sound, StandsFor};
+ghost use Rattle.judging.specs.Code.Walking.{Ordered, Lays, Sound, Stands, Descends, CountsBy, WalksBy};
 ghost use Rattle.judging.specs.Code.Lent.{vars_of, LentBy};
 
 use crate::counting::{below, enter, entered, least};
@@ -42,9 +42,9 @@ struct Walk<'a> {
     order: &'a [u8],
 }
 
-// What it is walked with: the plan, and the cache that goes with it.
+// What the walk goes by: the plan, and the cache that goes with it.
 #[derive(Drop)]
-struct Desk {
+struct Guide {
     plan: [u64; planning::LENGTH],
     cache: [u64; RULE_LIMIT],
 }
@@ -95,11 +95,11 @@ struct Place {
     mode: usize,
 }
 
-impl Desk {
+impl Guide {
     // The plan goes on with the caller's next variable: the one at hand, or another, by which nothing is kept yet. The mode along it.
     fn turn(&mut self, walk: &Walk<'_>, place: Place, kept: &mut [u64]) -> usize
-        requires { Sound walk.now × (place.depth < length walk.now.order.now) × StandsFor walk.now place.depth place.depth place.mode place.choice self.old kept.old (length kept.old) }
-        ensures { StandsFor walk.now (place.depth + 1) place.depth result place.choice self.new kept.new (length kept.old) }
+        requires { Sound walk.now × (place.depth < length walk.now.order.now) × Stands walk.now place.depth place.depth place.mode place.choice self.old kept.old }
+        ensures { Stands walk.now (place.depth + 1) place.depth result place.choice self.new kept.new }
     {
         let d = place.depth;
         if self.plan[ORDER + d] == walk.order[d] as u64 {
@@ -112,8 +112,8 @@ impl Desk {
 
     // The first breaking choice, variable by variable along the caller's order: the least item below which something breaks.
     fn descend(&mut self, walk: &Walk<'_>, mode: usize, kept: &mut [u64]) -> u64
-        requires { Sound walk.now × StandsFor walk.now 0 0 mode no_choice self.old kept.old (length kept.old) }
-        ensures { Descends walk.now.t.now walk.now.parsed.now walk.now.order.now (length walk.now.order.now) result }
+        requires { Sound walk.now × Stands walk.now 0 0 mode no_choice self.old kept.old }
+        ensures { Descends walk.now (length walk.now.order.now) result }
     {
         let order = walk.order;
         let mut choice = kept::NOTHING;
@@ -142,7 +142,7 @@ impl Desk {
 
     // The counts below nothing chosen, and the first breaking choice.
     fn counted(&mut self, walk: &Walk<'_>, mode: usize, kept: &mut [u64]) -> Tally
-        requires { Sound walk.now × StandsFor walk.now 0 0 mode no_choice self.old kept.old (length kept.old) }
+        requires { Sound walk.now × Stands walk.now 0 0 mode no_choice self.old kept.old }
         ensures { WalksBy walk.now.t.now walk.now.parsed.now walk.now.order.now result }
     {
         let sum = below(
@@ -176,15 +176,15 @@ pub fn whole(t: &[u64], parsed: Parsed, order: &[u8]) -> Tally
     requires { LentBy t.now parsed × Ordered parsed order.now }
     ensures { WalksBy t.now parsed order.now result }
 {
-    let mut desk = Desk {
-        plan: [0u64; planning::LENGTH],
-        cache: [0u64; RULE_LIMIT],
+    let mut guide = Guide {
+        plan: [0; planning::LENGTH],
+        cache: [0; RULE_LIMIT],
     };
-    let many = lay_first(t, parsed, order, &mut desk.plan);
+    let many = lay_first(t, parsed, order, &mut guide.plan);
     if many == 0 {
         return known(t, parsed, order, 0, 0);
     }
-    let mode = entered(t, &desk.plan, 0, kept::NOTHING, &mut desk.cache);
+    let mode = entered(t, &guide.plan, 0, kept::NOTHING, &mut guide.cache);
     if order.is_empty() {
         return Tally {
             full: 1,
@@ -199,10 +199,10 @@ pub fn whole(t: &[u64], parsed: Parsed, order: &[u8]) -> Tally
     };
     if many < FEW {
         let mut few = [0u64; kept::FEW_ROOM];
-        return desk.counted(&walk, mode, &mut few);
+        return guide.counted(&walk, mode, &mut few);
     }
     let mut kept = [0u64; kept::ROOM];
-    desk.counted(&walk, mode, &mut kept)
+    guide.counted(&walk, mode, &mut kept)
 }
 
 // The tally of a rule whose counts are known already.
@@ -217,19 +217,19 @@ pub fn known(t: &[u64], parsed: Parsed, order: &[u8], full: u64, breaking: u64) 
             first: [255u8; 8],
         };
     }
-    let mut desk = Desk {
-        plan: [0u64; planning::LENGTH],
-        cache: [0u64; RULE_LIMIT],
+    let mut guide = Guide {
+        plan: [0; planning::LENGTH],
+        cache: [0; RULE_LIMIT],
     };
-    lay_first(t, parsed, order, &mut desk.plan);
-    let mode = entered(t, &desk.plan, 0, kept::NOTHING, &mut desk.cache);
+    lay_first(t, parsed, order, &mut guide.plan);
+    let mode = entered(t, &guide.plan, 0, kept::NOTHING, &mut guide.cache);
     let walk = Walk {
         t,
         parsed: &parsed,
         order,
     };
     let mut kept = [0u64; kept::ROOM];
-    let first = kept::bytes(desk.descend(&walk, mode, &mut kept));
+    let first = kept::bytes(guide.descend(&walk, mode, &mut kept));
     Tally {
         full,
         breaking,

@@ -5,11 +5,11 @@ use native.Mathlib.Omega.{arith}
 use Rattle.judging.proofs.WalkingLaws.{once-for, after-for}
 use Rattle.judging.proofs.CountingLaws.{plan-runs}
 use Rattle.judging.proofs.DescendLaws.{keeps-none, ready_on}
-use Rattle.judging.proofs.walking.Desk.turn.Goals as goal
+use Rattle.judging.proofs.walking.Guide.turn.Goals as goal
 
 pub returns-then-self-d : goal.returns-then-self-d
 returns-then-self-d c =
-    record { small = c.requires.2.small; long = c.requires.2.long; room = c.requires.2.room; slots = c.requires.2.slots; ready = λ T ρ C. ready_on (once-for c.requires.0.lent c.requires.0.ordered C) (after-for c.requires.0.lent c.requires.0.ordered C) c.requires.1 c.if-self-d.true (c.requires.2.ready T ρ C) }
+    record { small = c.requires.2.small; long = c.requires.2.long; room = c.requires.2.room; ready = λ T ρ C. ready_on (once-for c.requires.0.lent c.requires.0.ordered C) (after-for c.requires.0.lent c.requires.0.ordered C) c.requires.1 c.if-self-d.true (c.requires.2.ready T ρ C) }
 
 pub entered-requires : goal.entered-requires
 entered-requires c =
@@ -21,7 +21,6 @@ returns c =
       small = c.entered.ensures.modes;
       long = c.lay.ensures.long;
       room = c.entered.ensures.room ∙ c.requires.2.room;
-      slots = c.clear.ensures.0;
       ready = λ T ρ C.
           let A = c.lay.ensures.along T ρ C in
           let e = c.entered.ensures.goes A.layout T ρ A.planned in

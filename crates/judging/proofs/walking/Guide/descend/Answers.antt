@@ -7,7 +7,7 @@ use lib.ListN.{length}
 use Rattle.judging.proofs.WalkingLaws.{once-for, after-for}
 use Rattle.judging.proofs.CountingLaws.{plan-runs}
 use Rattle.judging.proofs.DescendLaws.{standing-at, ready-next, descending-next}
-use Rattle.judging.proofs.walking.Desk.descend.Goals as goal
+use Rattle.judging.proofs.walking.Guide.descend.Goals as goal
 
 pub least-x-requires : goal.least-x-requires
 least-x-requires c =
@@ -24,7 +24,6 @@ loop-depth-preserved c =
         small = c.enter-at.ensures.modes;
         long = c.turn-here.ensures.long;
         room = c.enter-at.ensures.room ∙ c.least-x.ensures.1.room ∙ c.turn-here.ensures.room;
-        slots = c.least-x.ensures.1.slots ∙ c.turn-here.ensures.slots ∙ c.loop-depth.invariant.0.slots;
         ready = λ T ρ C. ready-next (once-for c.requires.0.lent c.requires.0.ordered C) (after-for c.requires.0.lent c.requires.0.ordered C) c.put-choice.result c.least-x.result c.loop-depth-test.true (c.turn-here.ensures.ready T ρ C) c.put-choice.ensures _ left c.least-x.ensures.1 c.enter-at.ensures;
       },
       λ T ρ C some. descending-next (once-for c.requires.0.lent c.requires.0.ordered C) (after-for c.requires.0.lent c.requires.0.ordered C) c.put-choice.result c.least-x.result c.loop-depth-test.true (c.turn-here.ensures.ready T ρ C) c.put-choice.ensures _ left c.least-x.ensures.1 c.enter-at.ensures (c.loop-depth.invariant.1 T ρ C some),

@@ -5,8 +5,8 @@ use Prim.Native.Nat.{◌+◌, ◌<◌}
 use native.Mathlib.Omega.{arith}
 use lib.ListN.{length}
 use Rattle.judging.proofs.WalkingLaws.{once-for, after-for}
-use Rattle.judging.proofs.DescendLaws.{stands_here, depth_is, stored_at, standing-at, walks-none, breaks-some, walks_some}
-use Rattle.judging.proofs.walking.Desk.counted.Goals as goal
+use Rattle.judging.proofs.DescendLaws.{depth_is, stored_at, standing-at, walks-none, breaks-some, walks_some}
+use Rattle.judging.proofs.walking.Guide.counted.Goals as goal
 
 pub below-sum-requires : goal.below-sum-requires
 below-sum-requires c =
@@ -25,11 +25,10 @@ returns-then-sum-eq0 c =
 pub descend-requires : goal.descend-requires
 descend-requires c = (
   c.requires.0,
-  stands_here (record {
+  record {
     small = c.requires.1.small;
     long = c.requires.1.long;
     room = c.below-sum.ensures.room ∙ c.requires.1.room;
-    slots = c.below-sum.ensures.slots;
     ready = λ T ρ C.
         let o = once-for c.requires.0.lent c.requires.0.ordered C in
         let a = after-for c.requires.0.lent c.requires.0.ordered C in
@@ -37,7 +36,7 @@ descend-requires c = (
         let all : length c.args.walk.now.order.now + 0 ≡ length c.args.walk.now.order.now = omega arith in
         let r = c.below-sum.ensures.goes R.along.layout T ρ R.along.planned (stored_at o a _ R all) R.keeps in
         record { along = R.along; stored = rw (depth_is o a _ R all) at r.1; keeps = r.2; modes = R.modes };
-  }),
+  },
 )
 
 pub returns : goal.returns
