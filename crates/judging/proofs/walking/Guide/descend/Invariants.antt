@@ -1,6 +1,5 @@
--- `judging::walking::descend` meets its contract. The invariant: the choice has the items of the first breaking choice that were found, and all is ready.
+-- `judging::walking::Guide::descend` meets its contract. The invariant: the choice has the items of the first breaking choice that were found, and all is ready.
 -- Assumes nothing.
-use lib.ListN.{length}
 use Rattle.judging.specs.Code.Walking.{Stands, Descends}
 use Rattle.judging.proofs.walking.Guide.descend.Given as goal
 

@@ -1,15 +1,15 @@
--- `judging::walking::turn` meets its contract.
+-- `judging::walking::Guide::turn` meets its contract.
 -- Assumes nothing.
 use mathlib.Core.Path.{◌∙◌}
 use native.Mathlib.Omega.{arith}
-use Rattle.judging.proofs.WalkingLaws.{once-for, after-for}
+use Rattle.judging.proofs.WalkingLaws.{once-in, after-in}
 use Rattle.judging.proofs.CountingLaws.{plan-runs}
 use Rattle.judging.proofs.DescendLaws.{keeps-none, ready_on}
 use Rattle.judging.proofs.walking.Guide.turn.Goals as goal
 
 pub returns-then-self-d : goal.returns-then-self-d
 returns-then-self-d c =
-    record { small = c.requires.2.small; long = c.requires.2.long; room = c.requires.2.room; ready = λ T ρ C. ready_on (once-for c.requires.0.lent c.requires.0.ordered C) (after-for c.requires.0.lent c.requires.0.ordered C) c.requires.1 c.if-self-d.true (c.requires.2.ready T ρ C) }
+    record { small = c.requires.2.small; long = c.requires.2.long; room = c.requires.2.room; ready = λ T ρ C. ready_on (once-in c.requires.0 C) (after-in c.requires.0 C) c.requires.1 c.if-self-d.true (c.requires.2.ready T ρ C) }
 
 pub entered-requires : goal.entered-requires
 entered-requires c =
