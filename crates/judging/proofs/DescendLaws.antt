@@ -11,7 +11,6 @@ use lib.Seq.{get_or-take}
 use Rattle.words.specs.Words.{has, Lowest, less_of, item_of}
 use Rattle.tables.specs.Tables.{Tables}
 use Rattle.syntax.specs.Rule.{Rule, rule_vars}
-use Rattle.rules.specs.declared.Parsed.{Parsed}
 use Rattle.walks.specs.Choices.{sum_over, each, if_breaks, nothing_chosen}
 use Rattle.walks.specs.Meaning.{Once, After}
 use Rattle.walks.specs.Walk.{walk, walk_first, choice_bytes}
@@ -31,12 +30,17 @@ use Rattle.walks.proofs.OrderLaws.{at}
 use Rattle.walks.proofs.SummedLaws.{summed-step, summed-end, sought-hit, sought-past, walk-items}
 use Rattle.walks.proofs.TurningLaws.{item-breaking}
 use Rattle.values.specs.Sets.{in_set, names, breaks}
-use Rattle.values.specs.Code.Plan.{plan_room, levels_from}
+use Rattle.values.specs.Code.Plan.{plan_room, levels_from, Runs}
 use Rattle.values.proofs.ClausesLaws.{clauses_of, rule-breaks}
 use Rattle.values.proofs.ReadsLaws.{sets-read}
+use Rattle.judging.specs.Code.Lent.{CaseBy}
 use Rattle.judging.specs.Code.Planning.{order_from, sets_from, contexts_from, Layout, Planned, Caches, Keeps}
-use Rattle.judging.specs.Code.Counting.{depth_of, CountedAt, Entered, Enters, EntersTo, Standing, Stays, LeastAt, no_choice}
-use Rattle.judging.specs.Code.Walking.{Along, Lays, Ready, Stands}
+use Rattle.judging.specs.Code.Counting.{depth_of, CountedAt, Entered, Enters, EntersTo, Standing, Stays, Counts, LeastAt, no_choice}
+use Rattle.judging.specs.Code.Walking.{Along, Lays, Ready, Sound, Stands, Descends, WalksBy}
+use Rattle.judging.specs.declared.walking.Walk.{Walk}
+use Rattle.judging.specs.declared.walking.Guide.{Guide}
+use Rattle.judging.proofs.WalkingLaws.{once-in, after-in}
+use Rattle.judging.proofs.CountingLaws.{plan-runs}
 use Rattle.judging.proofs.CountingLaws.{set-in, caches-on, below-whole}
 
 -- No item of w but those of rest counts.
@@ -93,23 +97,17 @@ module _ {ts plan : List ℕ} {y : Layout} {T : Tables} {ρ : Rule} (P : Planned
 -- ---- along the caller's order
 
 -- A plan was laid and its first level entered; so many slots are zeros.
-pub stands-first : (many : ℕ) {ts : List ℕ} {p : Parsed} {order : List ℕ} {e mode : ℕ} {plan cache cache' : List ℕ} → Lays ts p order e plan
-    → EntersTo ts plan 0 no_choice cache cache' mode → length cache ≡ plan_room → Stands ts p order e 0 mode no_choice plan cache' (replicate many 0) (length {A = ℕ} (replicate many 0))
+pub stands-first : (many : ℕ) {w : Walk} {e mode : ℕ} {plan cache cache' : List ℕ} → Lays w.t.now w.parsed.now w.order.now e plan
+    → EntersTo w.t.now plan 0 no_choice cache cache' mode → length cache ≡ plan_room → Stands w e 0 mode no_choice (record { plan = plan; cache = cache' }) (replicate many 0)
 stands-first many L E room = record {
   small = E.modes;
   long = L.long;
   room = E.room ∙ room;
-  slots = refl;
   ready = λ T ρ C.
       let A = L.along T ρ C in
       let e = E.goes A.layout T ρ A.planned in
       record { along = A; stored = e.0; keeps = keeps-none A.planned (replicate many 0) (λ j l. get_or-replicate {A = ℕ} many j 0 0 (omega (arith, length-replicate {A = ℕ} many 0))); modes = e.1 };
 }
-
--- As many slots as there are.
-pub stands_here : {ts : List ℕ} {p : Parsed} {order : List ℕ} {e d mode choice : ℕ} {plan cache kept : List ℕ} {many : ℕ}
-    → Stands ts p order e d mode choice plan cache kept many → Stands ts p order e d mode choice plan cache kept (length kept)
-stands_here s = record { small = s.small; long = s.long; room = s.room; slots = refl; ready = s.ready }
 
 module _ {ts plan : List ℕ} {T : Tables} {ρ : Rule} {order : List ℕ} (once : Once (length (rule_vars [] ρ)) order) (after : After (names (rule_vars [] ρ)) order) where
   pub own-long : {e : ℕ} (A : Along ts plan T ρ order e) → length A.layout.order ≡ length order
@@ -192,6 +190,17 @@ module _ {ts plan : List ℕ} {T : Tables} {ρ : Rule} {order : List ℕ} (once 
           (get_or cache (get_or plan (sets_from + d) 0) 0)
           (λ z. ap (λ (v : ℕ). in_set T (rule_vars [] ρ) v (choice_of choice) z) (sym (same-variable d l A)) ∙ set-in P choice d lo R.stored z) D x least-found.0)
 
+-- Where all stands for a sound walk, it can be counted.
+module _ {w : Walk} (S : Sound w) {e d mode choice : ℕ} {g : Guide} {kept : List ℕ} (s : Stands w e d mode choice g kept) where
+  own-ready : Ready w.t.now g.plan S.lent.lent.tables S.lent.lent.rule w.order.now e d mode choice g.cache kept
+  own-ready = s.ready S.lent.lent.tables S.lent.lent.rule S.lent.lent.is_case
+
+  pub runs-in : Runs g.plan
+  runs-in = plan-runs own-ready.along.planned
+
+  pub standing-in : (left : ℕ) → left + d ≡ length w.order.now → Standing w.t.now g.plan mode left choice g.cache kept
+  standing-in left all = standing-at (once-in S S.lent.lent.is_case) (after-in S S.lent.lent.is_case) left own-ready all s.small s.room
+
 -- ---- the tally
 
 module _ {ts plan : List ℕ} {T : Tables} {ρ : Rule} {order : List ℕ} (once : Once (length (rule_vars [] ρ)) order) (after : After (names (rule_vars [] ρ)) order)
@@ -227,6 +236,38 @@ module _ {ts plan : List ℕ} {T : Tables} {ρ : Rule} {order : List ℕ} (once 
       walked_by breaking first (rw q
       (judged-some (in_set T (rule_vars [] ρ)) (names (rule_vars [] ρ)) (sets-read T (rule_vars [] ρ)) (clauses_of T ρ) (length (rule_vars [] ρ)) order once after A.layout.order A.once
       A.planned.after (drop levels_from plan) A.planned.levelled (choice_of no_choice) C m (length order) (choice_of r) (omega arith) h))
+
+-- A sound walk was counted: all stands as before, and the counts are the tally's, with the first breaking choice where something breaks.
+module _ {w : Walk} (S : Sound w) {mode : ℕ} {g : Guide} {kept cache kept' : List ℕ} {full breaking : ℕ} (s : Stands w 0 0 mode no_choice g kept)
+    (N : Counts w.t.now g.plan mode (length w.order.now) no_choice g.cache kept cache kept' full breaking) where
+  module _ {T : Tables} {ρ : Rule} (C : CaseBy w.t.now w.parsed.now T ρ) where
+    R : Ready w.t.now g.plan T ρ w.order.now 0 0 mode no_choice g.cache kept
+    R = s.ready T ρ C
+
+    all : length w.order.now + 0 ≡ length w.order.now
+    all = omega arith
+
+    found : CountedAt g.plan R.along.layout T ρ mode 0 no_choice full breaking × Caches w.t.now R.along.layout no_choice cache 1 × Keeps g.plan R.along.layout T ρ kept'
+    found =
+        rw (depth_is (once-in S C) (after-in S C) (length w.order.now) R all) at (N.goes R.along.layout T ρ R.along.planned (stored_at (once-in S C) (after-in S C) (length w.order.now) R all) R.keeps)
+
+  pub stands-counted : Stands w 0 0 mode no_choice (record { plan = g.plan; cache = cache }) kept'
+  stands-counted = record {
+    small = s.small;
+    long = s.long;
+    room = N.room ∙ s.room;
+    ready = λ T ρ C. record { along = (R C).along; stored = (found C).1; keeps = (found C).2; modes = (R C).modes };
+  }
+
+  pub counted-none : breaking ≡ 0 → WalksBy w.t.now w.parsed.now w.order.now (record { full = full; breaking = 0; first = nothing_chosen })
+  counted-none z T ρ C = walks-none (once-in S C) (after-in S C) (R C).along (found C).0 (R C).modes z
+
+  pub counted-some : 0 < breaking → (r : ℕ) → Descends w (length w.order.now) r → (first : List ℕ) → first ≡ choice_of r
+      → WalksBy w.t.now w.parsed.now w.order.now (record { full = full; breaking = breaking; first = first })
+  counted-some l r D first q T ρ C =
+      let o = once-in S C in
+      let a = after-in S C in
+      walks_some o a (R C).along (found C).0 (R C).modes r (D T ρ C (breaks-some o a (R C).along (found C).0 (R C).modes l)) first q
 
 -- A rule without variables has one choice.
 module _ {ts plan : List ℕ} {T : Tables} {ρ : Rule} {order : List ℕ} (once : Once (length (rule_vars [] ρ)) order) (after : After (names (rule_vars [] ρ)) order)

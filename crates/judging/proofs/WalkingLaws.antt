@@ -24,7 +24,8 @@ use Rattle.values.specs.Code.Levels.{Level, Levels}
 use Rattle.values.proofs.NamesLaws.{holds_at}
 use Rattle.judging.specs.Code.Lent.{Case, Lent, OrderList, InTurn, vars_of, CaseBy, LentBy}
 use Rattle.judging.specs.Code.Planning.{Planned, Laid, Plans}
-use Rattle.judging.specs.Code.Walking.{Ordered, Lays}
+use Rattle.judging.specs.Code.Walking.{Ordered, Lays, Sound}
+use Rattle.judging.specs.declared.walking.Walk.{Walk}
 
 -- The words of what the sets name serve the test of an order.
 pub named-order : (n : ℕ) (words vs : List ℕ) (σ : Choices) → n ≤ 8 → Named n words σ → is_order (named_by words) n vs ≡ is_order (names σ) n vs
@@ -127,3 +128,11 @@ module _ {ts : List ℕ} {p : Parsed} (L : LentBy ts p) where
       };
       own = λ T ρ C. record { nodes = refl; many = refl; vars = refl };
     }
+
+-- So a sound walk's order is for its rule.
+module _ {w : Walk} (S : Sound w) {T : Tables} {ρ : Rule} (C : CaseBy w.t.now w.parsed.now T ρ) where
+  pub once-in : Once (length (rule_vars [] ρ)) w.order.now
+  once-in = once-for S.lent S.ordered C
+
+  pub after-in : After (names (rule_vars [] ρ)) w.order.now
+  after-in = after-for S.lent S.ordered C

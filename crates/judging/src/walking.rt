@@ -5,7 +5,7 @@ ghost use Rattle.values.specs.Code.Plan.{plan_length};
 ghost use Rattle.values.specs.Code.Multiplied.{CeilingBy};
 ghost use Rattle.judging.specs.Code.Planning.{Laid, Plans};
 ghost use Rattle.judging.specs.Code.Counting.{no_choice};
-ghost use Rattle.judging.specs.Code.Walking.{Ordered, Lays, Stands, Descends, CountsBy, WalksBy};
+ghost use Rattle.judging.specs.Code.Walking.{Ordered, Lays, Sound, Stands, Descends, CountsBy, WalksBy};
 ghost use Rattle.judging.specs.Code.Lent.{vars_of, LentBy};
 
 use crate::counting::{below, enter, entered, least};
@@ -34,19 +34,37 @@ fn lay_along(parsed: &Parsed, order: &[u8], plan: &mut [u64])
     );
 }
 
-// Lays the plan along an order of our own that begins with the first `begun` variables of the caller's, where one was found, or along the caller's.
-fn lay(t: &[u64], parsed: Parsed, order: &[u8], begun: usize, plan: &mut [u64])
-    requires { LentBy t.now parsed × Ordered parsed order.now × (begun ≤ length order.now) × (length plan.old ≡ plan_length) }
-    ensures { Lays t.now parsed order.now begun plan.new }
-{
-    let count = parsed.count;
-    let found = orders::own(t, &plan[..], order, begun);
-    let own = &found[..count];
-    let names = values::names::names(&parsed.nodes, parsed.n, &parsed.vars[..count]);
-    if walks::ordered(&names, own, count) && walks::begins_alike(own, order, begun) {
-        lay_along(&parsed, own, plan);
-    } else {
-        lay_along(&parsed, order, plan);
+// What is walked: the tables, the parsed rule and the caller's order.
+#[derive(Clone, Copy)]
+struct Walk<'a> {
+    t: &'a [u64],
+    parsed: &'a Parsed,
+    order: &'a [u8],
+}
+
+// What the walk goes by: the plan, and the cache that goes with it.
+#[derive(Drop)]
+struct Guide {
+    plan: [u64; planning::LENGTH],
+    cache: [u64; RULE_LIMIT],
+}
+
+impl Walk<'_> {
+    // Lays the plan along an order of our own that begins with the first `begun` variables of the caller's, where one was found, or along the caller's.
+    fn lay(&self, begun: usize, plan: &mut [u64])
+        requires { Sound self.now × (begun ≤ length self.now.order.now) × (length plan.old ≡ plan_length) }
+        ensures { Lays self.now.t.now self.now.parsed.now self.now.order.now begun plan.new }
+    {
+        let parsed = self.parsed;
+        let vars = &parsed.vars[..parsed.count];
+        let found = orders::own(self.t, &plan[..], self.order, begun);
+        let own = &found[..vars.len()];
+        let names = values::names::names(&parsed.nodes, parsed.n, vars);
+        if walks::ordered(&names, own, vars.len()) && walks::begins_alike(own, self.order, begun) {
+            lay_along(parsed, own, plan);
+        } else {
+            lay_along(parsed, self.order, plan);
+        }
     }
 }
 
@@ -59,103 +77,96 @@ pub fn lay_first(t: &[u64], parsed: Parsed, order: &[u8], plan: &mut [u64]) -> u
     lay_along(&parsed, order, plan);
     let many = ceiling(t, &parsed.kinds, &parsed.vars[..parsed.count]);
     if orders::SEARCHED_FROM <= many && orders::worth(t, &plan[..], order) {
-        lay(t, parsed, order, 0, plan);
+        let walk = Walk {
+            t,
+            parsed: &parsed,
+            order,
+        };
+        walk.lay(0, plan);
     }
     many
 }
 
 // Where the descent is: the first variables of the caller's order have their items, and the mode goes with them.
 #[derive(Clone, Copy)]
-pub struct Place {
-    pub depth: usize,
-    pub choice: u64,
-    pub mode: usize,
-}
-
-// The plan goes on with the caller's next variable: the one at hand, or another, by which nothing is kept yet. The mode along it.
-fn turn(
-    t: &[u64],
-    parsed: Parsed,
-    order: &[u8],
-    place: Place,
-    plan: &mut [u64],
-    cache: &mut [u64],
-    kept: &mut [u64],
-) -> usize
-    requires { LentBy t.now parsed × Ordered parsed order.now × (place.depth < length order.now) × Stands t.now parsed order.now place.depth place.depth place.mode place.choice plan.old cache.old kept.old (length kept.old) }
-    ensures { Stands t.now parsed order.now (place.depth + 1) place.depth result place.choice plan.new cache.new kept.new (length kept.old) }
-{
-    let d = place.depth;
-    if plan[ORDER + d] == order[d] as u64 {
-        return place.mode;
-    }
-    lay(t, parsed, order, d + 1, plan);
-    kept::clear(kept);
-    entered(t, &plan[..], d, place.choice, cache)
-}
-
-// The first breaking choice, variable by variable along the caller's order: the least item below which something breaks.
-fn descend(
-    t: &[u64],
-    parsed: Parsed,
-    order: &[u8],
+struct Place {
+    depth: usize,
+    choice: u64,
     mode: usize,
-    plan: &mut [u64],
-    cache: &mut [u64],
-    kept: &mut [u64],
-) -> u64
-    requires { LentBy t.now parsed × Ordered parsed order.now × Stands t.now parsed order.now 0 0 mode no_choice plan.old cache.old kept.old (length kept.old) }
-    ensures { Descends t.now parsed order.now (length order.now) result }
-{
-    let mut choice = kept::NOTHING;
-    let mut at = mode;
-    for (depth, &v) in order.iter().enumerate() {
-        let here = turn(
-            t,
-            parsed,
-            order,
-            Place {
+}
+
+impl Guide {
+    // The plan goes on with the caller's next variable: the one at hand, or another, by which nothing is kept yet. The mode along it.
+    fn turn(&mut self, walk: &Walk<'_>, place: Place, kept: &mut [u64]) -> usize
+        requires { Sound walk.now × (place.depth < length walk.now.order.now) × Stands walk.now place.depth place.depth place.mode place.choice self.old kept.old }
+        ensures { Stands walk.now (place.depth + 1) place.depth result place.choice self.new kept.new }
+    {
+        let d = place.depth;
+        if self.plan[ORDER + d] == walk.order[d] as u64 {
+            return place.mode;
+        }
+        walk.lay(d + 1, &mut self.plan);
+        kept::clear(kept);
+        entered(walk.t, &self.plan, d, place.choice, &mut self.cache)
+    }
+
+    // The first breaking choice, variable by variable along the caller's order: the least item below which something breaks.
+    fn descend(&mut self, walk: &Walk<'_>, mode: usize, kept: &mut [u64]) -> u64
+        requires { Sound walk.now × Stands walk.now 0 0 mode no_choice self.old kept.old }
+        ensures { Descends walk.now (length walk.now.order.now) result }
+    {
+        let order = walk.order;
+        let mut choice = kept::NOTHING;
+        let mut at = mode;
+        for (depth, &v) in order.iter().enumerate() {
+            let place = Place {
                 depth,
                 choice,
                 mode: at,
-            },
-            plan,
-            cache,
+            };
+            let here = self.turn(walk, place, kept);
+            let x = least(
+                walk.t,
+                &self.plan,
+                here,
+                order.len() - depth,
+                choice,
+                &mut self.cache,
+                kept,
+            );
+            choice = kept::put(choice, v as usize, x);
+            at = enter(walk.t, &self.plan, here, depth + 1, choice, &mut self.cache);
+        }
+        choice
+    }
+
+    // The counts below nothing chosen, and the first breaking choice.
+    fn counted(&mut self, walk: &Walk<'_>, mode: usize, kept: &mut [u64]) -> Tally
+        requires { Sound walk.now × Stands walk.now 0 0 mode no_choice self.old kept.old }
+        ensures { WalksBy walk.now.t.now walk.now.parsed.now walk.now.order.now result }
+    {
+        let sum = below(
+            walk.t,
+            &self.plan,
+            mode,
+            walk.order.len(),
+            kept::NOTHING,
+            &mut self.cache,
             kept,
         );
-        let x = least(t, &plan[..], here, order.len() - depth, choice, cache, kept);
-        choice = kept::put(choice, v as usize, x);
-        at = enter(t, &plan[..], here, depth + 1, choice, cache);
-    }
-    choice
-}
-
-// The counts below nothing chosen, and the first breaking choice.
-fn counted(
-    t: &[u64],
-    parsed: Parsed,
-    order: &[u8],
-    mode: usize,
-    plan: &mut [u64],
-    cache: &mut [u64],
-    kept: &mut [u64],
-) -> Tally
-    requires { LentBy t.now parsed × Ordered parsed order.now × Stands t.now parsed order.now 0 0 mode no_choice plan.old cache.old kept.old (length kept.old) }
-    ensures { WalksBy t.now parsed order.now result }
-{
-    let sum = below(t, &plan[..], mode, order.len(), kept::NOTHING, cache, kept);
-    if sum.breaking == 0 {
-        return Tally {
+        if sum.breaking == 0 {
+            return Tally {
+                full: sum.full,
+                breaking: 0,
+                first: [255u8; 8],
+            };
+        }
+        let first = kept::bytes(self.descend(walk, mode, kept));
+        Tally {
             full: sum.full,
-            breaking: 0,
-            first: [255u8; 8],
-        };
-    }
-    let first = kept::bytes(descend(t, parsed, order, mode, plan, cache, kept));
-    Tally {
-        full: sum.full,
-        breaking: sum.breaking,
-        first,
+            breaking: sum.breaking,
+            first,
+        }
     }
 }
 
@@ -165,13 +176,15 @@ pub fn whole(t: &[u64], parsed: Parsed, order: &[u8]) -> Tally
     requires { LentBy t.now parsed × Ordered parsed order.now }
     ensures { WalksBy t.now parsed order.now result }
 {
-    let mut plan = [0u64; planning::LENGTH];
-    let mut cache = [0u64; RULE_LIMIT];
-    let many = lay_first(t, parsed, order, &mut plan);
+    let mut guide = Guide {
+        plan: [0; planning::LENGTH],
+        cache: [0; RULE_LIMIT],
+    };
+    let many = lay_first(t, parsed, order, &mut guide.plan);
     if many == 0 {
         return known(t, parsed, order, 0, 0);
     }
-    let mode = entered(t, &plan, 0, kept::NOTHING, &mut cache);
+    let mode = entered(t, &guide.plan, 0, kept::NOTHING, &mut guide.cache);
     if order.is_empty() {
         return Tally {
             full: 1,
@@ -179,12 +192,17 @@ pub fn whole(t: &[u64], parsed: Parsed, order: &[u8]) -> Tally
             first: [255u8; 8],
         };
     }
+    let walk = Walk {
+        t,
+        parsed: &parsed,
+        order,
+    };
     if many < FEW {
         let mut few = [0u64; kept::FEW_ROOM];
-        return counted(t, parsed, order, mode, &mut plan, &mut cache, &mut few);
+        return guide.counted(&walk, mode, &mut few);
     }
     let mut kept = [0u64; kept::ROOM];
-    counted(t, parsed, order, mode, &mut plan, &mut cache, &mut kept)
+    guide.counted(&walk, mode, &mut kept)
 }
 
 // The tally of a rule whose counts are known already.
@@ -199,13 +217,19 @@ pub fn known(t: &[u64], parsed: Parsed, order: &[u8], full: u64, breaking: u64) 
             first: [255u8; 8],
         };
     }
-    let mut plan = [0u64; planning::LENGTH];
-    let mut cache = [0u64; RULE_LIMIT];
-    lay_first(t, parsed, order, &mut plan);
-    let mode = entered(t, &plan, 0, kept::NOTHING, &mut cache);
+    let mut guide = Guide {
+        plan: [0; planning::LENGTH],
+        cache: [0; RULE_LIMIT],
+    };
+    lay_first(t, parsed, order, &mut guide.plan);
+    let mode = entered(t, &guide.plan, 0, kept::NOTHING, &mut guide.cache);
+    let walk = Walk {
+        t,
+        parsed: &parsed,
+        order,
+    };
     let mut kept = [0u64; kept::ROOM];
-    let choice = descend(t, parsed, order, mode, &mut plan, &mut cache, &mut kept);
-    let first = kept::bytes(choice);
+    let first = kept::bytes(guide.descend(&walk, mode, &mut kept));
     Tally {
         full,
         breaking,

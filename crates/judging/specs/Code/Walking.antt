@@ -15,9 +15,11 @@ use Rattle.walks.specs.Code.Turning.{Descending}
 use Rattle.values.specs.Sets.{in_set, breaks}
 use Rattle.values.specs.Code.Plan.{plan_length, plan_room, levels_from}
 use Rattle.values.proofs.ClausesLaws.{clauses_of}
-use Rattle.judging.specs.Code.Lent.{vars_of, CaseBy, OrderList, InTurn}
+use Rattle.judging.specs.Code.Lent.{vars_of, CaseBy, LentBy, OrderList, InTurn}
 use Rattle.judging.specs.Code.Planning.{Layout, Planned, Caches, Keeps}
 use Rattle.judging.specs.Code.Counting.{no_choice}
+use Rattle.judging.specs.declared.walking.Walk.{Walk}
+use Rattle.judging.specs.declared.walking.Guide.{Guide}
 
 -- The list is an order of the rule's variables.
 pub record Ordered (p : Parsed) (order : List ℕ) : Type 0 where
@@ -51,19 +53,23 @@ pub record Ready (ts plan : List ℕ) (T : Tables) (ρ : Rule) (order : List ℕ
   pub keeps : Keeps plan along.layout T ρ kept
   pub modes : ModeIs (clauses_of T ρ) (drop levels_from plan) mode (d + 1) (choice_of choice)
 
--- So it is, with so many slots.
-pub record Stands (ts : List ℕ) (p : Parsed) (order : List ℕ) (e d mode choice : ℕ) (plan cache kept : List ℕ) (many : ℕ) : Type 0 where
+-- A walk's slices hold its parsed rule, and its order is one of the rule's variables.
+pub record Sound (w : Walk) : Type 0 where
+  pub lent : LentBy w.t.now w.parsed.now
+  pub ordered : Ordered w.parsed.now w.order.now
+
+-- So all is for a walk, whatever its slices hold.
+pub record Stands (w : Walk) (e d mode choice : ℕ) (g : Guide) (kept : List ℕ) : Type 0 where
   pub small : mode < 2
-  pub long : length plan ≡ plan_length
-  pub room : length cache ≡ plan_room
-  pub slots : length kept ≡ many
-  pub ready : (T : Tables) (ρ : Rule) → CaseBy ts p T ρ → Ready ts plan T ρ order e d mode choice cache kept
+  pub long : length g.plan ≡ plan_length
+  pub room : length g.cache ≡ plan_room
+  pub ready : (T : Tables) (ρ : Rule) → CaseBy w.t.now w.parsed.now T ρ → Ready w.t.now g.plan T ρ w.order.now e d mode choice g.cache kept
 
 -- The first breaking choice along the caller's order, where there is one, has its first d items in the choice r.
-abbrev pub Descends : List ℕ → Parsed → List ℕ → ℕ → ℕ → Type 0
-Descends ts p order d r =
-    (T : Tables) (ρ : Rule) → CaseBy ts p T ρ → 0 < walk 64 (in_set T (rule_vars [] ρ)) (if_breaks (breaks_any (clauses_of T ρ))) order (choice_of no_choice)
-    → Descending (in_set T (rule_vars [] ρ)) (breaks_any (clauses_of T ρ)) order (choice_of no_choice) d (choice_of r)
+abbrev pub Descends : Walk → ℕ → ℕ → Type 0
+Descends w d r =
+    (T : Tables) (ρ : Rule) → CaseBy w.t.now w.parsed.now T ρ → 0 < walk 64 (in_set T (rule_vars [] ρ)) (if_breaks (breaks_any (clauses_of T ρ))) w.order.now (choice_of no_choice)
+    → Descending (in_set T (rule_vars [] ρ)) (breaks_any (clauses_of T ρ)) w.order.now (choice_of no_choice) d (choice_of r)
 
 -- Whatever the slices hold, these are the counts of the walk along the caller's order;
 abbrev pub CountsBy : List ℕ → Parsed → List ℕ → ℕ → ℕ → Type 0

@@ -17,9 +17,9 @@ pub entered-mode-requires : goal.entered-mode-requires
 entered-mode-requires c =
     (c.requires.0.lent.ready.whole, plan-runs (c.lay_first.ensures.lays.along c.requires.0.lent.tables c.requires.0.lent.rule c.requires.0.lent.is_case).planned, refl, omega arith)
 
-pub descend-choice-requires : goal.descend-choice-requires
-descend-choice-requires c =
-    (c.requires.0, c.requires.1, stands-first 3072 c.lay_first.ensures.lays c.entered-mode.ensures refl)
+pub descend-requires : goal.descend-requires
+descend-requires c =
+    (record { lent = c.requires.0; ordered = c.requires.1 }, stands-first 3072 c.lay_first.ensures.lays c.entered-mode.ensures refl)
 
 pub returns : goal.returns
 returns c =
@@ -27,5 +27,5 @@ returns c =
     let n = c.requires.2 T ρ C in
     let o = once-for c.requires.0 c.requires.1 C in
     let a = after-for c.requires.0 c.requires.1 C in
-    let d = c.descend-choice.ensures T ρ C (known-breaks T ρ c.args.order.now o a n.0 n.1 (omega (arith, c.if-breaking-eq0.false))) in
-    known_some T ρ c.args.order.now o a n.0 n.1 c.descend-choice.result d c.bytes-first.result c.bytes-first.ensures
+    let d = c.descend.ensures T ρ C (known-breaks T ρ c.args.order.now o a n.0 n.1 (omega (arith, c.if-breaking-eq0.false))) in
+    known_some T ρ c.args.order.now o a n.0 n.1 c.descend.result d c.bytes-first.result c.bytes-first.ensures

@@ -26,8 +26,8 @@ returns-then-is_empty c = λ T ρ C.
 
 pub counted-requires : goal.counted-requires
 counted-requires c =
-    (c.requires.0, c.requires.1, stands-first 384 c.lay_first-many.ensures.lays c.entered-mode.ensures refl)
+    (record { lent = c.requires.0; ordered = c.requires.1 }, stands-first 384 c.lay_first-many.ensures.lays c.entered-mode.ensures refl)
 
 pub counted-requires-2 : goal.counted-requires-2
 counted-requires-2 c =
-    (c.requires.0, c.requires.1, stands-first 3072 c.lay_first-many.ensures.lays c.entered-mode.ensures refl)
+    (record { lent = c.requires.0; ordered = c.requires.1 }, stands-first 3072 c.lay_first-many.ensures.lays c.entered-mode.ensures refl)
