@@ -77,8 +77,8 @@ pub fn below(
     let at = 8 * mode + d;
     let key = words::meet(choice, plan[MASKS + at]);
     let place = slot(at, key);
-    if kept::hit(&kept[..], place, key) {
-        return kept::taken(&kept[..], place);
+    if let Some(sum) = kept::found(&kept[..], place, key) {
+        return sum;
     }
     let sum = items(t, plan, mode, left, choice, cache, kept);
     kept::keep(kept, place, sum, key);

@@ -93,10 +93,9 @@ pub fn looked(lines: &[u64], at: Place, d: usize, kept: &[u64], breaking: &mut [
         rest = words::less(rest, words::item(l));
         let key = words::meet(at.choice, lines[WORDS * l + d]);
         let place = slot(at.many, d, l, key);
-        if kept::hit(kept, place, key) {
-            breaking[l] = kept::taken(kept, place).breaking;
-        } else {
-            missing = words::join(missing, words::item(l));
+        match kept::found(kept, place, key) {
+            Some(counts) => breaking[l] = counts.breaking,
+            None => missing = words::join(missing, words::item(l)),
         }
     }
     missing

@@ -1,6 +1,6 @@
 // A choice in one word, a byte for each variable, and counts that are kept with the choice that they were counted under.
-ghost use Rattle.std.specs.Prelude.{◌≡◌, ◌+◌, ◌-◌, ◌*◌, ◌^◌, ◌<◌, ◌≤◌, length, get_or, set};
-ghost use Rattle.walks.specs.Code.Kept.{choice_of, Masks, Hit, Keeping, Unwritten};
+ghost use Rattle.std.specs.Prelude.{◌≡◌, ◌+◌, ◌-◌, ◌*◌, ◌^◌, ◌<◌, ◌≤◌, length, get_or, set, IfSome};
+ghost use Rattle.walks.specs.Code.Kept.{choice_of, Masks, Found, Keeping, Unwritten};
 
 // The word of no choice: each byte is 255.
 pub const NOTHING: u64 = u64::MAX;
@@ -68,13 +68,16 @@ pub fn spread(word: u64) -> u64
     mask
 }
 
-// Whether there is such a slot, and it was written, under that key.
-pub fn hit(kept: &[u64], slot: usize, key: u64) -> bool
+// The counts of a slot, where there is such a slot and it was written under that key.
+pub fn found(kept: &[u64], slot: usize, key: u64) -> Option<Counts>
     requires { slot < 65536 }
-    ensures { Hit kept.now slot key result }
+    ensures { IfSome result (λ c. Found kept.now slot key c.full c.breaking) }
 {
     let at = ENTRY * slot;
-    at + 2 < kept.len() && kept[at] != UNWRITTEN && kept[at + 2] == key
+    if at + 2 < kept.len() && kept[at] != UNWRITTEN && kept[at + 2] == key {
+        return Some(taken(kept, slot));
+    }
+    None
 }
 
 // What the slot has, which was written.

@@ -1,6 +1,6 @@
 -- Counts that are kept, each with the choice that it was counted under, as flat lists of numbers.
 -- Internal: contracts of entry points do not speak of it. Assumes nothing.
-use Rattle.std.specs.Prelude.{◌≡◌, Bool, true, List, [], ◌∷◌, ◌⊎◌, ℕ, zero, suc, ◌+◌, ◌-◌, ◌*◌, ◌/◌, ◌%◌, ◌^◌, ◌<◌, length, get_or, set, drop}
+use Rattle.std.specs.Prelude.{◌≡◌, true, List, [], ◌∷◌, ◌⊎◌, ℕ, zero, suc, ◌+◌, ◌-◌, ◌*◌, ◌/◌, ◌%◌, ◌^◌, ◌<◌, length, get_or, set, drop}
 use Rattle.words.specs.Words.{has, join_of, less_of}
 use Rattle.walks.specs.Choices.{Sets, each}
 use Rattle.walks.specs.Walk.{walk}
@@ -50,9 +50,13 @@ pub record KeptRight (s : Sets) (K : Clauses) (levels order contexts kept : List
 abbrev pub Unwritten : ℕ → List ℕ → Type 0
 Unwritten n kept = (j : ℕ) → j < n → get_or kept j 0 ≡ unwritten
 
--- r says only of a written entry, with that key, that there is one.
-abbrev pub Hit : List ℕ → ℕ → ℕ → Bool → Type 0
-Hit kept k key r = r ≡ true → (3 * k + 2 < length kept) × (get_or kept (3 * k) 0 ≡ unwritten → ⊥) × (get_or kept (3 * k + 2) 0 ≡ key)
+-- The slot's entry was written, under that key, and has those counts.
+pub record Found (kept : List ℕ) (k key full breaking : ℕ) : Type 0 where
+  pub fits : 3 * k + 2 < length kept
+  pub there : get_or kept (3 * k) 0 ≡ unwritten → ⊥
+  pub under : get_or kept (3 * k + 2) 0 ≡ key
+  pub fulls : full ≡ get_or kept (3 * k) 0 - 1
+  pub breakings : breaking ≡ get_or kept (3 * k + 1) 0
 
 -- An entry is written.
 abbrev pub written : List ℕ → ℕ → ℕ → ℕ → ℕ → List ℕ

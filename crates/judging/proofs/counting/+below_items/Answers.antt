@@ -32,15 +32,15 @@ below-returns-then-mode-left-eq1 t c =
       );
     }
 
-pub below-returns-then-hit : goal.below-returns-then-hit
-below-returns-then-hit t c =
+pub below-returns-in-Some : goal.below-returns-in-Some
+below-returns-in-Some t c =
     let d : ℕ = depth_of c.args.plan.now c.args.left in
-    let h = c.hit.ensures c.if-hit.true in
+    let h = c.in-Some.ensures in
     record {
       room = refl;
       slots = refl;
       goes = λ y T ρ P st ke. (
-        rw (c.taken.ensures.0, c.taken.ensures.1) (below-hit P c.args.mode d c.requires.modes (omega (arith, P.turns.many, c.requires.within, c.if-left-eq0.false)) c.slot-place.ensures c.args.choice c.meet-key.ensures ke h.0 h.1 h.2),
+        rw (h.fulls, h.breakings) (below-hit P c.args.mode d c.requires.modes (omega (arith, P.turns.many, c.requires.within, c.if-left-eq0.false)) c.slot-place.ensures c.args.choice c.meet-key.ensures ke h.fits h.there h.under),
         st,
         ke,
       );

@@ -31,20 +31,20 @@ pub bounds-breaking-l : goal.bounds-breaking-l
 bounds-breaking-l c =
     omega (arith, (turn c.requires.0 c.loop-rest.invariant.2 c.loop-rest-test.true c.lowest-l.ensures).few, c.requires.4, c.loop-rest.invariant.1)
 
-pub loop-rest-smaller-then-hit : goal.loop-rest-smaller-then-hit
-loop-rest-smaller-then-hit c =
+pub loop-rest-smaller-in-Some : goal.loop-rest-smaller-in-Some
+loop-rest-smaller-in-Some c =
     rw (c.less-rest.ensures, c.item.ensures) (turn c.requires.0 c.loop-rest.invariant.2 c.loop-rest-test.true c.lowest-l.ensures).less
 
-pub loop-rest-preserved-then-hit : goal.loop-rest-preserved-then-hit
-loop-rest-preserved-then-hit c =
+pub loop-rest-preserved-in-Some : goal.loop-rest-preserved-in-Some
+loop-rest-preserved-in-Some c =
     let here = turn c.requires.0 c.loop-rest.invariant.2 c.loop-rest-test.true c.lowest-l.ensures in
     let l : ℕ = c.lowest-l.result in
     let now : List ℕ = c.loop-rest.breaking in
-    let H = c.hit.ensures c.if-hit.true in
-    let count : ℕ = c.taken.result.breaking in
+    let H = c.in-Some.ensures in
+    let count : ℕ = c.in-Some.counts.breaking in
     let key = key-at c.args.lines.now l c.args.d c.args.at.choice c.meet-key.result c.requires.2 c.meet-key.ensures in
     let found = hit-is c.args.lines.now c.args.kept.now c.args.at.many (c.args.d - 1) l c.args.at.choice c.meet-key.result c.slot-place.result count key
-    c.slot-place.ensures.0 H.0 H.1 H.2 c.taken.ensures.1 in
+    c.slot-place.ensures.0 H.fits H.there H.under H.breakings in
     let fits : l < length now = omega (arith, here.few, c.requires.4, c.loop-rest.invariant.1) in (
       c.loop-rest.invariant.0,
       length-set now l count ∙ c.loop-rest.invariant.1,
@@ -58,7 +58,7 @@ loop-rest-smaller c =
 
 pub loop-rest-preserved : goal.loop-rest-preserved
 loop-rest-preserved c =
-    rw (c.join-missing.ensures, c.item-else-hit.ensures, c.less-rest.ensures, c.item.ensures) (
+    rw (c.join-missing.ensures, c.item-in-None.ensures, c.less-rest.ensures, c.item.ensures) (
       join-lt c.loop-rest.missing _,
       c.loop-rest.invariant.1,
       miss-on c.args.lines.now c.args.kept.now c.args.at.many (c.args.d - 1) c.args.at.choice c.args.breaking.now c.loop-rest.breaking c.loop-rest.missing c.loop-rest.invariant.0 (turn c.requires.0 c.loop-rest.invariant.2 c.loop-rest-test.true c.lowest-l.ensures) c.loop-rest.invariant.2,
