@@ -15,55 +15,58 @@ use Rattle.syntax.specs.Code.Nodes.{first_call, oe_op, ao_op, first_pair, member
 use Rattle.printer.specs.Code.Signs.{sign_of, open_of, variable, without}
 use Rattle.printer.specs.Code.Printed.{Adds, Prints, Appends, Printable}
 use Rattle.syntax.proofs.ArenaLaws.{base-small, fn-range, two-range, op_of, holds-op}
-use Rattle.printer.proofs.PrintedLaws.{room-on, adds-as, adds_then, adds_none, adds-front}
+use Rattle.printer.specs.declared.sheet.Sheet.{Sheet}
+use Rattle.printer.proofs.PrintedLaws.{adds-as, adds_then, adds-front}
 use Rattle.printer.proofs.TextLaws.{Shown, text-leaf, text-call, text-new, text-choice, text-others, text-two}
 use Rattle.printer.proofs.TextLaws.{choice-none, choice-some}
 
-module _ {A B : Type 0} {ns vs : List ℕ} {H : A → Type 0} {K : B → Type 0} {f : Choices → A → Bytes} {g : Choices → B → Bytes} {old new : Bytes} {at r : ℕ} where
+module _ {A B : Type 0} {ns vs : List ℕ} {H : A → Type 0} {K : B → Type 0} {f : Choices → A → Bytes} {g : Choices → B → Bytes} {old new : Sheet} where
   -- Where every text of the one is a text of the other.
-  pub appends-as : ((σ : Choices) (b : B) → HoldsAll ns vs σ → K b → Shown H (f σ) (g σ b)) → Appends ns vs H f old new at r → Appends ns vs K g old new at r
+  pub appends-as : ((σ : Choices) (b : B) → HoldsAll ns vs σ → K b → Shown H (f σ) (g σ b)) → Appends ns vs H f old new → Appends ns vs K g old new
   appends-as h p =
       record {
-        room = p.room;
+        same = p.same;
+        size = p.size;
         shows = λ σ b y x. let w = h σ b y x in adds-as w.written (p.shows σ w.thing y w.held);
       }
 
-  pub appends-then : {mid : Bytes} {s : ℕ} → Appends ns vs H f old mid at s → Appends ns vs K g mid new s r
-      → Appends ns vs (λ (p : A × B). H p.0 × K p.1) (λ σ p. f σ p.0 ++ g σ p.1) old new at r
+  pub appends-then : {mid : Sheet} → Appends ns vs H f old mid → Appends ns vs K g mid new
+      → Appends ns vs (λ (p : A × B). H p.0 × K p.1) (λ σ p. f σ p.0 ++ g σ p.1) old new
   appends-then p q =
       record {
-        room = room-on p.room q.room;
+        same = q.same ∙ p.same;
+        size = q.size ∙ p.size;
         shows = λ σ a y x. adds_then (p.shows σ a.0 y x.0) (q.shows σ a.1 y x.1);
       }
 
-module _ {A : Type 0} {ns vs : List ℕ} {H : A → Type 0} {f : Choices → A → Bytes} {w old new : Bytes} {at r : ℕ} where
-  pub add-appends : {mid : Bytes} {s : ℕ} → Adds w old mid at s → Appends ns vs H f mid new s r → Appends ns vs H (λ σ a. w ++ f σ a) old new at r
-  add-appends p q = record { room = room-on p.room q.room; shows = λ σ a y x. adds_then p (q.shows σ a y x) }
+module _ {A : Type 0} {ns vs : List ℕ} {H : A → Type 0} {f : Choices → A → Bytes} {w : Bytes} {old new : Sheet} where
+  pub add-appends : {mid : Sheet} → Adds w old mid → Appends ns vs H f mid new → Appends ns vs H (λ σ a. w ++ f σ a) old new
+  add-appends p q = record { same = q.same ∙ p.same; size = q.size ∙ p.size; shows = λ σ a y x. adds_then p (q.shows σ a y x) }
 
-  pub appends-add : {mid : Bytes} {s : ℕ} → Appends ns vs H f old mid at s → Adds w mid new s r → Appends ns vs H (λ σ a. f σ a ++ w) old new at r
-  appends-add p q = record { room = room-on p.room q.room; shows = λ σ a y x. adds_then (p.shows σ a y x) q }
+  pub appends-add : {mid : Sheet} → Appends ns vs H f old mid → Adds w mid new → Appends ns vs H (λ σ a. f σ a ++ w) old new
+  appends-add p q = record { same = q.same ∙ p.same; size = q.size ∙ p.size; shows = λ σ a y x. adds_then (p.shows σ a y x) q }
 
   -- A text that does not depend on how the choices are written.
-  pub appends-one : ((σ : Choices) (a : A) → HoldsAll ns vs σ → H a → w ≡ f σ a) → Adds w old new at r → Appends ns vs H f old new at r
-  appends-one e p = record { room = p.room; shows = λ σ a y x. adds-as (e σ a y x) p }
+  pub appends-one : ((σ : Choices) (a : A) → HoldsAll ns vs σ → H a → w ≡ f σ a) → Adds w old new → Appends ns vs H f old new
+  appends-one e p = record { same = p.same; size = p.size; shows = λ σ a y x. adds-as (e σ a y x) p }
 
 module _ {A : Type 0} {ns vs : List ℕ} {H : A → Type 0} {f : Choices → A → Bytes} where
-  -- On a full sheet, where a node holds no such thing, and at the front of a sheet.
+  -- Where a node holds no such thing, and onto a sheet that nothing was written on.
 
-  pub appends-full : (old : Bytes) {at : ℕ} → at ≡ length old → Appends ns vs H f old old at at
-  appends-full old e = record { room = record { within = omega arith; size = refl }; shows = λ σ a y x. adds_none (f σ a) old e }
+  pub appends-never : (old : Sheet) → ((a : A) → H a → ⊥) → Appends ns vs H f old old
+  appends-never old h = record { same = refl; size = refl; shows = λ σ a y x. absurd (h a x) }
 
-  pub appends-never : (old : Bytes) {at : ℕ} → at ≤ length old → ((a : A) → H a → ⊥) → Appends ns vs H f old old at at
-  appends-never old l h = record { room = record { within = l; size = refl }; shows = λ σ a y x. absurd (h a x) }
-
-  pub appends-front : {old new : Bytes} {r : ℕ} → Appends ns vs H f old new 0 r → Prints ns vs H f old new r
-  appends-front p = record { room = p.room; shows = λ σ a y x. adds-front (p.shows σ a y x) }
+  pub appends-front : {bytes last : Bytes} {old new : Sheet} → old.out.now ≡ bytes → old.end ≡ 0 → last ≡ new.out.now
+      → Appends ns vs H f old new → Prints ns vs H f bytes last new.end
+  appends-front {bytes} {last} {old} {new} e z l p =
+      let s : length new.out.now ≡ length bytes = p.size ∙ ap length e in
+      record {
+        room = record { within = omega (arith, new.within, s); size = ap length l ∙ s };
+        shows = λ σ a y x. adds-front e z l (p.shows σ a y x);
+      }
 
 -- The nodes below a node are ready too.
 module _ {ns vs : List ℕ} {k : ℕ} (r : Printable ns k vs) where
-  pub ready-size : k < length ns
-  ready-size = omega (arith, r.node, r.tidy.fits)
-
   pub ready-left : {l : ℕ} → l ≡ left_at ns k → first_call ≤ op_at ns k → Printable ns l vs × (l < k)
   unfolding Down
   ready-left {l} e h =
@@ -77,13 +80,13 @@ module _ {ns vs : List ℕ} {k : ℕ} (r : Printable ns k vs) where
       (record { n = r.n; tidy = r.tidy; node = omega (arith, r.node); below = r.below; few = r.few }, w)
 
 -- The writer of terms, by the operation of its node.
-module _ {ns vs : List ℕ} {k : ℕ} (w : Printable ns k vs) {op : ℕ} (e : op ≡ op_at ns k) {old new : Bytes} {at r : ℕ} where
-  pub term-leaf : op < first_call → Adds (sign_of op) old new at r → Appends ns vs (Holds ns k) text old new at r
+module _ {ns vs : List ℕ} {k : ℕ} (w : Printable ns k vs) {op : ℕ} (e : op ≡ op_at ns k) {old new : Sheet} where
+  pub term-leaf : op < first_call → Adds (sign_of op) old new → Appends ns vs (Holds ns k) text old new
   term-leaf h p = appends-one (λ σ t y x. ap sign_of e ∙ text-leaf ns k σ t (omega arith) x) p
 
   pub term-two : {l m : ℕ} → l ≡ left_at ns k → m ≡ right_at ns k → first_pair ≤ op → op < member_op
-      → Appends ns vs (λ (p : Term × Term). Holds ns l p.0 × Holds ns m p.1) (λ σ p. (open_of op ++ text σ p.0) ++ (sign_of op ++ (text σ p.1 ++ ascii ")"))) old new at r
-      → Appends ns vs (Holds ns k) text old new at r
+      → Appends ns vs (λ (p : Term × Term). Holds ns l p.0 × Holds ns m p.1) (λ σ p. (open_of op ++ text σ p.0) ++ (sign_of op ++ (text σ p.1 ++ ascii ")"))) old new
+      → Appends ns vs (Holds ns k) text old new
   term-two q u h g p =
       appends-as
       (λ σ t y x.
@@ -93,23 +96,23 @@ module _ {ns vs : List ℕ} {k : ℕ} (w : Printable ns k vs) {op : ℕ} (e : op
 
   -- Below a call, an OE or an AO.
   module _ {l : ℕ} (q : l ≡ left_at ns k) where
-    pub term-call : first_call ≤ op → op < oe_op → Appends ns vs (Holds ns l) (λ σ a. sign_of op ++ (text σ a ++ ascii ")")) old new at r → Appends ns vs (Holds ns k) text old new at r
+    pub term-call : first_call ≤ op → op < oe_op → Appends ns vs (Holds ns l) (λ σ a. sign_of op ++ (text σ a ++ ascii ")")) old new → Appends ns vs (Holds ns k) text old new
     term-call h g p = appends-as (λ σ t y x. text-call ns k σ t (omega arith) (omega arith) x) (rw e at (rw q at p))
 
     module _ {d : ℕ} (b : oe_op ≤ op) (s : Sought vs (length vs) l d) where
-      pub term-new : op < first_pair → length vs ≤ d → Appends ns vs (Holds ns l) (λ σ a. sign_of op ++ (text σ a ++ ascii ")")) old new at r → Appends ns vs (Holds ns k) text old new at r
+      pub term-new : op < first_pair → length vs ≤ d → Appends ns vs (Holds ns l) (λ σ a. sign_of op ++ (text σ a ++ ascii ")")) old new → Appends ns vs (Holds ns k) text old new
       term-new g h p =
           let v = (ready-left w q (omega arith)).0 in
           appends-as
           (λ σ t y x. text-new ns k σ t (omega arith) (omega arith) (λ a z. choice-none v s σ y a (rw q z) h) x)
           (rw e at (rw q at p))
 
-      pub term-choice : op ≡ oe_op → d < length vs → Adds (variable (49 + d)) old new at r → Appends ns vs (Holds ns k) text old new at r
+      pub term-choice : op ≡ oe_op → d < length vs → Adds (variable (49 + d)) old new → Appends ns vs (Holds ns k) text old new
       term-choice g h p =
           let v = (ready-left w q (omega arith)).0 in
           appends-one (λ σ t y x. text-choice ns k σ (49 + d) (λ a z. choice-some v s σ y a (rw q z) h) t (omega arith) x) p
 
-      pub term-others : ao_op ≤ op → op < first_pair → d < length vs → Appends ns vs (Holds ns l) (λ σ a. ao_text (some (49 + d)) (text σ a)) old new at r → Appends ns vs (Holds ns k) text old new at r
+      pub term-others : ao_op ≤ op → op < first_pair → d < length vs → Appends ns vs (Holds ns l) (λ σ a. ao_text (some (49 + d)) (text σ a)) old new → Appends ns vs (Holds ns k) text old new
       term-others f g h p =
           let v = (ready-left w q (omega arith)).0 in
           appends-as

@@ -1,7 +1,7 @@
 -- What is written for the test, the clause and the rule that a node holds, and for a quantifier.
 -- Assumes nothing.
-use mathlib.Core.Path.{◌≡◌, refl, ap, ◌∙◌}
-use mathlib.Core.List.{List, [], ◌∷◌, ◌++◌, append_assoc}
+use mathlib.Core.Path.{◌≡◌, refl, ap, sym, ◌∙◌}
+use mathlib.Core.List.{List, [], ◌∷◌, ◌++◌, append_assoc, append-nil}
 use Prim.Native.Nat.{ℕ, suc, zero, ◌+◌, ◌%◌, ◌≤◌, ◌<◌}
 use native.Mathlib.Omega.{arith}
 use lib.ListN.{length, get_or, take, drop}
@@ -14,7 +14,7 @@ use Rattle.syntax.specs.Code.Arena.{alike_op, empty_op, cmp_number, Holds, Holds
 use Rattle.syntax.specs.Code.Arena.{HoldsRule, HoldsAll}
 use Rattle.syntax.specs.Code.Nodes.{member_op, first_empty, first_numbered, first_counted, when_op, also_op, op_at, left_at, right_at}
 use Rattle.printer.specs.Code.Signs.{signs, sign_of, cmp_signs}
-use Rattle.printer.specs.Code.Printed.{left_text, right_text, quantifier, quantifiers_from}
+use Rattle.printer.specs.Code.Printed.{left_text, right_text, quantifier}
 use Rattle.syntax.proofs.ArenaLaws.{one-parts, both-parts, numbered-parts}
 use Rattle.printer.proofs.TextLaws.{Shown, AtBoth}
 use Rattle.syntax.proofs.TestLaws.{cmp-small, alike-range, empty-range}
@@ -177,20 +177,23 @@ pub record Split (ns vs : List ℕ) (σ : Choices) (d : ℕ) : Type 0 where
   pub term : Term
   pub holds : Holds ns (get_or vs d 0) term
   pub before : HoldsAll ns (take d vs) (take d σ)
-  pub rest : drop d σ ≡ term ∷ drop (suc d) σ
   pub upto : take (suc d) σ ≡ take d σ ++ (term ∷ [])
 
 pub split : (ns vs : List ℕ) (σ : Choices) (d : ℕ) → d < length vs → HoldsAll ns vs σ → Split ns vs σ d
 split ns [] σ d h y = absurd (omega arith)
 split ns (v ∷ vs) [] d h y = absurd y
-split ns (v ∷ vs) (a ∷ σ) zero h y = record { term = a; holds = y.0; before = tt; rest = refl; upto = refl }
+split ns (v ∷ vs) (a ∷ σ) zero h y = record { term = a; holds = y.0; before = tt; upto = refl }
 split ns (v ∷ vs) (a ∷ σ) (suc d) h y =
     let s = split ns vs σ d (omega arith) y.1 in
-    record { term = s.term; holds = s.holds; before = (y.0, s.before); rest = s.rest; upto = ap (λ (l : Choices). a ∷ l) s.upto }
+    record { term = s.term; holds = s.holds; before = (y.0, s.before); upto = ap (λ (l : Choices). a ∷ l) s.upto }
 
--- One quantifier and those after it.
-pub quantifiers-more : (ns vs : List ℕ) (σ : Choices) (d : ℕ) (s : Split ns vs σ d) → quantifier (take d σ) s.term ++ quantifiers_from (suc d) σ ≡ quantifiers_from d σ
+-- The quantifiers of some choices, and then one more.
+pub quantifiers-more : (σ τ : Choices) (x : Term) → quantifiers_after σ τ ++ quantifier (σ ++ τ) x ≡ quantifiers_after σ (τ ++ (x ∷ []))
 unfolding quantifier quantifiers_after
-quantifiers-more ns vs σ d s =
-    rw (s.rest, s.upto)
-    (ap (λ (l : Bytes). ascii "[v" ++ ((49 + length (take d σ)) ∷ (ascii "@" ++ l))) (append_assoc (text (take d σ) s.term) (ascii "]") _))
+quantifiers-more σ [] x = ap (λ (l : Choices). quantifier l x) (append-nil σ)
+quantifiers-more σ (y ∷ τ) x =
+    let rest = quantifiers_after (σ ++ (y ∷ [])) τ in
+    let more : rest ++ quantifier (σ ++ (y ∷ τ)) x ≡ quantifiers_after (σ ++ (y ∷ [])) (τ ++ (x ∷ [])) =
+    ap (λ (l : Choices). rest ++ quantifier l x) (sym (append_assoc σ (y ∷ []) τ)) ∙ quantifiers-more (σ ++ (y ∷ [])) τ x in
+    ap (λ (l : Bytes). ascii "[v" ++ ((49 + length σ) ∷ (ascii "@" ++ l)))
+    (append_assoc (text σ y) (ascii "]" ++ rest) _ ∙ ap (λ (l : Bytes). text σ y ++ (ascii "]" ++ l)) more)

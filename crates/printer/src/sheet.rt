@@ -1,27 +1,43 @@
-// Putting bytes into a sheet, as far as they fit: what `answers::lend` writes is all of a text or nothing.
+// A sheet that the caller lends, and how far it is written.
 // Nothing here knows what the bytes say.
-ghost use Rattle.std.specs.Prelude.{◌≤◌, length};
-ghost use Rattle.printer.specs.Code.Printed.{Puts, Adds};
+ghost use Rattle.std.specs.Prelude.{◌≡◌, ◌≤◌, ◌↔◌, IsTrue, length};
 
-// Copies `p` to the front of the sheet, as far as it fits.
-fn copy(out: &mut [u8], p: &[u8]) -> usize
-    ensures { Puts p.now out.old out.new result }
-{
-    let mut i = 0;
-    while i < p.len() {
-        if i == out.len() {
-            return i;
-        }
-        out[i] = p[i];
-        i += 1;
-    }
-    i
+#[derive(Drop)]
+pub struct Sheet<'a> {
+    out: &'a mut [u8],
+    end: usize,
+    ghost within: { end ≤ length out.now },
 }
 
-// Copies `p` to place `at` on, and answers the place behind it.
-pub fn put(out: &mut [u8], at: usize, p: &[u8]) -> usize
-    requires { at ≤ length out.old }
-    ensures { Adds p.now out.old out.new at result }
-{
-    at + copy(&mut out[at..], p)
+impl<'a> Sheet<'a> {
+    ghost use Rattle.printer.specs.Code.Printed.{Adds};
+
+    pub fn new(out: &'a mut [u8]) -> Sheet<'a>
+        ensures same { result.out.ghost_name ≡ out.entry.ghost_name }
+        ensures bytes { result.out.now ≡ out.old }
+        ensures end { result.end ≡ 0 }
+    {
+        Sheet { out, end: 0 }
+    }
+
+    pub fn end(&self) -> usize
+        ensures { result ≡ self.now.end }
+    {
+        self.end
+    }
+
+    pub fn is_full(&self) -> bool
+        ensures { IsTrue result ↔ (self.now.end ≡ length self.now.out.now) }
+    {
+        self.end == self.out.len()
+    }
+
+    // Puts `p` behind what is written, as far as it fits: what `answers::lend` writes is all of a text or nothing.
+    pub fn put(&mut self, p: &[u8])
+        ensures { Adds p.now self.old self.new }
+    {
+        let n = p.len().min(self.out.len() - self.end);
+        self.out[self.end..self.end + n].copy_from_slice(&p[..n]);
+        self.end += n;
+    }
 }

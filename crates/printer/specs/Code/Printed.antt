@@ -1,4 +1,4 @@
--- What a writer leaves in the sheet that it is lent: the text from the front, as far as it fits, and then the old rest.
+-- What a writer leaves in the sheet that it is lent: the text behind what it had, as far as it fits, and then the old rest.
 -- Internal: contracts of entry points do not speak of it. Assumes nothing.
 use Rattle.std.specs.Prelude.{◌≡◌, List, [], ◌∷◌, ◌++◌, ℕ, ◌+◌, ◌≤◌, ◌<◌, min, length, take, drop, get_or}
 use Rattle.syntax.specs.Bytes.{Bytes, ascii}
@@ -6,32 +6,34 @@ use Rattle.syntax.specs.Term.{Term, Choices, text}
 use Rattle.syntax.specs.Rule.{Test, member, alike, empty, sized, count, count_text, Rule, rule_text}
 use Rattle.syntax.specs.Code.Printing.{quantifiers_after}
 use Rattle.syntax.specs.Code.Arena.{Tidy, HoldsAll}
+use Rattle.printer.specs.declared.nodes.Tree.{Tree}
+use Rattle.printer.specs.declared.sheet.Sheet.{Sheet}
 
 -- The text w was put at the front of the sheet, and r bytes of it had room there.
 pub record Puts (w old new : Bytes) (r : ℕ) : Type 0 where
   pub bytes : new ≡ take (length old) w ++ drop (length w) old
   pub count : r ≡ min (length w) (length old)
 
--- A loop has copied i bytes of p.
-pub record Copied (p old new : Bytes) (i : ℕ) : Type 0 where
-  pub within : i ≤ min (length p) (length old)
-  pub bytes : new ≡ take i p ++ drop i old
-  pub size : length new ≡ length old
-
 -- r bytes were put, and the sheet keeps its length.
 pub record Room (old new : Bytes) (r : ℕ) : Type 0 where
   pub within : r ≤ length old
   pub size : length new ≡ length old
 
--- From place at on the text w was put, up to place r: behind whatever text ends there.
-pub record Adds (w old new : Bytes) (at r : ℕ) : Type 0 where
-  pub room : Room old new r
-  pub puts : (u base : Bytes) → Puts u base old at → Puts (u ++ w) base new r
+-- The text w was put behind what the sheet had: behind whatever text ends there.
+pub record Adds (w : Bytes) (old new : Sheet) : Type 0 where
+  pub same : new.out.ghost_name ≡ old.out.ghost_name
+  pub size : length new.out.now ≡ length old.out.now
+  pub puts : (u base : Bytes) → Puts u base old.out.now old.end → Puts (u ++ w) base new.out.now new.end
 
 -- The same of whatever the node holds, as it is shown with the choices whose nodes are vs.
-pub record Appends {A : Type 0} (ns vs : List ℕ) (holds : A → Type 0) (shown : Choices → A → Bytes) (old new : Bytes) (at r : ℕ) : Type 0 where
-  pub room : Room old new r
-  pub shows : (σ : Choices) (a : A) → HoldsAll ns vs σ → holds a → Adds (shown σ a) old new at r
+pub record Appends {A : Type 0} (ns vs : List ℕ) (holds : A → Type 0) (shown : Choices → A → Bytes) (old new : Sheet) : Type 0 where
+  pub same : new.out.ghost_name ≡ old.out.ghost_name
+  pub size : length new.out.now ≡ length old.out.now
+  pub shows : (σ : Choices) (a : A) → HoldsAll ns vs σ → holds a → Adds (shown σ a) old new
+
+-- The same of whatever node k of a tree holds.
+abbrev pub Writes : {A : Type 0} → Tree → (List ℕ → ℕ → A → Type 0) → ℕ → (Choices → A → Bytes) → Sheet → Sheet → Type 0
+Writes t Held k shown old new = Appends t.nodes.now t.vars.now (Held t.nodes.now k) shown old new
 
 -- Whatever the node holds was put, as it is shown with the choices whose nodes are vs.
 pub record Prints {A : Type 0} (ns vs : List ℕ) (holds : A → Type 0) (shown : Choices → A → Bytes) (old new : Bytes) (r : ℕ) : Type 0 where
@@ -45,6 +47,9 @@ pub record Printable (ns : List ℕ) (k : ℕ) (vs : List ℕ) : Type 0 where
   pub node : k < n
   pub below : (i : ℕ) → i < length vs → get_or vs i 0 < n
   pub few : length vs ≤ 8
+
+abbrev pub Ready : Tree → ℕ → Type 0
+Ready t k = Printable t.nodes.now k t.vars.now
 
 -- What a test has left of its sign, and right of it.
 
@@ -64,14 +69,6 @@ right_text σ (sized c a k) = count_text σ k
 unfoldable pub quantifier : Choices → Term → Bytes
 quantifier σ x = ascii "[v" ++ ((49 + length σ) ∷ (ascii "@" ++ (text σ x ++ ascii "]")))
 
--- The quantifiers of the choices σ from the one of index d on, and then a formula's rule.
-
-abbrev pub quantifiers_from : ℕ → Choices → Bytes
-quantifiers_from d σ = quantifiers_after (take d σ) (drop d σ)
-
+-- The quantifiers of the choices σ, and then a formula's rule.
 abbrev pub formula_in : Choices → Rule → Bytes
 formula_in σ ρ = quantifiers_after [] σ ++ (ascii ":" ++ rule_text σ ρ)
-
--- Anything: for a text that needs no more than the choices.
-abbrev pub Any : Unit {0} → Type 0
-Any u = Unit {0}
