@@ -40,8 +40,7 @@ use Rattle.judging.specs.Code.Walking.{Along, Lays, Ready, Sound, Stands, Descen
 use Rattle.judging.specs.declared.walking.Walk.{Walk}
 use Rattle.judging.specs.declared.walking.Guide.{Guide}
 use Rattle.judging.proofs.WalkingLaws.{once-in, after-in}
-use Rattle.judging.proofs.CountingLaws.{plan-runs}
-use Rattle.judging.proofs.CountingLaws.{set-in, caches-on, below-whole}
+use Rattle.judging.proofs.CountingLaws.{plan-runs, set-in, caches-on, below-whole}
 
 -- No item of w but those of rest counts.
 pub record Seeking (w : ℕ) (f : ℕ → ℕ) (rest : ℕ) : Type 0 where
