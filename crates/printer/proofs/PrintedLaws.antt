@@ -1,17 +1,14 @@
 -- Putting texts into a sheet, one after the other.
 -- Assumes nothing.
 use mathlib.Core.Path.{◌≡◌, refl, ap, sym, ◌∙◌}
-use mathlib.Core.List.{List, [], ◌∷◌, ◌++◌, map, append_assoc, append-nil}
-use Prim.Native.Nat.{ℕ, zero, suc, ◌+◌, ◌-◌, ◌≤◌, ◌<◌, min}
+use mathlib.Core.List.{[], ◌++◌, append_assoc, append-nil}
+use Prim.Native.Nat.{ℕ, ◌+◌, ◌-◌, ◌≤◌, ◌<◌, min}
 use native.Mathlib.Omega.{arith}
-use native.Mathlib.Nat.{zero-add}
-use native.Mathlib.Numerals.{add-one}
 use native.Mathlib.Decide.{dec_lt}
-use lib.ListN.{length, take, drop, get_or, set, replicate, length-set, length-append, length-take, length-drop, drop_of_length-le}
-use lib.Seq.{paste-suc, take_all, take-length, length-take-le, drop-nil, take-append_seam, drop-append_seam, take-append-add}
-use lib.Seq.{take-append-le, drop-drop, take-nil, take_at, get_or-take, get_or-drop}
-use borrow.Author.Rules.{part_to_end}
-use borrow.Rule.Slice.PartMut.{mid_of, post_of, put_mid, mid_len, same_len_mid}
+use lib.ListN.{length, take, drop, length-append, length-take, length-drop, drop_of_length-le}
+use lib.Seq.{take_all, take-length, length-take-le, drop-nil, take-append_seam, drop-append_seam, take-append-add}
+use lib.Seq.{take-append-le, drop-drop, take-nil, take_at}
+use borrow.Rule.Slice.PartMut.{put_mid}
 use Rattle.syntax.specs.Bytes.{Bytes}
 use Rattle.printer.specs.Code.Printed.{Puts, Adds}
 use Rattle.printer.specs.declared.sheet.Sheet.{Sheet}
@@ -52,9 +49,6 @@ puts-more {w} {v} {old} {mid} {rest} {r} {s} p q = go (dec_lt (length old) (leng
 -- Of two texts that are one.
 pub puts-as : {w v old new : Bytes} {r : ℕ} → w ≡ v → Puts w old new r → Puts v old new r
 puts-as e p = rw e at p
-
-pub puts-size : {w old new : Bytes} {r : ℕ} → Puts w old new r → length new ≡ length old
-puts-size {w} {old} {new} {r} p = ap length p.bytes ∙ simp (length-append, length-take, length-drop) (omega arith)
 
 pub puts-empty : (old : Bytes) → Puts [] old old 0
 puts-empty old = record { bytes = rw (take-nil (length old)); count = omega arith }

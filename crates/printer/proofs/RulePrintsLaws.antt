@@ -2,12 +2,11 @@
 -- Assumes nothing.
 use mathlib.Core.Path.{◌≡◌, refl, ap, sym, ◌∙◌}
 use mathlib.Core.List.{List, [], ◌∷◌, ◌++◌, append_assoc}
-use Prim.Native.Nat.{ℕ, ◌+◌, ◌-◌, ◌%◌, ◌≤◌, ◌<◌}
+use Prim.Native.Nat.{ℕ, ◌+◌, ◌%◌, ◌≤◌, ◌<◌}
 use native.Mathlib.Omega.{arith}
 use native.Mathlib.Numerals.{add-one}
-use lib.ListN.{length, get_or, take, drop_of_length-le}
-use lib.Seq.{length-take-le, get_or-take, take_all}
-use borrow.Rule.Slice.PartMut.{mid_of, put_mid}
+use lib.ListN.{length, get_or, take}
+use lib.Seq.{take_all}
 use Rattle.syntax.specs.Bytes.{Bytes, ascii}
 use Rattle.syntax.specs.Term.{Term, Choices, text}
 use Rattle.syntax.specs.Rule.{digits, test_text, clause_text, rule_text}
@@ -16,7 +15,7 @@ use Rattle.syntax.specs.Code.Arena.{Holds, HoldsTest, HoldsClause, HoldsRule}
 use Rattle.syntax.specs.Code.Nodes.{first_empty, first_numbered, first_counted, when_op, also_op, op_at, left_at, right_at}
 use Rattle.printer.specs.Code.Signs.{sign_of, bound}
 use Rattle.printer.specs.declared.sheet.Sheet.{Sheet}
-use Rattle.printer.specs.Code.Printed.{Adds, Prints, Appends, Printable, left_text, right_text, quantifier, formula_in}
+use Rattle.printer.specs.Code.Printed.{Adds, Appends, Printable, left_text, right_text, quantifier, formula_in}
 use Rattle.printer.proofs.PrintedLaws.{adds-as, adds-empty, adds_then}
 use Rattle.printer.proofs.PrintsLaws.{appends-as, appends-one}
 use Rattle.printer.proofs.RuleTextLaws.{test-text, left-term, left-count, right-term, right-empty, right-number, right-count, clause-plain, clause-when, rule-last}

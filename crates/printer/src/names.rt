@@ -9,8 +9,8 @@ ghost use Rattle.printer.specs.Code.Signs.{sign_of, signs_end, open_of, variable
 use crate::sheet::Sheet;
 use syntax::nodes::FIRST_PAIR;
 
-// Bases and calls, what parts two terms, and what stands between the two sides of a test.
 static SIGNS: [&[u8]; 39] = [
+    // Bases.
     b"U",
     b"R",
     b"OP",
@@ -20,6 +20,7 @@ static SIGNS: [&[u8]; 39] = [
     b"CR",
     b"CP",
     b"CU",
+    // Calls of one term, with `OE` and `AO`.
     b"user(",
     b"roles(",
     b"roles*(",
@@ -29,10 +30,12 @@ static SIGNS: [&[u8]; 39] = [
     b"object(",
     b"OE(",
     b"AO(",
+    // What parts two terms.
     b",",
     b",",
     b"&",
     b"+",
+    // What stands between the two sides of a test.
     b"@",
     b"=",
     b"!=",
@@ -64,6 +67,7 @@ impl Sheet<'_> {
     }
 
     // The name or sign of an operation on terms or counts.
+    #[tactic(auto, unfolding(crate::specs::Code::Signs::signs, crate::specs::Code::Signs::cmp_signs, syntax::specs::Term::spell, syntax::specs::Term::spell_middle, syntax::specs::Term::parting, syntax::specs::Rule::spell_between, syntax::specs::Rule::spell_cmp))]
     pub fn sign(&mut self, op: u32)
         requires { op < signs_end }
         ensures { Adds (sign_of op) self.old self.new }
@@ -72,6 +76,7 @@ impl Sheet<'_> {
     }
 
     // What opens a term of two terms.
+    #[tactic(auto, unfolding(crate::specs::Code::Signs::openings, syntax::specs::Term::opening, syntax::specs::Term::spell, syntax::specs::Term::spell_middle))]
     pub fn open(&mut self, op: u32)
         requires { (first_pair ≤ op) × (op < member_op) }
         ensures { Adds (open_of op) self.old self.new }

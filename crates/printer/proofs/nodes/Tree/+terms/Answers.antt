@@ -1,6 +1,5 @@
 -- The writers of terms call each other on nodes below their own: three times the index falls, a helper one below its caller.
 -- Assumes nothing.
-use mathlib.Core.List.{append_assoc}
 use native.Mathlib.Omega.{arith}
 use Rattle.printer.proofs.PrintsLaws.{appends-as, appends-then, add-appends, appends-add, appends-never, ready-left, ready-right}
 use Rattle.syntax.proofs.ArenaLaws.{two-low}
