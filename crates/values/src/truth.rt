@@ -5,7 +5,7 @@ ghost use Rattle.values.specs.Code.Nodes.{related_at, empty_at};
 ghost use Rattle.values.specs.Code.Cache.{TestOf, ClauseOf};
 ghost use Rattle.values.specs.Code.Clauses.{TestsAt};
 
-use crate::items;
+use crate::items::Comparison;
 use syntax::nodes;
 use syntax::nodes::{FIRST_COUNTED, FIRST_NUMBERED, IS, IS_EMPTY, MEMBER, WHEN};
 
@@ -50,10 +50,10 @@ fn test(node: u32, cache: &[u64]) -> bool
     }
     let x = words::size(a);
     if op < FIRST_COUNTED {
-        return items::compare((op - FIRST_NUMBERED) as usize, x, right);
+        return Comparison::numbered(op - FIRST_NUMBERED).holds(x, right);
     }
     let y = words::size(cache[right]);
-    items::compare((op - FIRST_COUNTED) as usize, x, y)
+    Comparison::numbered(op - FIRST_COUNTED).holds(x, y)
 }
 
 // A clause of the two tests, or of the first where the second is 0, which is no test.
