@@ -33,8 +33,6 @@ pub const MASKS: usize = 816;
 
 pub const VARIABLE_COUNT: usize = 850;
 
-const TEST_ROOM: u64 = 4294967296;
-
 // Fills in the n words of the plan from `at` on.
 fn fill<F: Fn(usize) -> u64>(plan: &mut [u64], at: usize, n: usize, f: F)
     requires { (at + n ≤ length plan.old) × (length plan.old ≡ plan_length) × ((i : ℕ) → i < n → F.pre f i) }
@@ -84,8 +82,7 @@ fn clause(nodes: &[u32], n: usize, k: usize) -> u64
     requires { Tidy nodes.now n × (k < n) }
     ensures { TestsAt nodes.now n k (first_in result) (second_in result) }
 {
-    let tests = tests_at(nodes, n, k);
-    (tests.first as u64) + TEST_ROOM * (tests.second as u64)
+    tests_at(nodes, n, k).word()
 }
 
 // The clauses, by the nodes of their tests; how many there are.
@@ -111,8 +108,7 @@ pub fn scopes(plan: &[u64], names: &[u64], many: usize, found: &mut [u64])
     ensures { Scoped plan.now names.now many found.new }
 {
     for i in 0..many {
-        let w = plan[CLAUSES + i];
-        found[i] = values::scopes::clause(names, (w % TEST_ROOM) as u32, (w / TEST_ROOM) as u32);
+        found[i] = values::scopes::clause(names, plan[CLAUSES + i]);
     }
 }
 

@@ -9,10 +9,11 @@ ghost use Rattle.rules.specs.Code.Numbers.{first_set, kinds_fit, kind_of};
 ghost use Rattle.values.specs.Items.{kind_items};
 ghost use Rattle.values.specs.Values.{of_sort, one_value};
 ghost use Rattle.values.specs.Truth.{compared};
-ghost use Rattle.values.specs.Code.Nodes.{base_at, cmp_at, sort_at};
+ghost use Rattle.values.specs.Code.Nodes.{base_at, cmp_at, cmp_of, sort_at};
 ghost use Rattle.syntax.specs.Code.Nodes.{first_call};
 
 use rules::kinds::{FIRST_COLLECTION, FIRST_SET, NO_KIND};
+use syntax::nodes::{EQ, GE, GT, LE, LT};
 use tables::layout;
 
 // Where the tables have the word of the users present, and where they count roles, operations, objects, permissions, sessions, and the
@@ -73,26 +74,45 @@ pub fn is_sort(kind: u8, sort: u8) -> bool
     kind < FIRST_COLLECTION && kind % FIRST_SET == sort
 }
 
-// `<` `<=` `>` `>=` `=` `!=` by number.
-#[tactic(auto, unfolding(crate::specs::Truth::compared, crate::specs::Code::Nodes::cmp_at))]
-pub fn compare(d: usize, a: usize, b: usize) -> bool
-    requires { d < 6 }
-    ensures { result ≡ compared (cmp_at d) a b }
-{
-    if d == 0 {
-        return a < b;
+// `<` `<=` `>` `>=` `=` `!=` of two counts.
+#[derive(Clone, Copy)]
+pub enum Comparison {
+    Lt,
+    Le,
+    Gt,
+    Ge,
+    Eq,
+    Ne,
+}
+
+impl Comparison {
+    // The one of that number.
+    #[tactic(auto, unfolding(crate::specs::Code::Nodes::cmp_at))]
+    pub fn numbered(d: u32) -> Comparison
+        requires { d < 6 }
+        ensures { cmp_of result ≡ cmp_at d }
+    {
+        match d {
+            LT => Comparison::Lt,
+            LE => Comparison::Le,
+            GT => Comparison::Gt,
+            GE => Comparison::Ge,
+            EQ => Comparison::Eq,
+            _ => Comparison::Ne,
+        }
     }
-    if d == 1 {
-        return a <= b;
+
+    #[tactic(auto, unfolding(crate::specs::Truth::compared))]
+    pub fn holds(self, a: usize, b: usize) -> bool
+        ensures { result ≡ compared (cmp_of self) a b }
+    {
+        match self {
+            Comparison::Lt => a < b,
+            Comparison::Le => a <= b,
+            Comparison::Gt => a > b,
+            Comparison::Ge => a >= b,
+            Comparison::Eq => a == b,
+            Comparison::Ne => a != b,
+        }
     }
-    if d == 2 {
-        return b < a;
-    }
-    if d == 3 {
-        return b <= a;
-    }
-    if d == 4 {
-        return a == b;
-    }
-    a != b
 }

@@ -30,7 +30,7 @@ pub const NAMES: usize = 944;
 
 pub const KINDS: usize = 952;
 
-// The parts of a node's word: the node, the kind of its left, its variable, the next node of its level. A clause's: its two tests.
+// The parts of a node's word: the node, the kind of its left, its variable, the next node of its level.
 pub const NODE_ROOM: u64 = 4294967296;
 
 pub const KIND_ROOM: u64 = 256;
@@ -109,10 +109,7 @@ pub fn holds_among(plan: &[u64], cache: &[u64], level: usize, from: usize, to: u
 {
     for i in from..to {
         if plan[LEVELS + i] as usize == level {
-            let word = plan[CLAUSES + i];
-            let first = (word % NODE_ROOM) as u32;
-            let second = (word / NODE_ROOM) as u32;
-            if !truth::clause(first, second, cache) {
+            if !truth::clause(plan[CLAUSES + i], cache) {
                 return false;
             }
         }

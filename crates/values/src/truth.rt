@@ -1,13 +1,17 @@
 // Whether a clause is true, where a cache has the values of the terms: by the numbers of the nodes of its tests.
-ghost use Rattle.std.specs.Prelude.{◌≡◌, ◌<◌, length};
+ghost use Rattle.std.specs.Prelude.{◌≡◌, ◌<◌, length, MatchOption};
 ghost use Rattle.syntax.specs.Code.Arena.{Low, Tidy};
 ghost use Rattle.values.specs.Code.Nodes.{related_at, empty_at};
 ghost use Rattle.values.specs.Code.Cache.{TestOf, ClauseOf};
-ghost use Rattle.values.specs.Code.Clauses.{TestsAt};
+ghost use Rattle.values.specs.Code.Clauses.{TestsAt, number_of_second};
+ghost use Rattle.values.specs.Code.Plan.{first_in, second_in};
 
-use crate::items;
+use crate::items::Comparison;
 use syntax::nodes;
 use syntax::nodes::{FIRST_COUNTED, FIRST_NUMBERED, IS, IS_EMPTY, MEMBER, WHEN};
+
+// The first test's part of a word of tests.
+const TEST_ROOM: u64 = 4294967296;
 
 // `@`, `=` and `!=` of two values. An element is in a set where they have an item in common.
 #[tactic(auto, unfolding(crate::specs::Code::Nodes::related_at))]
@@ -50,46 +54,73 @@ fn test(node: u32, cache: &[u64]) -> bool
     }
     let x = words::size(a);
     if op < FIRST_COUNTED {
-        return items::compare((op - FIRST_NUMBERED) as usize, x, right);
+        return Comparison::numbered(op - FIRST_NUMBERED).holds(x, right);
     }
     let y = words::size(cache[right]);
-    items::compare((op - FIRST_COUNTED) as usize, x, y)
+    Comparison::numbered(op - FIRST_COUNTED).holds(x, y)
 }
 
-// A clause of the two tests, or of the first where the second is 0, which is no test.
-// `=>` is false only where its first test is true and its second false.
-pub fn clause(first: u32, second: u32, cache: &[u64]) -> bool
-    requires { Low first (length cache.now) × Low second (length cache.now) }
-    ensures { ClauseOf first second cache.now result }
-{
-    if second == 0 {
-        return test(first, cache);
-    }
-    !test(first, cache) || test(second, cache)
-}
-
-// The nodes of a clause's tests, the second 0 where there is one test.
+// The nodes of a clause's tests, of which `=>` has two.
 #[derive(Clone, Copy)]
 pub struct Tests {
     pub first: u32,
-    pub second: u32,
+    pub second: Option<u32>,
+}
+
+impl Tests {
+    // In one word; 0, which is no test, says that there is no second.
+    pub fn word(self) -> u64
+        ensures { (first_in result ≡ self.first) × (second_in result ≡ number_of_second self.second) }
+    {
+        (self.first as u64) + TEST_ROOM * (self.second.unwrap_or(0) as u64)
+    }
+
+    // Those of a word.
+    pub fn of(word: u64) -> Tests
+        ensures { (result.first ≡ first_in word) × MatchOption result.second (second_in word ≡ 0) (λ second. (second ≡ second_in word) × (0 < second)) }
+    {
+        let first = (word % TEST_ROOM) as u32;
+        let second = (word / TEST_ROOM) as u32;
+        if second == 0 {
+            return Tests {
+                first,
+                second: None,
+            };
+        }
+        Tests {
+            first,
+            second: Some(second),
+        }
+    }
+}
+
+// The clause of a word of tests. `=>` is false only where its first test is true and its second false.
+pub fn clause(word: u64, cache: &[u64]) -> bool
+    requires { Low (first_in word) (length cache.now) × Low (second_in word) (length cache.now) }
+    ensures { ClauseOf (first_in word) (second_in word) cache.now result }
+{
+    let Tests { first, second } = Tests::of(word);
+    match second {
+        None => test(first, cache),
+        Some(second) => !test(first, cache) || test(second, cache),
+    }
 }
 
 // The tests of the clause of node k.
 pub fn tests_at(nodes: &[u32], n: usize, k: usize) -> Tests
     requires { Tidy nodes.now n × (k < n) }
-    ensures { TestsAt nodes.now n k result.first result.second }
+    ensures { TestsAt nodes.now n k result.first (number_of_second result.second) }
 {
     let node = nodes[k];
     if nodes::operation(node) != WHEN {
         return Tests {
             first: node,
-            second: 0,
+            second: None,
         };
     }
     let left = nodes::left(node) as usize;
     let right = nodes::right(node) as usize;
     let first = nodes[left];
-    let second = nodes[right];
+    let second = Some(nodes[right]);
     Tests { first, second }
 }

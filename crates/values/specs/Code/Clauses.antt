@@ -1,6 +1,6 @@
 -- A rule's clauses by number: the nodes of their tests, and the variables that each names.
 -- Internal: contracts of entry points do not speak of it. Assumes nothing.
-use Rattle.std.specs.Prelude.{◌≡◌, Bool, ◌||◌, List, ℕ, zero, suc, ◌<◌, get_or}
+use Rattle.std.specs.Prelude.{◌≡◌, Bool, ◌||◌, List, Option, None, Some, ℕ, zero, suc, ◌<◌, get_or}
 use Rattle.words.specs.Words.{has}
 use Rattle.syntax.specs.Term.{Choices}
 use Rattle.syntax.specs.Rule.{number, count, Test, member, alike, empty, sized, Clause, plain, when, Rule, last, also}
@@ -41,6 +41,11 @@ pub record TestNode (ns : List ℕ) (n v : ℕ) (p : Test) : Type 0 where
 unfoldable pub ClauseNodes : List ℕ → ℕ → ℕ → ℕ → Clause → Type 0
 ClauseNodes ns n first second (plain p) = TestNode ns n first p × (second ≡ 0)
 ClauseNodes ns n first second (when p q) = TestNode ns n first p × TestNode ns n second q
+
+-- The number of a second test; 0 of none.
+abbrev pub number_of_second : Option ℕ → ℕ
+number_of_second None = 0
+number_of_second (Some v) = v
 
 -- They are those of the clause that node k holds.
 pub record TestsAt (ns : List ℕ) (n k first second : ℕ) : Type 0 where

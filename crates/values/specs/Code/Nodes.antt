@@ -16,6 +16,8 @@ use Rattle.rules.specs.Code.Numbers.{Kinded}
 use Rattle.words.specs.Words.{has, meet_of}
 use Rattle.values.specs.Values.{value}
 use Rattle.values.specs.Sets.{names_in, names}
+use Rattle.values.specs.declared.items.Comparison.{Comparison}
+use Rattle.values.specs.declared.items.Comparison.TheVariants.{Lt, Le, Gt, Ge, Eq, Ne}
 
 -- The base, the function, what makes one term of two, the comparison and the sort of a number.
 unfoldable pub base_at : ℕ → Base
@@ -29,6 +31,15 @@ pair_at o = get_or (calls operations ∷ calls done ∷ joins meet ∷ joins joi
 
 unfoldable pub cmp_at : ℕ → Cmp
 cmp_at d = get_or (lt ∷ le ∷ gt ∷ ge ∷ eq ∷ ne ∷ []) d lt
+
+-- What the code's own word for a comparison means.
+abbrev pub cmp_of : Comparison → Cmp
+cmp_of Lt = lt
+cmp_of Le = le
+cmp_of Gt = gt
+cmp_of Ge = ge
+cmp_of Eq = eq
+cmp_of Ne = ne
 
 unfoldable pub sort_at : ℕ → Sort
 sort_at s = get_or (s_u ∷ s_r ∷ s_op ∷ s_obj ∷ s_p ∷ s_s ∷ []) s s_u

@@ -1,8 +1,10 @@
 -- `values::truth::test` meets its contract: each arm is a range of numbers.
 -- Assumes nothing.
 use mathlib.Core.Logic.{inl, inr}
-use mathlib.Core.Path.{refl}
+use mathlib.Core.Path.{refl, ap, ◌∙◌}
 use native.Mathlib.Omega.{arith}
+use Rattle.syntax.specs.Rule.{Cmp}
+use Rattle.values.specs.Truth.{compared}
 use Rattle.values.proofs.TruthLaws.{of_range, of-related, of-empty, of_number, of-count, low-two, low-two₂}
 use Rattle.values.proofs.truth.test.Goals as goal
 
@@ -28,7 +30,7 @@ returns-then-op-lt-FIRST_NUMBERED c =
 
 pub returns-then-op-lt-FIRST_COUNTED : goal.returns-then-op-lt-FIRST_COUNTED
 returns-then-op-lt-FIRST_COUNTED c =
-    λ ns n p x T σ d K. of_number x _ _ _ c.operation-op.ensures c.left-left.ensures c.right-right.ensures T σ d c.args.cache.now K c.size-x.result c.compare.result c.if-op-lt-FIRST_NUMBERED.false c.if-op-lt-FIRST_COUNTED.true c.size-x.ensures c.compare.ensures
+    λ ns n p x T σ d K. of_number x _ _ _ c.operation-op.ensures c.left-left.ensures c.right-right.ensures T σ d c.args.cache.now K c.size-x.result c.holds.result c.if-op-lt-FIRST_NUMBERED.false c.if-op-lt-FIRST_COUNTED.true c.size-x.ensures (c.holds.ensures ∙ ap (λ (d : Cmp). compared d c.size-x.result c.right-right.result) c.numbered.ensures)
 
 pub bounds-cache-right-2 : goal.bounds-cache-right-2
 bounds-cache-right-2 c =
@@ -36,4 +38,4 @@ bounds-cache-right-2 c =
 
 pub returns : goal.returns
 returns c =
-    λ ns n p x T σ d K. of-count x _ _ _ c.operation-op.ensures c.left-left.ensures c.right-right.ensures T σ d c.args.cache.now K c.size-x.result c.size-y.result c.compare-2.result c.if-op-lt-FIRST_COUNTED.false c.size-x.ensures c.size-y.ensures c.compare-2.ensures
+    λ ns n p x T σ d K. of-count x _ _ _ c.operation-op.ensures c.left-left.ensures c.right-right.ensures T σ d c.args.cache.now K c.size-x.result c.size-y.result c.holds-2.result c.if-op-lt-FIRST_COUNTED.false c.size-x.ensures c.size-y.ensures (c.holds-2.ensures ∙ ap (λ (d : Cmp). compared d c.size-x.result c.size-y.result) c.numbered-2.ensures)
