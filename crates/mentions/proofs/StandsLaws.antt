@@ -1,4 +1,4 @@
--- A text that stands in another, place by place: what the loop over the places needs, and the two texts of `mentions`.
+-- A text that stands in another, place by place: what the loop over the places needs.
 -- Assumes nothing.
 use mathlib.Core.Path.{◌≡◌, refl, sym, ap, ◌∙◌}
 use mathlib.Core.Bool.{Bool, true, false, ◌||◌}
@@ -34,13 +34,3 @@ module _ {p s : Bytes} {i : ℕ} (o : Onward p s i) where
   pub onward-none : length s ≤ i → false ≡ stands p s
   unfolding stands
   onward-none l = sym (o.same ∙ ap (stands p) (drop_of_length-le s l))
-
--- One text, or the other.
-module _ (rule : Bytes) {a : Bool} (h : a ≡ stands (ascii "S") rule) where
-  pub either_first : a ≡ true → true ≡ mentions rule
-  unfolding mentions
-  either_first e = rw (← h, e)
-
-  pub either_second : {b : Bool} → a ≡ false → b ≡ stands (ascii "sessions") rule → b ≡ mentions rule
-  unfolding mentions
-  either_second e q = rw (← h, e, q)
