@@ -15,7 +15,10 @@ use Rattle.answers.specs.declared.Refusal.{Refusal}
 use Rattle.answers.specs.declared.Refusal.TheVariants.{CutShort, Overfull, NotEntered, BadMark, NoSuchItem, Miscounted}
 use Rattle.answers.specs.declared.Refusal.TheVariants.{Rank, Overreach, Twin, LeftOver, RuleLength, Deep, NotARule}
 use Rattle.answers.specs.declared.Refusal.TheVariants.{KindMismatch, Choices, NoRulesFormula, ShortSheet, NotAnOrder, Page, Left, FullHouse, NotOpen, Reader}
+use Rattle.std.specs.Result.{IsErrAnd}
+use Rattle.std.specs.declared.result.Result.{Result}
 use Rattle.std.specs.declared.result.Result.TheVariants.{Ok, Err}
+use Rattle.std.proofs.lemmas.Result.{err_from_is_err_and}
 
 -- The refusals in the order of their numbers, from 0 on: each number has one refusal, and 0 none (its place is filled by the first).
 listed : List Refusal
@@ -78,6 +81,10 @@ written-case (wrote b) (Ok k) n l = ap Ok l
 
 pub answered-case : {a : Answer} {old new : List ℕ} {w : Written} → Answers a old new w → w ≡ written_of a
 answered-case {a} {w = w} p = written-case a w p.number p.size
+
+-- The exit of a `?` returns the refusal that it met.
+pub exit-refused : {T : Type 0} {r : Result T Refusal} {e : Refusal} → IsErrAnd r (λ y. y ≡ e) → r ≡ Err e
+exit-refused {r = r} h = let p = err_from_is_err_and r h in p.1 ∙ ap Err p.2
 
 -- Bytes that were written were the answer; a refusal stays, bytes that fit are written, others are 17.
 

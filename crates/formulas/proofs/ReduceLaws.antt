@@ -6,7 +6,7 @@ use mathlib.Core.List.{List, [], ◌++◌}
 use mathlib.Core.Option.{Option, none, some}
 use Prim.Native.Nat.{ℕ, ◌≤◌, ◌<◌}
 use native.Mathlib.Omega.{arith}
-use lib.ListN.{length, take, drop, get_or, length-take}
+use lib.ListN.{length, take, drop, get_or}
 use lib.Seq.{take_all}
 use Rattle.answers.specs.Answer.{refused, wrote, lent}
 use Rattle.answers.specs.declared.Refusal.{Refusal}
@@ -26,7 +26,7 @@ use Rattle.rules.specs.Code.Lengths.{capped, LengthsOf, FormulaIn}
 use Rattle.rules.specs.Code.Thing.{rule}
 use Rattle.syntax.proofs.FormulaLaws.{knows-none}
 use Rattle.rules.proofs.ParseLaws.{as-rejected, as-found, formula-exact}
-use Rattle.printer.specs.Code.Printed.{Puts, Prints, Printable, formula_in}
+use Rattle.printer.specs.Code.Printed.{Puts, Prints, formula_in}
 use Rattle.printer.proofs.PrintedLaws.{puts-as, puts-front}
 use Rattle.answers.specs.Written.{Written}
 use Rattle.std.specs.declared.result.Result.TheVariants.{Ok, Err}
@@ -52,10 +52,6 @@ module _ {s ns ks vs : List ℕ} {f : Result Tree Refusal} {t : Tree} (p : Finds
 
   abbrev at : RuleAt s ns t.n t.root ks vs t.count
   at = (as-found p e).1
-
-  -- Where it is accepted its tree may be written.
-  pub reduce-ready : Printable ns t.root (take t.count vs)
-  reduce-ready = record { n = t.n; tidy = at.tidy; node = at.within; below = at.knows.below; few = simp length-take (omega (arith, at.few)) }
 
   formula-is : reduced s ≡ wrote (formula at.tree)
   formula-is =
@@ -139,9 +135,6 @@ rebuild-gives {c = c} p q = record { answer = wrote c; rebuilds = gives p; answe
 -- The measured length of a tree's text, with no choices known.
 pub rule-measured : {ns ls : List ℕ} {n root : ℕ} → LengthsOf ns n [] ls → root < n → (ρ : Rule) → HoldsRule ns root ρ → capped (get_or ls root 0) ≡ capped (length (rule_text [] ρ))
 rule-measured x h ρ y = omega (arith, (x.measured [] knows-none).at _ (rule ρ) h y)
-
-pub rebuild-ready : {s ns : List ℕ} {k n : ℕ} {o : Option Rule} → Rooted s ns k n o → Printable ns k []
-rebuild-ready {n = n} t = record { n = n; tidy = t.tidy; node = t.within; below = λ i h. absurd (omega arith); few = omega arith }
 
 pub rebuild-text : {s ns text zeros : List ℕ} {k n l : ℕ} {o : Option Rule} (t : Rooted s ns k n o) → Prints ns [] (HoldsRule ns k) rule_text zeros text l
     → take l text ≡ take (length zeros) (rule_text [] t.rule)

@@ -44,9 +44,8 @@ fn rule_length(nodes: &[u32], n: usize, root: usize) -> u32
     requires root_lt_n { root < n }
     ensures { (ρ : Rule) → HoldsRule nodes.now root ρ → result ≡ capped (length (rule_text [] ρ)) }
 {
-    let none = [0u32; 1];
     let mut lens = [0u16; FORMULA_LIMIT];
-    lengths(nodes, n, &none[..0], &mut lens);
+    lengths(nodes, n, &[], &mut lens);
     length_at(&lens, root)
 }
 
@@ -69,9 +68,8 @@ pub fn rebuild(formula: &[u8], out: &mut [u8]) -> Result<usize, Refusal>
     if rule_length(&nodes, root.n, root.node) > LENGTH_LIMIT {
         return Err(Refusal::NoRulesFormula);
     }
-    let none = [0u32; 1];
     let mut text = [0u8; RULE_LIMIT];
-    let l = write_rule(&nodes, root.node, &none[..0], &mut text);
+    let l = write_rule(&nodes, root.node, &[], &mut text);
     let mut sheet = [0u8; FORMULA_LIMIT];
     let Ok(m) = reduce(&text[..l], &mut sheet) else {
         return Err(Refusal::NoRulesFormula);

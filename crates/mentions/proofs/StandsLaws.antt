@@ -1,23 +1,20 @@
--- A text that stands in another, place by place: what the loop over the places needs, and the two texts of `mentions`.
+-- A text that stands in another, place by place: what the loop over the places needs.
 -- Assumes nothing.
-use mathlib.Core.Path.{◌≡◌, refl, sym, ap, ◌∙◌}
+use mathlib.Core.Path.{◌≡◌, sym, ap, ◌∙◌}
 use mathlib.Core.Bool.{Bool, true, false, ◌||◌}
 use Prim.Native.Nat.{ℕ, suc, ◌+◌, ◌≤◌, ◌<◌}
 use native.Mathlib.Numerals.{add-one}
 use native.Mathlib.Omega.{arith}
 use lib.ListN.{length, drop, drop_of_length-le}
 use lib.Seq.{drop-cons}
-use Rattle.syntax.specs.Bytes.{Bytes, ascii}
+use Rattle.syntax.specs.Bytes.{Bytes}
 use Rattle.syntax.specs.Code.Reading.{Stands}
-use Rattle.mentions.specs.Mention.{stands, mentions}
+use Rattle.mentions.specs.Mention.{stands}
 
 -- The answer from i on is the answer.
 pub record Onward (p s : Bytes) (i : ℕ) : Type 0 where
   pub within : i ≤ length s
   pub same : stands p s ≡ stands p (drop i s)
-
-pub onward-first : (p s : Bytes) → Onward p s 0
-onward-first p s = record { within = omega arith; same = refl }
 
 module _ {p s : Bytes} {i : ℕ} (o : Onward p s i) where
   -- p stands at i, or further on, as the test r says.
@@ -34,13 +31,3 @@ module _ {p s : Bytes} {i : ℕ} (o : Onward p s i) where
   pub onward-none : length s ≤ i → false ≡ stands p s
   unfolding stands
   onward-none l = sym (o.same ∙ ap (stands p) (drop_of_length-le s l))
-
--- One text, or the other.
-module _ (rule : Bytes) {a : Bool} (h : a ≡ stands (ascii "S") rule) where
-  pub either_first : a ≡ true → true ≡ mentions rule
-  unfolding mentions
-  either_first e = rw (← h, e)
-
-  pub either_second : {b : Bool} → a ≡ false → b ≡ stands (ascii "sessions") rule → b ≡ mentions rule
-  unfolding mentions
-  either_second e q = rw (← h, e, q)

@@ -8,22 +8,18 @@ ghost use Rattle.mentions.specs.Mention.{stands, mentions};
 fn stands_in(p: &[u8], s: &[u8]) -> bool
     ensures { result ≡ stands p.now s.now }
 {
-    let mut i = 0;
-    while i < s.len() {
+    for i in 0..s.len() {
         if syntax::names::stands(s, i, p) {
             return true;
         }
-        i += 1;
     }
     false
 }
 
 // Whether the rule mentions S or `sessions`.
+#[tactic(auto, unfolding(crate::specs::Mention::mentions))]
 pub fn sessions(rule: &[u8]) -> bool
     ensures { result ≡ mentions rule.now }
 {
-    if stands_in(b"S", rule) {
-        return true;
-    }
-    stands_in(b"sessions", rule)
+    stands_in(b"S", rule) || stands_in(b"sessions", rule)
 }

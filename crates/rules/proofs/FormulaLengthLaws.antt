@@ -35,9 +35,6 @@ pub record Totalled (ls vs : List ℕ) (root i t : ℕ) : Type 0 where
   pub small : t ≤ length_cap
   pub is : capped (t + quantifier_length ls (drop i vs)) ≡ capped (1 + capped (get_or ls root 0) + quantifier_length ls vs)
 
-pub totalled_none : {ls vs : List ℕ} {root l t : ℕ} → l ≡ capped (get_or ls root 0) → t ≡ capped (1 + l) → Totalled ls vs root 0 t
-totalled_none e f = record { small = omega arith; is = omega arith }
-
 module _ {ls vs : List ℕ} {root i t : ℕ} (w : Totalled ls vs root i t) where
   pub totalled-next : {l u : ℕ} → i < length vs → l ≡ capped (get_or ls (get_or vs i 0) 0) → u ≡ capped (t + 5 + l) → Totalled ls vs root (i + 1) u
   unfolding quantifier_length

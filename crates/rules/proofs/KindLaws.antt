@@ -23,7 +23,7 @@ use Rattle.syntax.proofs.TestLaws.{cmp-small, alike-range, empty-range}
 use Rattle.rules.specs.Kind.{Kind, Kind≟, holds, one_of, base_kind, takes, makes, of_element}
 use Rattle.rules.specs.Kind.{call_kind, inside, one_kind, others_kind, as_set, joined, row, call2_kind, two_kind, with, kind, check, countable, is_member, count_kinds}
 use Rattle.rules.specs.Kind.{test_kinds, clause_kinds, rule_kinds}
-use Rattle.rules.specs.Code.Numbers.{first_set, kind_count, no_kind, kinds_fit, kind_list, kind_of, one_argument, one_table, one_number, set_number, pair_table, call2_number, two_number, countable_number, fits_number, node_number, step_number, KindAt, Kinded}
+use Rattle.rules.specs.Code.Numbers.{kind_count, no_kind, kinds_fit, kind_list, kind_of, one_argument, one_table, one_number, set_number, pair_table, call2_number, two_number, countable_number, fits_number, node_number, step_number, KindAt, Kinded}
 use Rattle.rules.proofs.TableLaws.{left-of-and, right-of-and, entry, upto, pair, same-below, same-pair}
 use Rattle.rules.proofs.NodeLaws.{more-at}
 
@@ -151,10 +151,6 @@ joined-law o a b lo =
 
 -- A node's number, by its operation.
 module _ (o a b : ℕ) where
-  pub node-base : o < first_call → node_number o a b ≡ o + first_set
-  unfolding node_number
-  node-base h = rw (lt-ltb o first_call h)
-
   pub node-one : first_call ≤ o → o < first_pair → node_number o a b ≡ one_number o a
   unfolding node_number
   node-one lo hi = rw (le-ltb o first_call lo, lt-ltb o first_pair hi)
@@ -321,6 +317,3 @@ module _ (ns ks : List ℕ) (k : ℕ) (below : Kinded ns k ks) where
     where
       here : KindAt ns k (step_number ks (get_or ns k 0))
       here = record { term = λ t y. let w = term-step t y in (w.small, w.is); test = test-step; clause = clause-step; rule = rule-step }
-
-pub kind-none : (ns ks : List ℕ) → Kinded ns 0 ks
-kind-none ns ks = record { at = λ k h. absurd (omega arith) }

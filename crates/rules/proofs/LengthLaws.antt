@@ -81,10 +81,6 @@ knowing-choice {o} {i} {p} {vs} h e = record { is = λ a b m. rw e (node-either 
 pub knowing-none : {o i : ℕ} {vs : List ℕ} → first_call ≤ o → (oe_op ≤ o → first_pair ≤ o) → Knowing o i vs false
 knowing-none {o} {i} {vs} h gap = record { is = λ a b m. node-plain o a b m (ltb (place_in i vs) (length vs)) h gap }
 
-pub step_is : (ls vs : List ℕ) (v : ℕ) {o i j a b z : ℕ} {r t : Bool} → o ≡ operation_of v → i ≡ left_of v → j ≡ right_of v → Knowing o i vs r → r ≡ t
-    → a ≡ capped (get_or ls i 0) → b ≡ capped (get_or ls j 0) → z ≡ cond t (known_length o a b j) (plain_length o a b j) → capped z ≡ step_length ls vs v
-step_is ls vs v {o} {i} {j} {a} {b} op left right k f x y e = rw (e, ← f, ← k.is a b j, x, y, op, left, right)
-
 pub step-bare : (ls vs : List ℕ) (v : ℕ) {o z : ℕ} → o ≡ operation_of v → o < first_call → z ≡ extra o → capped z ≡ step_length ls vs v
 step-bare ls vs v op h e =
     rw (e, op)
@@ -138,6 +134,3 @@ module _ {ns vs ls : List ℕ} {n k : ℕ} {σ : Choices} (apart : Apart ns n) (
       record {
         at = λ i x hi w. more-at (λ i (l : ℕ). (x : Thing) → HoldsThing ns i x → l ≡ capped (len σ x)) ls k l 0 small (λ j q x w. m.at j x q w) (λ x w. e ∙ length-here x w) i hi x w;
       }
-
-pub measured-none : (ns : List ℕ) (σ : Choices) (ls : List ℕ) → Measured ns σ 0 ls
-measured-none ns σ ls = record { at = λ i x h w. absurd (omega arith) }

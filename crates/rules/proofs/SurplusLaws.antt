@@ -71,9 +71,6 @@ deep-other : (o c x : ℕ) (s : List ℕ) → eqb x 40 ≡ false → eqb x 41 �
 unfolding deep
 deep-other o c x s e f = rw (e, f, deep)
 
-pub read_none : (s : List ℕ) → Read s 0 (pos 0)
-read_none s = record { opened = 0; closed = 0; is = refl; few = omega arith; low = omega arith; same = refl }
-
 pub read-mag : {s : List ℕ} {i : ℕ} {z : ℤ} → Read s i z → mag z ≤ i
 read-mag {s} {i} {z} r = rw r.is (omega (arith, mag-sub r.opened r.closed))
 

@@ -9,17 +9,16 @@ ghost use Rattle.rules.specs.Code.Surplus.{text_room, stepped};
 const DEPTH_LIMIT: i32 = 32;
 
 // The count of `(` less the count of `)`, with one byte more.
+#[tactic(auto, unfolding(crate::specs::Code::Surplus::stepped))]
 fn surplus_after(b: u8, surplus: i32) -> i32
     requires { mag surplus ≤ text_room }
     ensures { result ≡ stepped b surplus }
 {
-    if b == b'(' {
-        return surplus + 1;
+    match b {
+        b'(' => surplus + 1,
+        b')' => surplus - 1,
+        _ => surplus,
     }
-    if b == b')' {
-        return surplus - 1;
-    }
-    surplus
 }
 
 // Whether the surplus passes the limit somewhere in the text, which is a rule's or a formula's.
@@ -28,13 +27,11 @@ pub fn too_deep(s: &[u8]) -> bool
     ensures { result ≡ deep 0 0 s.now }
 {
     let mut surplus: i32 = 0;
-    let mut i = 0;
-    while i < s.len() {
-        surplus = surplus_after(s[i], surplus);
+    for &b in s {
+        surplus = surplus_after(b, surplus);
         if surplus > DEPTH_LIMIT {
             return true;
         }
-        i += 1;
     }
     false
 }

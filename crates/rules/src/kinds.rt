@@ -199,6 +199,7 @@ const PAIRS: [u8; 6] = [
 ];
 
 // The kind of a call of one term, `OE` or `AO` on an argument of the kind a.
+#[tactic(auto, unfolding(crate::specs::Code::Numbers::one_number, crate::specs::Code::Numbers::one_table))]
 fn one_kind(op: u32, a: u8) -> u8
     requires { (first_call ≤ op) × (op < first_pair) }
     ensures { result ≡ one_number op a }
@@ -211,6 +212,7 @@ fn one_kind(op: u32, a: u8) -> u8
 }
 
 // An element counts as the set of itself.
+#[tactic(auto, unfolding(crate::specs::Code::Numbers::set_number))]
 fn set_kind(a: u8) -> u8
     ensures { result ≡ set_number a }
 {
@@ -218,21 +220,21 @@ fn set_kind(a: u8) -> u8
 }
 
 // The kind of a call of two terms, by its row.
+#[tactic(auto, unfolding(crate::specs::Code::Numbers::call2_number, crate::specs::Code::Numbers::pair_table))]
 fn call2_kind(op: u32, a: u8, b: u8) -> u8
     requires { (first_pair ≤ op) × (op < first_join) }
     ensures { result ≡ call2_number op a b }
 {
     let row = (3 * (op - FIRST_PAIR)) as usize;
-    if set_kind(a) != PAIRS[row] {
-        return NO_KIND;
+    if set_kind(a) == PAIRS[row] && b == PAIRS[row + 1] {
+        PAIRS[row + 2]
+    } else {
+        NO_KIND
     }
-    if b != PAIRS[row + 1] {
-        return NO_KIND;
-    }
-    PAIRS[row + 2]
 }
 
 // The kind of a call of two terms, and of `&` and `+`.
+#[tactic(auto, unfolding(crate::specs::Code::Numbers::two_number))]
 fn two_kind(op: u32, a: u8, b: u8) -> u8
     requires { first_pair ≤ op }
     ensures { result ≡ two_number op a b }
@@ -245,47 +247,42 @@ fn two_kind(op: u32, a: u8, b: u8) -> u8
 }
 
 // Whether it is a set or a collection, which has a count.
+#[tactic(auto, unfolding(crate::specs::Code::Numbers::countable_number))]
 fn countable(a: u8) -> bool
     ensures { result ≡ countable_number a }
 {
-    if a < FIRST_SET { false } else { a < NO_KIND }
+    FIRST_SET <= a && a < NO_KIND
 }
 
 // Whether the kinds of a test, a clause or a rule fit: `@`; `=` and `!=`; a count or `{}`; two counts; `=>` and `^`.
+#[tactic(auto, unfolding(crate::specs::Code::Numbers::fits_number))]
 fn fits(op: u32, a: u8, b: u8) -> bool
     ensures { result ≡ fits_number op a b }
 {
     if op < IS {
-        return if a < FIRST_SET {
-            b == a + FIRST_SET
-        } else {
-            false
-        };
+        return a < FIRST_SET && b == a + FIRST_SET;
     }
     if op < IS_EMPTY {
-        return if a < NO_KIND { a == b } else { false };
+        return a < NO_KIND && a == b;
     }
     if op < FIRST_COUNTED {
         return countable(a);
     }
     if op < WHEN {
-        return if countable(a) { countable(b) } else { false };
+        return countable(a) && countable(b);
     }
-    if a == KINDS_FIT {
-        b == KINDS_FIT
-    } else {
-        false
-    }
+    a == KINDS_FIT && b == KINDS_FIT
 }
 
 // The kind at a place, none past the end.
 pub fn kind_at(kinds: &[u8], i: usize) -> u8
     ensures { result ≡ get_or kinds.now i no_kind }
 {
-    if i < kinds.len() { kinds[i] } else { NO_KIND }
+    kinds.get(i).copied().unwrap_or(NO_KIND)
 }
 
 // The kind of a node by its operation and the kinds at its left and right.
+#[tactic(auto, unfolding(crate::specs::Code::Numbers::node_number))]
 fn kind_of(kinds: &[u8], node: u32) -> u8
     ensures { result ≡ step_number kinds.now node }
 {
@@ -309,10 +306,8 @@ pub fn kinds(nodes: &[u32], n: usize, root: usize, kinds: &mut [u8]) -> bool
     requires { (n ≤ length nodes.now) × (n ≤ length kinds.old) }
     ensures { Fills nodes.now n root kinds.old kinds.new result }
 {
-    let mut k = 0;
-    while k < n {
+    for k in 0..n {
         kinds[k] = kind_of(kinds, nodes[k]);
-        k += 1;
     }
     kind_at(kinds, root) == KINDS_FIT
 }

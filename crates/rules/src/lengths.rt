@@ -21,6 +21,7 @@ const EXTRA: [u8; 41] = [
 // No length above this one is told apart from it, so that a length takes two bytes.
 const LENGTH_CAP: u32 = 65535;
 
+#[tactic(auto, unfolding(crate::specs::Code::Lengths::extra, crate::specs::Code::Lengths::extra_table))]
 fn extra_of(op: u32) -> u32
     ensures { (result ≡ extra op) × (result ≤ 14) }
 {
@@ -32,6 +33,7 @@ fn extra_of(op: u32) -> u32
 }
 
 // The length of an operation's text by those of its parts, which is m where the right part is a number.
+#[tactic(auto, unfolding(crate::specs::Code::Lengths::plain_length))]
 fn plain_length(op: u32, a: u32, b: u32, m: u32) -> u32
     requires { (a ≤ length_cap) × (b ≤ length_cap) }
     ensures { result ≡ plain_length op a b m }
@@ -47,6 +49,7 @@ fn plain_length(op: u32, a: u32, b: u32, m: u32) -> u32
 }
 
 // The same where the choice of an OE or AO is known: `v1`, and `(X-{v1})`.
+#[tactic(auto, unfolding(crate::specs::Code::Lengths::known_length))]
 fn known_length(op: u32, a: u32, b: u32, m: u32) -> u32
     requires { (a ≤ length_cap) × (b ≤ length_cap) }
     ensures { result ≡ known_length op a b m }
@@ -63,7 +66,7 @@ fn known_length(op: u32, a: u32, b: u32, m: u32) -> u32
 fn at_most(l: u32) -> u32
     ensures { result ≡ capped l }
 {
-    if l < LENGTH_CAP { l } else { LENGTH_CAP }
+    l.min(LENGTH_CAP)
 }
 
 // The length at a place, 0 past the end.
@@ -82,16 +85,14 @@ fn knows(op: u32, i: u32, vars: &[u32]) -> bool
     requires { first_call ≤ op }
     ensures { Knowing op i vars.now result }
 {
-    if op < OE {
+    if op < OE || FIRST_PAIR <= op {
         return false;
     }
-    if op < FIRST_PAIR {
-        return seek(vars, vars.len(), i) < vars.len();
-    }
-    false
+    seek(vars, vars.len(), i) < vars.len()
 }
 
 // The length of what a node holds, by those of the nodes below it, where the choices at vars are known.
+#[tactic(auto, unfolding(crate::specs::Code::Lengths::node_length))]
 fn length_of(lens: &[u16], vars: &[u32], node: u32) -> u32
     ensures { result ≡ step_length lens.now vars.now node }
 {
@@ -115,10 +116,8 @@ pub fn lengths(nodes: &[u32], n: usize, vars: &[u32], lens: &mut [u16])
     requires n_in_bounds { n ≤ length lens.old }
     ensures { LengthsOf nodes.now n vars.now lens.new }
 {
-    let mut k = 0;
-    while k < n {
+    for k in 0..n {
         lens[k] = length_of(lens, vars, nodes[k]) as u16;
-        k += 1;
     }
 }
 
@@ -127,10 +126,8 @@ fn totalled(lens: &[u16], vars: &[u32], root: usize) -> u32
     ensures { FormulaLength lens.now vars.now root result }
 {
     let mut total = at_most(1 + length_at(lens, root));
-    let mut i = 0;
-    while i < vars.len() {
-        total = at_most(total + 5 + length_at(lens, vars[i] as usize));
-        i += 1;
+    for &v in vars {
+        total = at_most(total + 5 + length_at(lens, v as usize));
     }
     total
 }

@@ -45,10 +45,7 @@ pub struct Tree {
 fn check_text(s: &[u8]) -> Result<(), Refusal>
     ensures { ChecksText s.now result }
 {
-    if s.len() == 0 {
-        return Err(Refusal::RuleLength);
-    }
-    if s.len() > RULE_LIMIT {
+    if s.is_empty() || s.len() > RULE_LIMIT {
         return Err(Refusal::RuleLength);
     }
     if depth::too_deep(s) {
@@ -58,7 +55,13 @@ fn check_text(s: &[u8]) -> Result<(), Refusal>
 }
 
 // The checks 14 and 15 on the tree at root, with the kinds of its nodes and the nodes of its variables.
-pub fn check_tree(nodes: &[u32], n: usize, root: usize, kinds: &mut [u8], vars: &mut [u32]) -> Result<Tree, Refusal>
+pub fn check_tree(
+    nodes: &[u32],
+    n: usize,
+    root: usize,
+    kinds: &mut [u8],
+    vars: &mut [u32],
+) -> Result<Tree, Refusal>
     requires tidy { Tidy nodes.now n }
     requires root_lt_n { root < n }
     requires n_in_bounds { n ≤ length kinds.old }
@@ -76,7 +79,12 @@ pub fn check_tree(nodes: &[u32], n: usize, root: usize, kinds: &mut [u8], vars: 
 }
 
 // The checks 11 to 15 in order: where they accept, the tree is in the lent nodes, with the kinds and the nodes of the variables.
-pub fn find(s: &[u8], nodes: &mut [u32], kinds: &mut [u8], vars: &mut [u32]) -> Result<Tree, Refusal>
+pub fn find(
+    s: &[u8],
+    nodes: &mut [u32],
+    kinds: &mut [u8],
+    vars: &mut [u32],
+) -> Result<Tree, Refusal>
     requires nodes_len { length nodes.old ≡ rule_limit }
     requires kinds_len { length kinds.old ≡ rule_limit }
     requires vars_len { length vars.old ≡ choices_limit }

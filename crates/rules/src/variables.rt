@@ -14,11 +14,7 @@ fn add(vars: &mut [u32], count: usize, node: u32) -> usize
     requires { length vars.old ≡ choices_limit }
     ensures { Added vars.old count node vars.new result }
 {
-    if count > CHOICES_LIMIT {
-        return count;
-    }
-    let i = seek(vars, count, node);
-    if i < count {
+    if count > CHOICES_LIMIT || seek(vars, count, node) < count {
         return count;
     }
     if count == CHOICES_LIMIT {

@@ -17,7 +17,7 @@ use Rattle.std.specs.Result.{OnOk}
 use Rattle.std.specs.declared.result.Result.{Result}
 use Rattle.std.specs.declared.result.Result.TheVariants.{Ok, Err}
 use Rattle.tables.proofs.FlatLaws.{length-flat}
-use Rattle.tables.proofs.LoadLaws.{refused_as, outcome-case}
+use Rattle.tables.proofs.LoadLaws.{refused_as}
 use Rattle.tables.proofs.OneLaws.{tables-one}
 use Rattle.tables.proofs.FitsLaws.{accepted-passes}
 use Rattle.syntax.specs.Bytes.{Bytes}

@@ -8,13 +8,15 @@ use Prim.Native.Nat.{ℕ, zero, suc, ◌<◌, ◌≤◌}
 use native.Mathlib.Omega.{arith}
 use lib.Dec.{eqb, ltb}
 use borrow.Author.Tests.{lt-ltb, le-ltb, eq-eqb, ne_eqb}
+use Rattle.answers.specs.Answer.{wrote}
+use Rattle.answers.specs.declared.Refusal.{Refusal}
 use Rattle.answers.proofs.AnswerLaws.{same_number}
 use Rattle.syntax.specs.Bytes.{Bytes}
 use Rattle.verdicts.specs.declared.Outcome.{Outcome}
 use Rattle.verdicts.specs.declared.Outcome.TheVariants.{Refused, Held, Idle, Broken}
 use Rattle.verdicts.specs.declared.Verdict.{Verdict}
 use Rattle.verdicts.specs.Verdict.{refusal_in, verdict_number, word_number, Gives, outcome_of, verdict_of}
-use Rattle.verdicts.specs.Verdict.{answer_by, judged}
+use Rattle.verdicts.specs.Verdict.{written, answer_by, judged}
 
 same_outcome : (a b : Outcome) → verdict_number a ≡ verdict_number b → word_number a ≡ word_number b → a ≡ b
 same_outcome (Refused e) (Refused f) n w = ap Refused (same_number e f n)
@@ -49,6 +51,14 @@ same_gives e = rw e (record { number = refl; word = refl; full = refl; breaking 
 pub judged-by : (b s order : Bytes) (v : Verdict) (o : Outcome) → Gives (verdict_of b s order) v → v.outcome ≡ o → answer_by o v ≡ judged b s order
 unfolding judged
 judged-by b s order v o is h = rw (← gives_same is, h)
+
+-- Where it is no refusal, these are the bytes with its word.
+pub answer-worded : (o : Outcome) (v : Verdict) → ((e : Refusal) → o ≡ Refused e → ⊥) → answer_by o v ≡ wrote (written (word_number o) v)
+unfolding answer_by
+answer-worded (Refused e) v n = absurd (n e refl)
+answer-worded Held v n = refl
+answer-worded Idle v n = refl
+answer-worded Broken v n = refl
 
 -- The verdict's word, by the counts.
 abbrev word_of : ℕ → ℕ → ℕ

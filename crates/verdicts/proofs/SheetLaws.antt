@@ -1,61 +1,35 @@
 -- Writing a verdict's bytes one part after the other.
 -- Assumes nothing.
-use mathlib.Core.Path.{◌≡◌, refl, sym, ◌∙◌}
-use mathlib.Core.List.{List, [], ◌∷◌, ◌++◌, append_assoc, append-nil}
-use Prim.Native.Nat.{ℕ, suc, ◌+◌, ◌-◌, ◌/◌, ◌%◌, ◌<◌, ◌≤◌}
-use native.Mathlib.Nat.{add-zero}
+use mathlib.Core.Path.{◌≡◌, refl, sym, ap, ap₂, ◌∙◌}
+use mathlib.Core.List.{List, [], ◌∷◌}
+use Prim.Native.Nat.{ℕ, zero, suc, ◌-◌, ◌/◌, ◌%◌, ◌^◌, ◌≤◌}
+use native.Mathlib.Nat.{div-one, div-div-eq-div-mul}
+use native.Mathlib.Numerals.{unary_clauses}
 use native.Mathlib.Omega.{arith}
-use lib.ListN.{length, set, length-set, length-append, drop_of_length-le}
-use lib.Seq.{append_snoc}
+use lib.ListN.{length, set, length-append}
 use borrow.Rule.Slice.PartMut.{mid_of, put_mid}
+use Rattle.std.specs.Int.{bytes_low_first, byte_at}
 use Rattle.tables.specs.Bytes.{lowest_first}
 use Rattle.texts.specs.Code.Overwritten.{Overwritten, Behind}
-use Rattle.texts.proofs.OverwrittenLaws.{none_written, written_byte, written-length, written-rest}
+use Rattle.texts.proofs.OverwrittenLaws.{none_written, written_byte, written-rest}
 use Rattle.verdicts.specs.declared.Verdict.{Verdict}
 use Rattle.verdicts.specs.Verdict.{written}
-use Rattle.verdicts.specs.Code.Writing.{Wording}
 
--- The bytes of a word: none, one more, all.
-pub word_none : (n w : ℕ) (mid : List ℕ) → Wording n w mid mid w 0
-word_none n w mid = record {
-  text = [];
-  long = refl;
-  within = omega arith;
-  all = refl;
-  behind = λ v old o. rw (append-nil, add-zero) o;
-  size = refl;
-}
-
-pub word_next : {n w : ℕ} {mid new : List ℕ} {rest i : ℕ} → Wording n w mid new rest i → i < 8 → n + 8 ≤ length mid
-    → Wording n w mid (set new (n + i) (rest % 256)) (rest / 256) (i + 1)
+-- The bytes of a word, as std has them.
+low-first : (i n w : ℕ) → bytes_low_first i n w ≡ lowest_first n (w / 256 ^ i)
 unfolding lowest_first
-word_next {n} {w} {mid} {new} {rest} {i} W l room =
-    let y : ℕ = rest % 256 in
-    let left : 8 - i ≡ suc (8 - (i + 1)) = omega arith in
-    let more : length (W.text ++ (y ∷ [])) ≡ length W.text + 1 = length-append W.text (y ∷ []) in
-    let place : n + i ≡ n + length W.text = omega (arith, W.long) in
-    let next : n + length (W.text ++ (y ∷ [])) ≡ n + length W.text + 1 = omega arith in
-    record {
-      text = W.text ++ (y ∷ []);
-      long = omega (arith, W.long);
-      within = omega arith;
-      all = append_snoc W.text y (lowest_first (8 - (i + 1)) (rest / 256)) ∙ (rw left at W.all);
-      behind = λ v old o.
-          let x = W.behind v old o in
-          rw (← append_assoc v W.text (y ∷ []), next, place) (written_byte y x (omega (arith, written-length x, W.size, W.long)));
-      size = length-set new (n + i) y ∙ W.size;
-    }
+low-first i zero w = refl
+low-first i (suc n) w = ap₂ (λ (b : ℕ) (bs : List ℕ). b ∷ bs) (first i) (low-first (suc i) n w ∙ ap (lowest_first n) next)
+  where
+    first : (i : ℕ) → byte_at i w ≡ w / 256 ^ i % 256
+    first zero = ap (λ (t : ℕ). t % 256) (sym (div-one w))
+    first (suc i) = refl
 
-pub word-all : {n w : ℕ} {mid new : List ℕ} {rest i : ℕ} → Wording n w mid new rest i → i ≡ 8 → Behind n (lowest_first 8 w) mid new
-unfolding lowest_first
-word-all W e =
-    let is : W.text ++ [] ≡ lowest_first 8 _ = rw e at W.all in
-    rw (sym (append-nil W.text) ∙ is) at W.behind
+    next : w / 256 ^ suc i ≡ w / 256 ^ i / 256
+    next = simp unary_clauses (sym (div-div-eq-div-mul w (256 ^ i) 256))
 
--- They are all there is where there was room for them alone.
-pub word-alone : (w : ℕ) {mid new : List ℕ} → length mid ≡ 8 → Behind 0 (lowest_first 8 w) mid new → new ≡ lowest_first 8 w
-unfolding lowest_first
-word-alone w {mid} e b = (b [] mid (none_written mid)).bytes ∙ rw (drop_of_length-le mid {i = 8} (omega arith), append-nil (lowest_first 8 w))
+pub low-bytes : (n w : ℕ) → bytes_low_first 0 n w ≡ lowest_first n w
+low-bytes n w = low-first 0 n w ∙ ap (lowest_first n) (div-one w)
 
 -- The five parts one behind the other are the verdict's bytes.
 pub all-written : {old d₁ d₂ d₃ : List ℕ} {n : ℕ} (word : ℕ) (v : Verdict) → 26 ≤ length old → length v.first ≡ 8

@@ -1,7 +1,7 @@
 -- Judging in the order 1, 2, ..: it is always an order, so that an accepted rule's verdict is what its counts say.
 -- Assumes nothing.
 use mathlib.Core.Path.{◌≡◌, refl, sym, ap, ◌∙◌}
-use mathlib.Core.List.{List, [], ◌∷◌}
+use mathlib.Core.List.{List, ◌∷◌}
 use mathlib.Core.Option.{Option, none, some}
 use Prim.Native.Nat.{ℕ, zero, suc, ◌≤◌}
 use native.Mathlib.Omega.{arith}
@@ -15,7 +15,6 @@ use Rattle.rules.proofs.AcceptLaws.{accepted-rule, refused-early}
 use Rattle.tables.specs.Tables.{Tables}
 use Rattle.walks.specs.Order.{variables_of, up_from}
 use Rattle.verdicts.specs.declared.Outcome.TheVariants.{Refused}
-use Rattle.verdicts.specs.declared.Verdict.{Verdict}
 use Rattle.verdicts.specs.Verdict.{refusal_in, outcome_of, full_count, breaking_count, verdict_along, order_verdict, tree_verdict, accepted_verdict}
 use Rattle.verdicts.specs.Verdict.{turn_order, turn_verdict}
 use Rattle.verdicts.proofs.OutcomeLaws.{word-accepted}

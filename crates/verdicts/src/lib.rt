@@ -124,8 +124,6 @@ pub fn judge(tables: &[u8], rule: &[u8], order: &[u8], out: &mut [u8]) -> Result
     let outcome = found.outcome;
     match outcome {
         Outcome::Refused(e) => Err(e),
-        Outcome::Held => put(out, 0, found),
-        Outcome::Idle => put(out, 1, found),
-        Outcome::Broken => put(out, 2, found),
+        _ => put(out, sheet::word_of(outcome), found),
     }
 }

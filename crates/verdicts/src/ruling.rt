@@ -23,6 +23,7 @@ pub fn refused(refusal: Refusal) -> Verdict
     }
 }
 
+#[tactic(auto, unfolding(crate::specs::Verdict::outcome_of))]
 fn outcome(full: u64, breaking: u64) -> Outcome
     ensures { result ≡ outcome_of full breaking }
 {

@@ -34,13 +34,7 @@ pub fn word_behind(n: usize, w: u64, out: &mut [u8])
     requires { n + 8 ≤ length out.old }
     ensures { Behind n (lowest_first 8 w) out.old out.new }
 {
-    let mut rest = w;
-    let mut i = 0;
-    while i < 8 {
-        out[n + i] = (rest % 256) as u8;
-        rest = rest / 256;
-        i += 1;
-    }
+    texts::add(n, &w.to_le_bytes(), out);
 }
 
 // Writes the verdict with that word over the beginning of the lent bytes.

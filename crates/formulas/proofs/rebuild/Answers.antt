@@ -4,10 +4,9 @@ use mathlib.Core.Path.{sym, ap, ◌∙◌}
 use mathlib.Core.Bool.{not}
 use native.Mathlib.Omega.{arith}
 use lib.Seq.{length-take-le}
-use borrow.Author.Rules.{rules}
 use Rattle.syntax.proofs.FormulaLaws.{as-nothing, as-root}
 use Rattle.formulas.proofs.WrittenLaws.{answers-wrote, same_tested}
-use Rattle.formulas.proofs.ReduceLaws.{rebuild-gives, rebuild-long, rebuild-deep, rebuild-unread, rebuild-wide, rebuild-refused, rebuild-apart, rebuild-same, rebuild-ready, rebuild-text}
+use Rattle.formulas.proofs.ReduceLaws.{rebuild-gives, rebuild-long, rebuild-deep, rebuild-unread, rebuild-wide, rebuild-refused, rebuild-apart, rebuild-same, rebuild-text}
 use Rattle.formulas.proofs.rebuild.Goals as goal
 
 pub returns-then-formula-gt-FORMULA_LIMIT : goal.returns-then-formula-gt-FORMULA_LIMIT
@@ -19,19 +18,9 @@ returns-then-too_deep c = rebuild-deep _ _ (sym c.too_deep.ensures ∙ c.if-too_
 pub returns-in_default : goal.returns-in_default
 returns-in_default c = rebuild-unread _ _ (as-nothing c.in_default.ensures)
 
-pub rule_length-requires : goal.rule_length-requires
-rule_length-requires c = let t = as-root c.in-Some.ensures in record { tidy = t.tidy; root_lt_n = t.within }
-
 pub returns-then-rule_length-gt-LENGTH_LIMIT : goal.returns-then-rule_length-gt-LENGTH_LIMIT
 returns-then-rule_length-gt-LENGTH_LIMIT c =
     rebuild-wide _ _ (as-root c.in-Some.ensures) c.rule_length.ensures c.if-rule_length-gt-LENGTH_LIMIT.true
-
-pub write_rule-l-requires : goal.write_rule-l-requires
-write_rule-l-requires c =
-    rebuild-ready (as-root c.in-Some.ensures)
-
-pub slice_bounds-reduce-end : goal.slice_bounds-reduce-end
-slice_bounds-reduce-end c = sym (length-take-le _ _ (search rules))
 
 pub returns-in_default-reduce : goal.returns-in_default-reduce
 returns-in_default-reduce c =
@@ -48,9 +37,6 @@ pub returns-then-ne : goal.returns-then-ne
 returns-then-ne c =
     let t = as-root c.in-Some.ensures in
     rebuild-apart _ _ t.is (rebuild-text t c.write_rule-l.ensures) c.reduce.ensures c.in-Ok.is (same_tested _ _ c.ne.ensures ∙ ap not c.if-ne.true)
-
-pub slice_bounds-lend-end : goal.slice_bounds-lend-end
-slice_bounds-lend-end c = sym (length-take-le _ _ (search rules))
 
 pub returns : goal.returns
 returns c =

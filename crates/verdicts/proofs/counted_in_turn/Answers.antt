@@ -1,16 +1,12 @@
 -- `verdicts::counted_in_turn` meets its contract: the rule is parsed once, and the known counts are those of the walk in turn.
 -- Assumes nothing.
-use mathlib.Core.Path.{◌≡◌, sym, ◌∙◌}
+use mathlib.Core.Path.{◌≡◌, ◌∙◌}
 use lib.ListN.{length}
-use lib.Seq.{length-take-le}
 use Rattle.rules.proofs.ParseLaws.{as-parsed, as-refused}
-use Rattle.verdicts.proofs.ParsedLaws.{parsed-few, parsed-lent}
+use Rattle.verdicts.proofs.ParsedLaws.{parsed-lent}
 use Rattle.verdicts.proofs.CountedLaws.{turn-refused, turn-ordered, turn-counts, turn-fits, turn-ruled}
 use borrow.Author.Rules.{rules}
 use Rattle.verdicts.proofs.counted_in_turn.Goals as goal
-
-pub slice_bounds-listed-end : goal.slice_bounds-listed-end
-slice_bounds-listed-end c = sym (length-take-le _ _ (parsed-few (as-parsed c.parse.ensures c.in-Ok.is)))
 
 pub known-requires : goal.known-requires
 known-requires c =

@@ -5,9 +5,6 @@ use Rattle.rules.proofs.ParseLaws.{as-parsed, as-refused}
 use Rattle.verdicts.proofs.CountedLaws.{turn-refused}
 use Rattle.verdicts.proofs.in_turn.Goals as goal
 
-pub parsed_in_turn-requires : goal.parsed_in_turn-requires
-parsed_in_turn-requires c = record { loaded = c.requires; some_rule = record { text = _; parses = as-parsed c.parse.ensures c.in-Ok.is } }
-
 pub returns-in-Err : goal.returns-in-Err
 returns-in-Err c = λ T H. c.refused.ensures ∙ turn-refused _ (as-refused c.parse.ensures c.in-Err.is) T
 

@@ -5,9 +5,6 @@ use Rattle.rules.proofs.ParseLaws.{as-parsed, as-refused}
 use Rattle.verdicts.proofs.ParsedLaws.{parsed-refused}
 use Rattle.verdicts.proofs.on_tables.Goals as goal
 
-pub of_parsed-requires : goal.of_parsed-requires
-of_parsed-requires c = record { loaded = c.requires; some_rule = record { text = _; parses = as-parsed c.parse.ensures c.in-Ok.is } }
-
 pub returns-in-Err : goal.returns-in-Err
 returns-in-Err c = λ T H. c.refused.ensures ∙ parsed-refused _ (as-refused c.parse.ensures c.in-Err.is) T c.args.order.now
 

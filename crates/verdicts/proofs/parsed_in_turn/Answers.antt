@@ -1,15 +1,11 @@
 -- `verdicts::parsed_in_turn` meets its contract: the variables in turn are an order, and the walk along it has the verdict's numbers.
 -- Assumes nothing.
-use mathlib.Core.Path.{◌≡◌, sym, ◌∙◌}
+use mathlib.Core.Path.{◌≡◌, ◌∙◌}
 use lib.ListN.{length}
-use lib.Seq.{length-take-le}
-use Rattle.verdicts.proofs.ParsedLaws.{parsed-few, parsed-lent}
+use Rattle.verdicts.proofs.ParsedLaws.{parsed-lent}
 use Rattle.verdicts.proofs.CountedLaws.{turn-ordered, turn-fits, turn-ruled}
 use borrow.Author.Rules.{rules}
 use Rattle.verdicts.proofs.parsed_in_turn.Goals as goal
-
-pub slice_bounds-whole-end : goal.slice_bounds-whole-end
-slice_bounds-whole-end c = sym (length-take-le _ _ (parsed-few c.requires.some_rule.parses))
 
 pub whole-requires : goal.whole-requires
 whole-requires c =

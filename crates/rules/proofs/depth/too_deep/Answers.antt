@@ -4,22 +4,16 @@ use native.Mathlib.Omega.{arith}
 use lib.ListN.{get_or}
 use mir.Syntax.{w32}
 use mir.Val.{to_z}
-use Rattle.rules.proofs.SurplusLaws.{read_none, read-mag, read-end, read-over, read_next, stepped-back}
+use Rattle.rules.proofs.SurplusLaws.{read-mag, read-end, read-over, read_next, stepped-back}
 use Rattle.rules.proofs.depth.too_deep.Goals as goal
-
-pub loop-i-init : goal.loop-i-init
-loop-i-init c = (omega arith, read_none _)
-
-pub surplus_after-surplus-requires : goal.surplus_after-surplus-requires
-surplus_after-surplus-requires c = omega (arith, read-mag c.loop-i.invariant.1, c.requires)
 
 pub returns-then-surplus-gt-DEPTH_LIMIT : goal.returns-then-surplus-gt-DEPTH_LIMIT
 returns-then-surplus-gt-DEPTH_LIMIT c =
-    read-over c.loop-i.invariant.1 (omega arith) (stepped-back (get_or c.args.s.now c.loop-i.i 0) (to_z w32 c.loop-i.surplus-bits) (omega (arith, read-mag c.loop-i.invariant.1, c.requires)) c.surplus_after-surplus.ensures) c.if-surplus-gt-DEPTH_LIMIT.true
+    read-over c.loop-b.invariant (omega arith) (stepped-back (get_or c.args.s.now c.loop-b.b-index 0) (to_z w32 c.loop-b.surplus-bits) (omega (arith, read-mag c.loop-b.invariant, c.requires)) c.surplus_after-surplus.ensures) c.if-surplus-gt-DEPTH_LIMIT.true
 
-pub loop-i-preserved : goal.loop-i-preserved
-loop-i-preserved c =
-    (omega arith, read_next c.loop-i.invariant.1 (omega arith) (stepped-back (get_or c.args.s.now c.loop-i.i 0) (to_z w32 c.loop-i.surplus-bits) (omega (arith, read-mag c.loop-i.invariant.1, c.requires)) c.surplus_after-surplus.ensures) c.if-surplus-gt-DEPTH_LIMIT.false)
+pub loop-b-preserved : goal.loop-b-preserved
+loop-b-preserved c =
+    read_next c.loop-b.invariant (omega arith) (stepped-back (get_or c.args.s.now c.loop-b.b-index 0) (to_z w32 c.loop-b.surplus-bits) (omega (arith, read-mag c.loop-b.invariant, c.requires)) c.surplus_after-surplus.ensures) c.if-surplus-gt-DEPTH_LIMIT.false
 
 pub returns : goal.returns
-returns c = read-end c.loop-i.invariant.1 (omega arith)
+returns c = read-end c.loop-b.invariant (omega arith)

@@ -7,10 +7,6 @@ use Rattle.rules.specs.Code.Lengths.{extra, extra_table}
 use Rattle.rules.proofs.LengthLaws.{extra-small}
 use Rattle.rules.proofs.lengths.extra_of.Goals as goal
 
-pub overflow_cast-result-then-op-lt-OPS_END : goal.overflow_cast-result-then-op-lt-OPS_END
-unfolding extra extra_table
-overflow_cast-result-then-op-lt-OPS_END c = omega (arith, extra-small c.args.op c.if-op-lt-OPS_END.true)
-
 pub returns-then-op-lt-OPS_END : goal.returns-then-op-lt-OPS_END
 unfolding extra extra_table
 returns-then-op-lt-OPS_END c = (refl, extra-small c.args.op c.if-op-lt-OPS_END.true)

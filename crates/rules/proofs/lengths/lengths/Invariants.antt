@@ -1,15 +1,9 @@
 -- `rules::lengths::lengths` fills the list of lengths from the front: the nodes below k have theirs.
 -- Assumes nothing.
-use mathlib.Core.Path.{◌≡◌}
-use Prim.Native.Nat.{◌≤◌, ◌-◌}
-use lib.ListN.{length}
 use Rattle.syntax.specs.Term.{Choices}
 use Rattle.syntax.specs.Code.Reading.{mk, Knows}
 use Rattle.rules.specs.Code.Lengths.{Measured}
 use Rattle.rules.proofs.lengths.lengths.Given as goal
 
 abbrev pub invariant-loop-k : goal.invariant-loop-k
-invariant-loop-k l = (l.k ≤ l.n) × (length l.lens ≡ length l.initial.lens) × ((σ : Choices) → Knows (mk l.nodes l.n) l.vars σ → Measured l.nodes σ l.k l.lens)
-
-abbrev pub decreases-loop-k : goal.decreases-loop-k
-decreases-loop-k l = l.n - l.k
+invariant-loop-k l = (σ : Choices) → Knows (mk l.nodes l.n) l.vars σ → Measured l.nodes σ l.k l.lens

@@ -7,10 +7,6 @@ use Rattle.syntax.proofs.ArenaLaws.{two-less}
 use Rattle.rules.proofs.WalkLaws.{walked-bare, walked-single, walked-choosing, walked-double}
 use Rattle.rules.proofs.variables.+walk.Goals as goal
 
-pub bounds-nodes-k : goal.bounds-nodes-k
-bounds-nodes-k t c =
-    omega (arith, c.requires)
-
 pub returns-then-op-lt-FIRST_CALL : goal.returns-then-op-lt-FIRST_CALL
 returns-then-op-lt-FIRST_CALL t c = walked-bare c.operation-op.ensures c.if-op-lt-FIRST_CALL.true
 
@@ -22,10 +18,6 @@ walk-c-requires t c =
 pub returns-then-op-lt-OE : goal.returns-then-op-lt-OE
 returns-then-op-lt-OE t c =
     walked-single c.operation-op.ensures c.left-below.ensures c.walk-c.ensures c.if-op-lt-FIRST_CALL.false (λ h. absurd (omega arith)) (two-less _ (omega arith))
-
-pub add-requires : goal.add-requires
-add-requires t c =
-    c.walk-c.ensures.size ∙ c.requires.vars_len
 
 pub returns-then-op-lt-FIRST_PAIR : goal.returns-then-op-lt-FIRST_PAIR
 returns-then-op-lt-FIRST_PAIR t c =

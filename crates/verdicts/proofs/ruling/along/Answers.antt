@@ -1,13 +1,11 @@
 -- `verdicts::ruling::along` meets its contract.
 -- Assumes nothing.
-use mathlib.Core.Path.{◌≡◌, sym, ap, ◌∙◌}
+use mathlib.Core.Path.{◌≡◌, sym, ◌∙◌}
 use mathlib.Core.List.{[]}
-use native.Mathlib.Omega.{arith}
 use borrow.Author.Rules.{rules}
 use lib.ListN.{length, take}
 use Rattle.syntax.specs.Rule.{rule_vars}
 use Rattle.walks.specs.Order.{variables_of}
-use Rattle.walks.proofs.OrderLaws.{length-variables-of}
 use Rattle.verdicts.proofs.RulingLaws.{other_length, no-order, counts-fit, order-ruled}
 use Rattle.judging.proofs.WalkingLaws.{vars-long, tested}
 use Rattle.verdicts.proofs.ruling.along.Goals as goal
@@ -16,29 +14,6 @@ pub returns-then-order-count : goal.returns-then-order-count
 returns-then-order-count c =
     let vars-room : length c.args.parsed.vars ≡ 8 = search rules in
     λ T ρ C. c.refused.ensures ∙ other_length C c.requires.lent.few c.args.order.now (λ e. c.if-order-count.true (e ∙ vars-long c.requires vars-room))
-
-pub variables-all-requires : goal.variables-all-requires
-variables-all-requires c =
-    omega (arith, c.if-order-count.false, c.requires.few)
-
-pub slice_bounds-listed-end : goal.slice_bounds-listed-end
-slice_bounds-listed-end c =
-    let same-list : take c.args.parsed.count c.variables-all.result ≡ variables_of c.args.order.now = rw c.if-order-count.false at c.variables-all.ensures in
-    sym (ap length same-list ∙ length-variables-of c.args.order.now ∙ c.if-order-count.false)
-
-pub slice_bounds-vars-end : goal.slice_bounds-vars-end
-slice_bounds-vars-end c =
-    let vars-room : length c.args.parsed.vars ≡ 8 = search rules in
-    omega (arith, c.requires.few, vars-room)
-
-pub slice_bounds-names-end-2 : goal.slice_bounds-names-end-2
-slice_bounds-names-end-2 c =
-    let vars-room : length c.args.parsed.vars ≡ 8 = search rules in
-    sym (vars-long c.requires vars-room)
-
-pub ordered-requires : goal.ordered-requires
-ordered-requires c =
-    (search rules, c.requires.few)
 
 pub whole-requires : goal.whole-requires
 whole-requires c =
