@@ -1,8 +1,9 @@
-// The tracker's calls: each function makes one and prints its number and what the lent output holds.
+// The tracker's calls: each function makes one and prints what it says.
+// Where a field of the line is malformed there is nothing to print.
 ghost use Rattle.std.specs.Prelude.{◌≤◌, length};
 
-use crate::fields::print_bytes;
-use crate::output::{print_decimal, word};
+use crate::fields::{print_bytes, read_length};
+use crate::output::{print_refused, word};
 use crate::page::print_page;
 use changes::Change;
 use forecasts::FORECAST;
@@ -15,52 +16,26 @@ pub fn untouched() -> [u8; 65536] {
     [0xa5; 65536]
 }
 
-pub fn reduce(stdout: &mut Stdout, rule: &[u8], output: &mut [u8]) -> io::Result<()>
-    requires { length output.old ≤ 65536 }
-{
-    let reply = rcl2000::reduce(rule, output);
-    print_reply(stdout, reply, output)
-}
-
-pub fn rebuild(stdout: &mut Stdout, formula: &[u8], output: &mut [u8]) -> io::Result<()>
-    requires { length output.old ≤ 65536 }
-{
-    let reply = rcl2000::rebuild(formula, output);
-    print_reply(stdout, reply, output)
-}
-
-pub fn judge(
+// Makes a call that writes to a lent output, as long as field k says: the tracker's number and what the output holds.
+pub fn lend<F: FnOnce(&mut [u8]) -> u32>(
     stdout: &mut Stdout,
-    tables: &[u8],
-    rule: &[u8],
-    order: &[u8],
-    output: &mut [u8],
-) -> io::Result<()>
-    requires { length output.old ≤ 65536 }
+    line: &[u8],
+    k: usize,
+    call: F,
+) -> Option<io::Result<()>>
+    requires { F.IsAlwaysCallable call }
 {
-    let reply = rcl2000::judge(tables, rule, order, output);
-    print_reply(stdout, reply, output)
+    let mut output = untouched();
+    let lent = read_length(line, k)?;
+    let reply = call(&mut output[..lent]);
+    Some(print_reply(stdout, reply, &output[..lent]))
 }
 
-pub fn step(stdout: &mut Stdout, state: &[u8], change: Change, output: &mut [u8]) -> io::Result<()>
-    requires { length output.old ≤ 65536 }
+fn print_reply(stdout: &mut Stdout, reply: u32, output: &[u8]) -> io::Result<()>
+    requires { length output.now ≤ 65536 }
 {
-    let reply = next_state(state, change, output);
-    print_reply(stdout, reply, output)
-}
-
-pub fn sheet_line(
-    stdout: &mut Stdout,
-    tables: &[u8],
-    reader: u64,
-    rules: &[u8],
-    place: usize,
-    output: &mut [u8],
-) -> io::Result<()>
-    requires { length output.old ≤ 65536 }
-{
-    let reply = rcl2000::sheet_line(tables, reader, rules, place, output);
-    print_reply(stdout, reply, output)
+    write!(stdout, "{reply} ")?;
+    print_bytes(stdout, output)
 }
 
 // The call that asks for this change.
@@ -75,40 +50,19 @@ pub fn next_state(state: &[u8], change: Change, output: &mut [u8]) -> u32 {
 pub fn judge_page(stdout: &mut Stdout, tables: &[u8], page: &[u8]) -> io::Result<()> {
     let mut output = [0u8; PAGE_ROOM];
     let reply = rcl2000::judge_page(tables, page, &mut output);
-    if reply < 65536 {
-        print_page(stdout, &output, reply as usize)?;
-    } else {
+    if 65536 <= reply {
         print_refused(stdout, reply)?;
-        stdout.write_all(b" ")?;
-        print_decimal(stdout, (reply % 65536) as u64)?;
+        return write!(stdout, " {}", reply % 65536);
     }
-    stdout.write_all(b"\n")
+    print_page(stdout, &output, reply as usize)
 }
 
 // `refused N`, or the formula's length and the ceiling.
 pub fn forecast(stdout: &mut Stdout, tables: &[u8], rule: &[u8]) -> io::Result<()> {
     let mut output = [0u8; FORECAST];
     let reply = rcl2000::forecast(tables, rule, &mut output);
-    if reply < 65536 {
-        print_decimal(stdout, word(&output, 0))?;
-        stdout.write_all(b" ")?;
-        print_decimal(stdout, word(&output, 8))?;
-    } else {
-        print_refused(stdout, reply)?;
+    if 65536 <= reply {
+        return print_refused(stdout, reply);
     }
-    stdout.write_all(b"\n")
-}
-
-pub fn print_refused(stdout: &mut Stdout, reply: u32) -> io::Result<()> {
-    stdout.write_all(b"refused ")?;
-    print_decimal(stdout, (reply / 65536) as u64)
-}
-
-fn print_reply(stdout: &mut Stdout, reply: u32, output: &[u8]) -> io::Result<()>
-    requires { length output.now ≤ 65536 }
-{
-    print_decimal(stdout, reply as u64)?;
-    stdout.write_all(b" ")?;
-    print_bytes(stdout, output)?;
-    stdout.write_all(b"\n")
+    write!(stdout, "{} {}", word(&output, 0), word(&output, 8))
 }

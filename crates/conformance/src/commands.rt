@@ -1,47 +1,42 @@
-// The commands: each function prints the answer to one line.
+// The commands: each function prints the answer to one line, or gives none where a field is missing or malformed.
 // What is no command is answered `?`.
 ghost use Rattle.std.specs.Prelude.{◌≤◌, length};
 
-use crate::fields::{is_command, is_named, print_bytes, read_bytes, read_length, room};
-use crate::output::print_decimal;
-use crate::session_calls::{Asked, change_in};
-use crate::{calls, reader, session_calls};
-use answers::Written;
-use rules::Checked;
+use crate::fields::{
+    MOST, is_command, is_named, print_bytes, read_bytes, read_number, read_word, room,
+};
+use crate::{calls, session_calls};
+use answers::Refusal;
 use sheets::{LINE_ROOM, RULES_LIMIT};
 use std::io;
 use std::io::{Stdout, Write};
-use tables::Outcome;
 
-// Every command has bytes in its first field.
+// Answers a line, or one that was too long.
 pub fn answer(stdout: &mut Stdout, line: &[u8], long: bool) -> io::Result<()> {
-    if long {
-        return unknown(stdout);
+    if long || 80000 < line.len() {
+        return stdout.write_all(b"?\n");
     }
-    if 80000 < line.len() {
-        return unknown(stdout);
+    match command(stdout, line) {
+        Some(printed) => printed?,
+        None => stdout.write_all(b"?")?,
     }
-    let mut first = room();
-    let f = read_bytes(line, 1, &mut first);
-    if !f.good {
-        return unknown(stdout);
-    }
-    let n = f.n;
-    command(stdout, line, &first[..n])
+    stdout.write_all(b"\n")
 }
 
-// The command of a line, given the bytes of its first field: those of document 01.
-fn command(stdout: &mut Stdout, line: &[u8], first: &[u8]) -> io::Result<()>
+// The command of a line: those of document 01. Every command has bytes in its first field.
+fn command(stdout: &mut Stdout, line: &[u8]) -> Option<io::Result<()>>
     requires { length line.now ≤ 80000 }
 {
+    let mut first = room();
+    let first = read_bytes(line, 1, &mut first)?;
     if is_command(line, b"tables", 2) {
-        tables(stdout, first)
+        Some(print_number(stdout, number(tables::read(first).err())))
     } else if is_command(line, b"rule", 2) {
-        rule(stdout, first)
+        Some(print_number(stdout, number(rules::check(first).err())))
     } else if is_command(line, b"reduce", 3) {
-        formula(stdout, line, first, false)
+        calls::lend(stdout, line, 2, |out| rcl2000::reduce(first, out))
     } else if is_command(line, b"rebuild", 3) {
-        formula(stdout, line, first, true)
+        calls::lend(stdout, line, 2, |out| rcl2000::rebuild(first, out))
     } else if is_command(line, b"judge", 5) {
         judge(stdout, line, first)
     } else if is_command(line, b"sheet", 3) {
@@ -52,182 +47,118 @@ fn command(stdout: &mut Stdout, line: &[u8], first: &[u8]) -> io::Result<()>
 }
 
 // The commands of document 02.
-fn later(stdout: &mut Stdout, line: &[u8], first: &[u8]) -> io::Result<()>
+fn later(stdout: &mut Stdout, line: &[u8], first: &[u8]) -> Option<io::Result<()>>
     requires { length line.now ≤ 80000 }
 {
     if is_command(line, b"page", 3) {
-        told(stdout, line, first, true)
+        page(stdout, line, first)
     } else if is_command(line, b"forecast", 3) {
-        told(stdout, line, first, false)
+        forecast(stdout, line, first)
     } else if is_command(line, b"rankstep", 2) {
-        print_number(stdout, rcl2000::rank_step(first) as u64)
+        Some(print_number(stdout, rcl2000::rank_step(first)))
     } else if is_named(line, b"sessions") {
         day(stdout, line, first)
     } else if is_command(line, b"session", 4) {
         session(stdout, line, first)
     } else if is_command(line, b"line", 6) {
-        reader::answer(stdout, line, first)
+        listed(stdout, line, first)
     } else {
-        unknown(stdout)
+        None
     }
 }
 
-pub fn unknown(stdout: &mut Stdout) -> io::Result<()> {
-    stdout.write_all(b"?\n")
+fn print_number(stdout: &mut Stdout, n: u32) -> io::Result<()> {
+    write!(stdout, "{n}")
 }
 
-fn print_number(stdout: &mut Stdout, n: u64) -> io::Result<()> {
-    print_decimal(stdout, n)?;
-    stdout.write_all(b"\n")
+// The refusal's number, or 0.
+fn number(refusal: Option<Refusal>) -> u32 {
+    refusal.map_or(0, u32::from)
 }
 
-// `tables T`: the refusal's number, or 0.
-fn tables(stdout: &mut Stdout, tables: &[u8]) -> io::Result<()> {
-    let loaded = tables::read(tables);
-    let outcome = loaded.outcome;
-    match outcome {
-        Outcome::Refused(refusal) => print_number(stdout, answers::number(refusal) as u64),
-        Outcome::Accepted => print_number(stdout, 0),
-    }
-}
-
-// `rule R`: the refusal's number, or 0.
-fn rule(stdout: &mut Stdout, rule: &[u8]) -> io::Result<()> {
-    let checked = rules::check(rule);
-    match checked {
-        Checked::Refused(refusal) => print_number(stdout, answers::number(refusal) as u64),
-        Checked::Accepted => print_number(stdout, 0),
-    }
-}
-
-// `reduce R LEN`, or back, `rebuild F LEN`: the tracker's number and the lent output, which held a5 throughout.
-fn formula(stdout: &mut Stdout, line: &[u8], text: &[u8], back: bool) -> io::Result<()> {
-    let mut output = calls::untouched();
-    let l = read_length(line, 2, &output);
-    if !l.good {
-        return unknown(stdout);
-    }
-    let lent = l.n;
-    if back {
-        calls::rebuild(stdout, text, &mut output[..lent])
-    } else {
-        calls::reduce(stdout, text, &mut output[..lent])
-    }
-}
-
-// `judge T R ORDER LEN`: the same for a verdict.
-fn judge(stdout: &mut Stdout, line: &[u8], tables: &[u8]) -> io::Result<()>
+// `judge T R ORDER LEN`: the tracker's number and the lent output, which held a5 throughout.
+fn judge(stdout: &mut Stdout, line: &[u8], tables: &[u8]) -> Option<io::Result<()>>
     requires { length line.now ≤ 80000 }
 {
     let mut rule = room();
     let mut order = room();
-    let r = read_bytes(line, 2, &mut rule);
-    let o = read_bytes(line, 3, &mut order);
-    if !r.good || !o.good {
-        return unknown(stdout);
-    }
-    let n = r.n;
-    let m = o.n;
-    verdict(stdout, line, tables, &rule[..n], &order[..m])
-}
-
-fn verdict(
-    stdout: &mut Stdout,
-    line: &[u8],
-    tables: &[u8],
-    rule: &[u8],
-    order: &[u8],
-) -> io::Result<()> {
-    let mut output = calls::untouched();
-    let l = read_length(line, 4, &output);
-    if !l.good {
-        return unknown(stdout);
-    }
-    let lent = l.n;
-    calls::judge(stdout, tables, rule, order, &mut output[..lent])
+    let rule = read_bytes(line, 2, &mut rule)?;
+    let order = read_bytes(line, 3, &mut order)?;
+    calls::lend(
+        stdout,
+        line,
+        4,
+        |out| rcl2000::judge(tables, rule, order, out),
+    )
 }
 
 // `sheet T RULES`: everything that the listing program prints.
-fn sheet(stdout: &mut Stdout, line: &[u8], tables: &[u8]) -> io::Result<()>
+fn sheet(stdout: &mut Stdout, line: &[u8], tables: &[u8]) -> Option<io::Result<()>>
     requires { length line.now ≤ 80000 }
 {
     let mut rules = room();
-    let r = read_bytes(line, 2, &mut rules);
-    if !r.good {
-        return unknown(stdout);
-    }
-    let n = r.n;
-    print_sheet(stdout, tables, &rules[..n])?;
-    stdout.write_all(b"\n")
+    let rules = read_bytes(line, 2, &mut rules)?;
+    Some(print_sheet(stdout, tables, rules))
 }
 
-// `page T PAGE`, or before judging, `forecast T RULE`.
-fn told(stdout: &mut Stdout, line: &[u8], tables: &[u8], page: bool) -> io::Result<()>
+// `page T PAGE`.
+fn page(stdout: &mut Stdout, line: &[u8], tables: &[u8]) -> Option<io::Result<()>>
     requires { length line.now ≤ 80000 }
 {
-    let mut text = room();
-    let t = read_bytes(line, 2, &mut text);
-    if !t.good {
-        return unknown(stdout);
-    }
-    let n = t.n;
-    if page {
-        calls::judge_page(stdout, tables, &text[..n])
-    } else {
-        calls::forecast(stdout, tables, &text[..n])
-    }
+    let mut page = room();
+    let page = read_bytes(line, 2, &mut page)?;
+    Some(calls::judge_page(stdout, tables, page))
 }
 
-// `sessions T R OP..`: the start and then each call on the state before it.
-fn day(stdout: &mut Stdout, line: &[u8], tables: &[u8]) -> io::Result<()>
+// `forecast T RULE`.
+fn forecast(stdout: &mut Stdout, line: &[u8], tables: &[u8]) -> Option<io::Result<()>>
     requires { length line.now ≤ 80000 }
 {
     let mut rule = room();
-    let r = read_bytes(line, 2, &mut rule);
-    if !r.good || !session_calls::well_formed(line) {
-        return unknown(stdout);
-    }
-    let n = r.n;
-    session_calls::follow(stdout, line, tables, &rule[..n])?;
-    stdout.write_all(b"\n")
+    let rule = read_bytes(line, 2, &mut rule)?;
+    Some(calls::forecast(stdout, tables, rule))
 }
 
-// `session STATE OP LEN`: one call on any bytes, with the tracker's number and the lent output as above.
-fn session(stdout: &mut Stdout, line: &[u8], state: &[u8]) -> io::Result<()> {
-    let mut output = calls::untouched();
-    let l = read_length(line, 3, &output);
-    let Asked::Asks(change) = change_in(line, 2) else {
-        return unknown(stdout);
-    };
-    if !l.good {
-        return unknown(stdout);
+// `sessions T R OP..`: the start and then each call on the state before it.
+fn day(stdout: &mut Stdout, line: &[u8], tables: &[u8]) -> Option<io::Result<()>>
+    requires { length line.now ≤ 80000 }
+{
+    let mut rule = room();
+    let rule = read_bytes(line, 2, &mut rule)?;
+    if !session_calls::well_formed(line) {
+        return None;
     }
-    let lent = l.n;
-    calls::step(stdout, state, change, &mut output[..lent])
+    Some(session_calls::follow(stdout, line, tables, rule))
 }
 
-// Prints the lines: no more than the rules have bytes, and the total behind them.
+// `session STATE OP LEN`: one call on any bytes.
+fn session(stdout: &mut Stdout, line: &[u8], state: &[u8]) -> Option<io::Result<()>> {
+    let change = session_calls::change_in(line, 2)?;
+    calls::lend(stdout, line, 3, |out| calls::next_state(state, change, out))
+}
+
+// `line T READER RULES PLACE LEN`: one line of the day sheet for a reader, whose users are a word.
+fn listed(stdout: &mut Stdout, line: &[u8], tables: &[u8]) -> Option<io::Result<()>>
+    requires { length line.now ≤ 80000 }
+{
+    let mut rules = room();
+    let reader = read_word(line, 2)?;
+    let rules = read_bytes(line, 3, &mut rules)?;
+    let place = read_number(line, 4, MOST)?;
+    calls::lend(stdout, line, 5, |out| {
+        rcl2000::sheet_line(tables, reader, rules, place, out)
+    })
+}
+
+// Prints the lines, each with its byte 10: no more than the rules have bytes, and the total behind them.
 fn print_sheet(stdout: &mut Stdout, tables: &[u8], rules: &[u8]) -> io::Result<()> {
-    let mut place = 1;
-    while place <= RULES_LIMIT + 1 {
-        if !print_line(stdout, tables, rules, place)? {
-            return Ok(());
+    for place in 1..=RULES_LIMIT + 1 {
+        let mut line = [0u8; LINE_ROOM];
+        match sheets::line(tables, rules, place, &mut line) {
+            Ok(0) | Err(_) => return Ok(()),
+            Ok(n) => print_bytes(stdout, &line[..n])?,
         }
-        place += 1;
+        stdout.write_all(b"0a")?;
     }
     Ok(())
-}
-
-// Prints the line at a place, with its byte 10; answers whether there is one.
-fn print_line(stdout: &mut Stdout, tables: &[u8], rules: &[u8], place: usize) -> io::Result<bool> {
-    let mut line = [0u8; LINE_ROOM];
-    let Written::Wrote(n) = sheets::line(tables, rules, place, &mut line) else {
-        return Ok(false);
-    };
-    if n == 0 {
-        return Ok(false);
-    }
-    print_bytes(stdout, &line[..n])?;
-    stdout.write_all(b"0a")?;
-    Ok(true)
 }

@@ -1,8 +1,7 @@
-// The fields of a line: reading them, and printing those of an answer.
+// The fields of a line: reading them, none where one is missing or malformed, and printing those of an answer.
 // Bytes are in hexadecimal, `-` where there are none.
-ghost use Rattle.std.specs.Prelude.{◌≡◌, ◌≤◌, ◌*◌, length};
+ghost use Rattle.std.specs.Prelude.{◌≡◌, ◌≤◌, ◌*◌, length, IfSome};
 
-use crate::output::word;
 use std::io;
 use std::io::{Stdout, Write};
 
@@ -28,13 +27,6 @@ pub fn is_command(line: &[u8], name: &[u8], count: usize) -> bool {
     is_named(line, name) && texts::field(line, count).is_none()
 }
 
-// A field that was read: the first n of the lent bytes, or the number n; 0 where it is malformed.
-#[derive(Clone, Copy)]
-pub struct Field {
-    pub good: bool,
-    pub n: usize,
-}
-
 // Room for the bytes of a field: a line of 80,000 bytes has no more. To find the length of an array that is written out
 // the prover walks every byte, and of one that a call returns it does not.
 pub fn room() -> [u8; 40000]
@@ -43,63 +35,45 @@ pub fn room() -> [u8; 40000]
     [0; 40000]
 }
 
-pub fn read_bytes(line: &[u8], k: usize, out: &mut [u8]) -> Field
-    requires { length line.now ≤ 2 * length out.old }
-    ensures { result.n ≤ length out.new }
+// The bytes that field k stands for, in the lent room.
+pub fn read_bytes<'a>(line: &[u8], k: usize, room: &'a mut [u8]) -> Option<&'a [u8]>
+    requires { length line.now ≤ 2 * length room.old }
 {
-    let Some(field) = texts::field(line, k) else {
-        return Field { good: false, n: 0 };
-    };
-    let Some(n) = protocol::read_bytes(&line[field], out) else {
-        return Field { good: false, n: 0 };
-    };
-    Field { good: true, n }
+    let field = texts::field(line, k)?;
+    let n = protocol::read_bytes(&line[field], room)?;
+    Some(&room[..n])
 }
 
 // A number that is at most so much.
-pub fn read_number(line: &[u8], k: usize, most: usize) -> Field
+pub fn read_number(line: &[u8], k: usize, most: usize) -> Option<usize>
     requires { most ≤ 4294967295 }
+    ensures { IfSome result (λ n. n ≤ most) }
 {
-    let Some(field) = texts::field(line, k) else {
-        return Field { good: false, n: 0 };
-    };
-    let Some(n) = protocol::read_number(&line[field], most) else {
-        return Field { good: false, n: 0 };
-    };
-    Field { good: true, n }
+    let field = texts::field(line, k)?;
+    protocol::read_number(&line[field], most)
 }
 
-// A length, of bytes that `room` has.
-pub fn read_length(line: &[u8], k: usize, room: &[u8]) -> Field
-    ensures { result.n ≤ length room.now }
+// The length of an output.
+pub fn read_length(line: &[u8], k: usize) -> Option<usize>
+    ensures { IfSome result (λ n. n ≤ 65536) }
 {
-    let l = read_number(line, k, LENGTHS);
-    if room.len() < l.n {
-        return Field { good: false, n: 0 };
-    }
-    l
+    read_number(line, k, LENGTHS)
 }
 
-// A word that was read, 0 where it is malformed.
-#[derive(Clone, Copy)]
-pub struct Word {
-    pub good: bool,
-    pub w: u64,
+// The word of field k.
+pub fn read_word(line: &[u8], k: usize) -> Option<u64> {
+    let field = texts::field(line, k)?;
+    word_of(&line[field])
 }
 
 // The word of 8 bytes, lowest first.
-pub fn read_word(text: &[u8]) -> Word {
-    let mut bytes = [0u8; 8];
+pub fn word_of(text: &[u8]) -> Option<u64> {
     if text.len() != DIGITS {
-        return Word { good: false, w: 0 };
+        return None;
     }
-    if protocol::read_bytes(text, &mut bytes).is_none() {
-        return Word { good: false, w: 0 };
-    }
-    Word {
-        good: true,
-        w: word(&bytes, 0),
-    }
+    let mut bytes = [0u8; 8];
+    protocol::read_bytes(text, &mut bytes)?;
+    Some(u64::from_le_bytes(bytes))
 }
 
 pub fn print_bytes(stdout: &mut Stdout, b: &[u8]) -> io::Result<()>

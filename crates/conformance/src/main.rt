@@ -7,10 +7,9 @@ mod commands;
 mod fields;
 mod output;
 mod page;
-mod reader;
 mod session_calls;
 
-ghost use Rattle.std.specs.Prelude.{◌≡◌, ◌≤◌, length, IfOk};
+ghost use Rattle.std.specs.Prelude.{◌≡◌, ◌≤◌, length, IfOk, IfSome};
 
 use std::io;
 use std::io::{Read, Stdin, Stdout};
@@ -22,7 +21,6 @@ struct Window {
     have: usize,
     // The line at `from` is the rest of one that was too long.
     long: bool,
-    open: bool,
 }
 
 fn main(rt: HostRuntime) -> io::Result<()> {
@@ -34,53 +32,54 @@ fn main(rt: HostRuntime) -> io::Result<()> {
         from: 0,
         have: 0,
         long: false,
-        open: true,
     };
     // A proved loop has to end, and nothing says that the input does.
-    let mut turns = u64::MAX;
-    while turns > 0 && w.open {
-        w = turn(&mut stdin, &mut stdout, buffer, w)?;
-        turns -= 1;
+    for _ in 0..u64::MAX {
+        let Some(next) = turn(&mut stdin, &mut stdout, buffer, w)? else {
+            return Ok(());
+        };
+        w = next;
     }
     Ok(())
 }
 
-// One line is answered, or room is made, or more is read.
-fn turn(stdin: &mut Stdin, stdout: &mut Stdout, buffer: &mut [u8], w: Window) -> io::Result<Window>
+// One line is answered, or room is made, or more is read; no window is left at the input's end.
+fn turn(
+    stdin: &mut Stdin,
+    stdout: &mut Stdout,
+    buffer: &mut [u8],
+    w: Window,
+) -> io::Result<Option<Window>>
     requires { (w.from ≤ w.have) × (w.have ≤ length buffer.old) }
-    ensures ok { IfOk result (λ w. (w.from ≤ w.have) × (w.have ≤ length buffer.new)) }
+    ensures ok { IfOk result (λ next. IfSome next (λ w. (w.from ≤ w.have) × (w.have ≤ length buffer.new))) }
     ensures kept { length buffer.new ≡ length buffer.old }
 {
-    let from = w.from;
-    let have = w.have;
+    let Window { from, have, long } = w;
     let end = texts::scan::find(buffer, from, have, b'\n');
     if end < have {
-        commands::answer(stdout, &buffer[from..end], w.long)?;
-        return Ok(Window {
+        commands::answer(stdout, &buffer[from..end], long)?;
+        return Ok(Some(Window {
             from: end + 1,
             have,
             long: false,
-            open: true,
-        });
+        }));
     }
     if from > 0 {
-        move_down(buffer, from, have);
-        return Ok(Window {
+        buffer.copy_within(from..have, 0);
+        return Ok(Some(Window {
             from: 0,
             have: have - from,
-            long: w.long,
-            open: true,
-        });
+            long,
+        }));
     }
     if have == buffer.len() {
-        return Ok(Window {
+        return Ok(Some(Window {
             from: 0,
             have: 0,
             long: true,
-            open: true,
-        });
+        }));
     }
-    fill(stdin, stdout, buffer, have, w.long)
+    fill(stdin, stdout, buffer, have, long)
 }
 
 // Reads behind the first `have` bytes. At the input's end they are the last line, if any.
@@ -90,45 +89,21 @@ fn fill(
     buffer: &mut [u8],
     have: usize,
     long: bool,
-) -> io::Result<Window>
+) -> io::Result<Option<Window>>
     requires { have ≤ length buffer.old }
-    ensures ok { IfOk result (λ w. (w.from ≤ w.have) × (w.have ≤ length buffer.new)) }
+    ensures ok { IfOk result (λ next. IfSome next (λ w. (w.from ≤ w.have) × (w.have ≤ length buffer.new))) }
     ensures kept { length buffer.new ≡ length buffer.old }
 {
-    let more = read_some(stdin, &mut buffer[have..])?;
+    let more = stdin.read(&mut buffer[have..])?;
     if more == 0 {
         if have > 0 || long {
             commands::answer(stdout, &buffer[..have], long)?;
         }
-        return Ok(Window {
-            from: 0,
-            have: 0,
-            long: false,
-            open: false,
-        });
+        return Ok(None);
     }
-    Ok(Window {
+    Ok(Some(Window {
         from: 0,
         have: have + more,
         long,
-        open: true,
-    })
-}
-
-fn read_some(stdin: &mut Stdin, room: &mut [u8]) -> io::Result<usize>
-    ensures ok { IfOk result (λ n. n ≤ length room.new) }
-    ensures kept { length room.new ≡ length room.old }
-{
-    stdin.read(room)
-}
-
-// Moves the bytes from `from` up to `have` to the front.
-fn move_down(buffer: &mut [u8], from: usize, have: usize)
-    requires { (from ≤ have) × (have ≤ length buffer.old) }
-{
-    let mut i = 0;
-    while i < have - from {
-        buffer[i] = buffer[from + i];
-        i += 1;
-    }
+    }))
 }

@@ -1,28 +1,34 @@
-// Numbers in the bytes that a call has written, and printed.
+// What a call has written: the numbers in its bytes, read and printed.
 // A word is 8 bytes, lowest byte first.
 ghost use Rattle.std.specs.Prelude.{◌+◌, ◌≤◌, length};
 
 use std::io;
 use std::io::{Stdout, Write};
+use verdicts::sheet;
 
 // The word whose lowest byte stands at `at`.
 pub fn word(out: &[u8], at: usize) -> u64
     requires { at + 8 ≤ length out.now }
 {
-    let mut w: u64 = 0;
-    let mut i = 8;
-    while 0 < i {
-        i -= 1;
-        w = (w << 8) | wide(out[at + i]);
-    }
-    w
+    out[at..at + 8]
+        .iter()
+        .rev()
+        .fold(0, |w, b| (w << 8) | *b as u64)
 }
 
-pub fn wide(x: u8) -> u64 {
-    x as u64
+// Prints the full and the breaking of the verdict that `out` begins with, with that sign between them.
+pub fn print_counts(stdout: &mut Stdout, out: &[u8], sign: char) -> io::Result<()>
+    requires { 17 ≤ length out.now }
+{
+    write!(
+        stdout,
+        "{}{sign}{}",
+        word(out, sheet::FULL),
+        word(out, sheet::BREAKING)
+    )
 }
 
-// Prints a number in decimal digits.
-pub fn print_decimal(stdout: &mut Stdout, n: u64) -> io::Result<()> {
-    write!(stdout, "{n}")
+// `refused N`.
+pub fn print_refused(stdout: &mut Stdout, reply: u32) -> io::Result<()> {
+    write!(stdout, "refused {}", reply / 65536)
 }

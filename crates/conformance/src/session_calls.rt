@@ -2,87 +2,57 @@
 // `o:USER:WORD` opens, `c:NUMBER` closes; a field prints `FULL:BREAKING`, or `rN` where the call is refused.
 ghost use Rattle.std.specs.Prelude.{◌≡◌, ◌≤◌, length, IfOk};
 
-use crate::calls::{next_state, print_refused, untouched};
-use crate::fields::{MOST, read_word};
-use crate::output::{print_decimal, word};
+use crate::calls::{next_state, untouched};
+use crate::fields::{MOST, word_of};
+use crate::output::{print_counts, print_refused};
 use changes::Change;
 use std::io;
 use std::io::{Stdout, Write};
-use verdicts::sheet;
 
 // The field of the first call.
 const FIRST: usize = 3;
 
-// What a field asks for.
-#[derive(Clone, Copy)]
-pub enum Asked {
-    Missing,
-    Malformed,
-    Asks(Change),
-}
-
 // A number, which a call takes.
-fn closing(number: &[u8]) -> Asked {
-    let Some(n) = protocol::read_number(number, MOST) else {
-        return Asked::Malformed;
-    };
-    Asked::Asks(Change::Closing(n as u32))
+fn closing(number: &[u8]) -> Option<Change> {
+    let n = protocol::read_number(number, MOST)?;
+    Some(Change::Closing(n as u32))
 }
 
 // A user's number, a colon and a word.
-fn opening(text: &[u8]) -> Asked {
-    let colon = texts::scan::find(text, 0, text.len(), b':');
-    if colon == text.len() {
-        return Asked::Malformed;
-    }
-    let Some(user) = protocol::read_number(&text[..colon], MOST) else {
-        return Asked::Malformed;
-    };
-    let digits = colon + 1;
-    let roles = read_word(&text[digits..]);
-    if !roles.good {
-        return Asked::Malformed;
-    }
-    Asked::Asks(Change::Opening {
+fn opening(text: &[u8]) -> Option<Change> {
+    let colon = text.iter().position(|c| *c == b':')?;
+    let user = protocol::read_number(&text[..colon], MOST)?;
+    let roles = word_of(&text[colon + 1..])?;
+    Some(Change::Opening {
         user: user as u32,
-        roles: roles.w,
+        roles,
     })
 }
 
-fn change(text: &[u8]) -> Asked {
-    if text.len() < 2 {
-        return Asked::Malformed;
+// What a field asks for.
+fn change(text: &[u8]) -> Option<Change> {
+    match text {
+        [b'o', b':', rest @ ..] => opening(rest),
+        [b'c', b':', rest @ ..] => closing(rest),
+        _ => None,
     }
-    if text[1] != b':' {
-        return Asked::Malformed;
-    }
-    if text[0] == b'o' {
-        return opening(&text[2..]);
-    }
-    if text[0] == b'c' {
-        return closing(&text[2..]);
-    }
-    Asked::Malformed
 }
 
 // What field k of the line asks for.
-pub fn change_in(line: &[u8], k: usize) -> Asked {
-    let Some(field) = texts::field(line, k) else {
-        return Asked::Missing;
-    };
+pub fn change_in(line: &[u8], k: usize) -> Option<Change> {
+    let field = texts::field(line, k)?;
     change(&line[field])
 }
 
 // Whether every field behind the rule asks for a call. A line has no more fields than bytes, and one.
 pub fn well_formed(line: &[u8]) -> bool {
-    let mut k = FIRST;
-    while k <= line.len() {
-        match change_in(line, k) {
-            Asked::Missing => return true,
-            Asked::Malformed => return false,
-            Asked::Asks(_) => {}
+    for k in FIRST..=line.len() {
+        let Some(field) = texts::field(line, k) else {
+            return true;
+        };
+        if change(&line[field]).is_none() {
+            return false;
         }
-        k += 1;
     }
     true
 }
@@ -94,15 +64,13 @@ pub fn follow(stdout: &mut Stdout, line: &[u8], tables: &[u8], rule: &[u8]) -> i
     if 65536 <= reply {
         return print_refused(stdout, reply);
     }
-    print_counts(stdout, &state)?;
+    print_counts(stdout, &state, ':')?;
     let mut n = reply as usize;
-    let mut k = FIRST;
-    while k <= line.len() {
-        let Asked::Asks(change) = change_in(line, k) else {
+    for k in FIRST..=line.len() {
+        let Some(change) = change_in(line, k) else {
             return Ok(());
         };
         n = next(stdout, &mut state, n, change)?;
-        k += 1;
     }
     Ok(())
 }
@@ -115,23 +83,13 @@ fn next(stdout: &mut Stdout, state: &mut [u8], n: usize, change: Change) -> io::
 {
     let mut out = untouched();
     let reply = next_state(&state[..n], change, &mut out);
-    stdout.write_all(b" ")?;
     if 65536 <= reply {
-        stdout.write_all(b"r")?;
-        print_decimal(stdout, (reply / 65536) as u64)?;
+        write!(stdout, " r{}", reply / 65536)?;
         return Ok(n);
     }
-    print_counts(stdout, &out)?;
+    stdout.write_all(b" ")?;
+    print_counts(stdout, &out, ':')?;
     let m = reply as usize;
-    texts::put(&out[..m], state);
+    state[..m].copy_from_slice(&out[..m]);
     Ok(m)
-}
-
-// `FULL:BREAKING`.
-fn print_counts(stdout: &mut Stdout, state: &[u8]) -> io::Result<()>
-    requires { 26 ≤ length state.now }
-{
-    print_decimal(stdout, word(state, sheet::FULL))?;
-    stdout.write_all(b":")?;
-    print_decimal(stdout, word(state, sheet::BREAKING))
 }

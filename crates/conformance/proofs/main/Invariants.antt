@@ -1,11 +1,8 @@
--- `conformance::main` is safe and ends. The invariant: the window lies in the buffer; the measure is the turns that are left.
+-- `conformance::main` is safe: the window lies in the buffer.
 -- Assumes nothing.
 use Prim.Native.Nat.{◌≤◌}
 use lib.ListN.{length}
 use Rattle.conformance.proofs.main.Given as goal
 
-abbrev pub invariant-loop-turns : goal.invariant-loop-turns
-invariant-loop-turns l = (l.w.from ≤ l.w.have) × (l.w.have ≤ length l.buffer)
-
-abbrev pub decreases-loop-turns : goal.decreases-loop-turns
-decreases-loop-turns l = l.turns
+abbrev pub invariant-loop : goal.invariant-loop
+invariant-loop l = (l.w.from ≤ l.w.have) × (l.w.have ≤ length l.buffer)
