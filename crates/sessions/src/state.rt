@@ -19,7 +19,7 @@ pub fn rule_end(state: &[u8]) -> Option<usize>
     if state.len() < FRONT {
         return None;
     }
-    let end = FRONT + (state[HEAD] as usize + 256 * state[HEAD + 1] as usize);
+    let end = FRONT + u16::from_le_bytes([state[HEAD], state[HEAD + 1]]) as usize;
     if state.len() < end {
         return None;
     }
@@ -58,8 +58,6 @@ pub fn add_rule(n: usize, rule: &[u8], out: &mut [u8]) -> usize
     requires { (n + 2 + length rule.now ≤ length out.old) × (length rule.now ≤ rule_limit) }
     ensures { Added n (lowest_first 2 (length rule.now) ++ rule.now) out.old out.new result }
 {
-    let size = rule.len();
-    let low_first = [(size % 256) as u8, (size / 256 % 256) as u8];
-    let a = texts::add(n, &low_first, out);
+    let a = texts::add(n, &(rule.len() as u16).to_le_bytes(), out);
     texts::add(a, rule, out)
 }

@@ -1,6 +1,6 @@
 -- `forecasts::forecast` meets its contract: refused tables give their refusal, accepted ones go on to the rule.
 -- Assumes nothing.
-use Rattle.std.proofs.lemmas.Result.{err_from_is_err_and}
+use Rattle.answers.proofs.AnswerLaws.{exit-refused}
 use Rattle.verdicts.proofs.LoadedLaws.{load-rejected, load-taken, took-loaded}
 use Rattle.verdicts.proofs.BothLaws.{both-refused, both-taken}
 use Rattle.forecasts.specs.Forecast.{forecast_of}
@@ -13,8 +13,7 @@ on_tables-requires c =
 pub returns-in_err-load : goal.returns-in_err-load
 unfolding forecast_of
 returns-in_err-load c =
-    let p = err_from_is_err_and c.from_residual.result c.from_residual.ensures.1 in
-    rw (p.1, p.2) (both-refused c.args.tables.now c.args.rule.now _ _ (load-rejected c.args.tables.now c.load.ensures.value c.in_err-load.was))
+    rw (exit-refused c.from_residual.ensures.1) (both-refused c.args.tables.now c.args.rule.now _ _ (load-rejected c.args.tables.now c.load.ensures.value c.in_err-load.was))
 
 pub returns : goal.returns
 unfolding forecast_of

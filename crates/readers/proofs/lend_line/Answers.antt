@@ -5,15 +5,6 @@ use Rattle.sheets.specs.Sheet.{sheet_by}
 use Rattle.texts.proofs.OverwrittenLaws.{written-part, written-length, part_length}
 use Rattle.readers.proofs.lend_line.Goals as goal
 
-pub slice_bounds-text-end : goal.slice_bounds-text-end
-slice_bounds-text-end c =
-    let o = c.judged_line-n.ensures c.requires.tables c.requires.holds in
-    omega (arith, o.count, o.fits, written-length o)
-
-pub slice_bounds-lend-end : goal.slice_bounds-lend-end
-slice_bounds-lend-end c =
-    part_length (c.judged_line-n.ensures c.requires.tables c.requires.holds)
-
 pub returns : goal.returns
 unfolding sheet_by
 returns c =

@@ -1,7 +1,7 @@
 -- `readers::line` lends the reader's line: refused tables first, then the reader's word, then the line of the cut tables.
 -- Assumes nothing.
+use Rattle.answers.proofs.AnswerLaws.{exit-refused}
 use native.Mathlib.Omega.{arith}
-use Rattle.std.proofs.lemmas.Result.{err_from_is_err_and}
 use Rattle.verdicts.proofs.LoadedLaws.{load-rejected, load-taken}
 use Rattle.readers.proofs.LineLaws.{line-rejected, took-fits, count-few, cut-loaded, line-beyond, line-lent}
 use Rattle.readers.proofs.line.Goals as goal
@@ -26,8 +26,7 @@ lend_line-requires c =
 
 pub returns-in_err-load : goal.returns-in_err-load
 returns-in_err-load c =
-    let p = err_from_is_err_and c.from_residual.result c.from_residual.ensures.1 in
-    rw (p.1, p.2)
+    rw (exit-refused c.from_residual.ensures.1)
     (line-rejected c.args.tables.now (load-rejected c.args.tables.now c.load.ensures.value c.in_err-load.was) c.args.reader c.args.rules.now c.args.place c.args.out.now)
 
 pub returns : goal.returns

@@ -8,19 +8,12 @@ use Rattle.sessions.proofs.StepLaws.{front_length, room-length, next-room, chang
 use borrow.Author.Rules.{rules}
 use Rattle.sessions.proofs.change_on.Goals as goal
 
-pub overflow_add-front : goal.overflow_add-front
-overflow_add-front c = let room = room-length c.requires.holds c.requires.front in search rules
-
 pub next_length-requires : goal.next_length-requires
 next_length-requires c = room-length c.requires.holds c.requires.front
 
 pub returns-then-out-next_length : goal.returns-then-out-next_length
 returns-then-out-next_length c =
     change-short c.requires.holds c.requires.front _ _ c.next_length.ensures c.if-out-next_length.true
-
-pub make-requires : goal.make-requires
-make-requires c =
-    c.requires.ready
 
 pub put_verdict-a-requires : goal.put_verdict-a-requires
 put_verdict-a-requires c =

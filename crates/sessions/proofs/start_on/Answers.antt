@@ -1,6 +1,6 @@
 -- `sessions::start_on`: the rule is refused, the output is too short, or the parts of a state are written.
 -- Assumes nothing.
-use Rattle.std.proofs.lemmas.Result.{err_from_is_err_and}
+use Rattle.answers.proofs.AnswerLaws.{exit-refused}
 use Rattle.rules.proofs.ParseLaws.{as-parsed, as-refused}
 use Rattle.sessions.proofs.LayLaws.{rule-length}
 use Rattle.sessions.proofs.StepLaws.{holds-loaded, holds-short, parsed-short, on-refused, start-short, start-written}
@@ -9,8 +9,7 @@ use Rattle.sessions.proofs.start_on.Goals as goal
 
 pub returns-in_err-parsed : goal.returns-in_err-parsed
 returns-in_err-parsed c =
-    let p = err_from_is_err_and c.from_residual.result c.from_residual.ensures.1 in
-    rw (p.1, p.2) (on-refused _ _ _ (as-refused c.parse.ensures c.in_err-parsed.was))
+    rw (exit-refused c.from_residual.ensures.1) (on-refused _ _ _ (as-refused c.parse.ensures c.in_err-parsed.was))
 
 pub overflow_add-rule-2 : goal.overflow_add-rule-2
 overflow_add-rule-2 c =

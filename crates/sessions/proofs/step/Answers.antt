@@ -4,8 +4,7 @@ use mathlib.Core.Path.{sym}
 use native.Mathlib.Omega.{arith}
 use lib.Seq.{length-take-le}
 use Rattle.answers.specs.declared.Refusal.TheVariants.{CutShort}
-use Rattle.answers.proofs.AnswerLaws.{kept-refused}
-use Rattle.std.proofs.lemmas.Result.{err_from_is_err_and}
+use Rattle.answers.proofs.AnswerLaws.{exit-refused, kept-refused}
 use Rattle.verdicts.proofs.LoadedLaws.{load-rejected, load-taken}
 use Rattle.sessions.proofs.SplitLaws.{step_cut, end-in}
 use Rattle.sessions.proofs.StepLaws.{bytes-known, took-holds, whole-refused, whole-taken, tables-known}
@@ -29,12 +28,11 @@ pub step_on-requires : goal.step_on-requires
 step_on-requires c =
     let ends = end-in c.args.state.now c.rule_end.ensures c.in-Some.is in
     let q = load-taken _ c.load.ensures.value c.load.ensures.words_after c.in_ok-load.was in
-    record { holds = took-holds q (tables-known c.args.state.now c.rule_end.ensures c.in-Some.is c.args.change (bytes-known c.args.state.now c.shared_slice_known-1.given)); in_bounds = omega (arith, ends.0, length-take-le c.in-Some.end c.args.state.now ends.1) }
+    record { holds = took-holds q (tables-known c.args.state.now c.rule_end.ensures c.in-Some.is c.args.change (bytes-known c.args.state.now c.type_inv.state)); in_bounds = omega (arith, ends.0, length-take-le c.in-Some.end c.args.state.now ends.1) }
 
 pub returns-in_err-load : goal.returns-in_err-load
 returns-in_err-load c =
-    let p = err_from_is_err_and c.from_residual.result c.from_residual.ensures.1 in
-    rw (p.1, p.2) (whole-refused c.args.state.now c.rule_end.ensures c.in-Some.is c.args.change _ (load-rejected _ c.load.ensures.value c.in_err-load.was))
+    rw (exit-refused c.from_residual.ensures.1) (whole-refused c.args.state.now c.rule_end.ensures c.in-Some.is c.args.change _ (load-rejected _ c.load.ensures.value c.in_err-load.was))
 
 pub returns : goal.returns
 returns c =

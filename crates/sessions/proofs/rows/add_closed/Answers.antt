@@ -5,14 +5,6 @@ use Rattle.sessions.proofs.RowLaws.{ClosedFits, closed-fits, closed-added}
 use borrow.Author.Rules.{rules}
 use Rattle.sessions.proofs.rows.add_closed.Goals as goal
 
-pub rows_at-rows-requires : goal.rows_at-rows-requires
-rows_at-rows-requires c = record { tables = _; holds = c.requires.changed.at }
-
-pub overflow_mul-row : goal.overflow_mul-row
-overflow_mul-row c =
-    let sizes : ClosedFits c.args.words.now c.args.tables.now c.args.k c.rows_at-rows.result = closed-fits c.requires.changed.tables _ c.requires.changed.free c.requires.changed.at c.requires.changed.bytes c.rows_at-rows.ensures in
-    let z = sizes in omega (arith, z.few)
-
 pub overflow_add-row : goal.overflow_add-row
 overflow_add-row c =
     let sizes : ClosedFits c.args.words.now c.args.tables.now c.args.k c.rows_at-rows.result = closed-fits c.requires.changed.tables _ c.requires.changed.free c.requires.changed.at c.requires.changed.bytes c.rows_at-rows.ensures in
@@ -28,16 +20,6 @@ add_count-a-requires c =
     let sizes : ClosedFits c.args.words.now c.args.tables.now c.args.k c.rows_at-rows.result = closed-fits c.requires.changed.tables _ c.requires.changed.free c.requires.changed.at c.requires.changed.bytes c.rows_at-rows.ensures in
     let z = sizes in
     record { loaded = record { tables = _; holds = c.requires.changed.at }; words_in_bounds = (omega (arith, z.at, z.last), search rules) }
-
-pub slice_bounds-add-count : goal.slice_bounds-add-count
-slice_bounds-add-count c =
-    let sizes : ClosedFits c.args.words.now c.args.tables.now c.args.k c.rows_at-rows.result = closed-fits c.requires.changed.tables _ c.requires.changed.free c.requires.changed.at c.requires.changed.bytes c.rows_at-rows.ensures in
-    let z = sizes in omega arith
-
-pub slice_bounds-add-start : goal.slice_bounds-add-start
-slice_bounds-add-start c =
-    let sizes : ClosedFits c.args.words.now c.args.tables.now c.args.k c.rows_at-rows.result = closed-fits c.requires.changed.tables _ c.requires.changed.free c.requires.changed.at c.requires.changed.bytes c.rows_at-rows.ensures in
-    let z = sizes in omega arith
 
 pub slice_bounds-add-end : goal.slice_bounds-add-end
 slice_bounds-add-end c =

@@ -8,9 +8,6 @@ use Rattle.sessions.proofs.RowLaws.{OpenedFits, opened-fits, rest-fits, opened-a
 use borrow.Author.Rules.{rules}
 use Rattle.sessions.proofs.rows.add_opened.Goals as goal
 
-pub rows_at-rows-requires : goal.rows_at-rows-requires
-rows_at-rows-requires c = record { tables = _; holds = c.requires.changed.at }
-
 pub bounds-words-3 : goal.bounds-words-3
 bounds-words-3 c = omega (arith, (counts_of c.requires.changed.at).long)
 
@@ -40,26 +37,10 @@ add_count-a-requires c =
     let z = sizes in
     record { loaded = record { tables = _; holds = c.requires.changed.at }; words_in_bounds = (omega (arith, z.at, z.last), search rules) }
 
-pub slice_bounds-add-count : goal.slice_bounds-add-count
-slice_bounds-add-count c =
-    let sizes : OpenedFits c.args.words.now c.args.tables.now c.args.user c.rows_at-rows.result = opened-fits c.requires.changed.tables _ _ c.requires.changed.free c.requires.changed.at c.requires.changed.bytes c.rows_at-rows.ensures in
-    let z = sizes in omega (arith, z.some)
-
-pub slice_bounds-add-start : goal.slice_bounds-add-start
-slice_bounds-add-start c =
-    let sizes : OpenedFits c.args.words.now c.args.tables.now c.args.user c.rows_at-rows.result = opened-fits c.requires.changed.tables _ _ c.requires.changed.free c.requires.changed.at c.requires.changed.bytes c.rows_at-rows.ensures in
-    let z = sizes in omega (arith, z.some)
-
 pub slice_bounds-add-end : goal.slice_bounds-add-end
 slice_bounds-add-end c =
     let sizes : OpenedFits c.args.words.now c.args.tables.now c.args.user c.rows_at-rows.result = opened-fits c.requires.changed.tables _ _ c.requires.changed.free c.requires.changed.at c.requires.changed.bytes c.rows_at-rows.ensures in
     let z = sizes in omega (arith, z.last)
-
-pub add-b-requires : goal.add-b-requires
-add-b-requires c =
-    let sizes : OpenedFits c.args.words.now c.args.tables.now c.args.user c.rows_at-rows.result = opened-fits c.requires.changed.tables _ _ c.requires.changed.free c.requires.changed.at c.requires.changed.bytes c.rows_at-rows.ensures in
-    let z = sizes in
-    search rules
 
 pub add-c-requires : goal.add-c-requires
 add-c-requires c =

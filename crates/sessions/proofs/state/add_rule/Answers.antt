@@ -1,10 +1,10 @@
 -- `sessions::state::add_rule`: two bytes, and the rule.
 -- Assumes nothing.
-use Rattle.tables.specs.Bytes.{lowest_first}
+use mathlib.Core.Path.{◌∙◌}
+use lib.ListN.{length}
+use Rattle.verdicts.proofs.SheetLaws.{low-bytes}
 use Rattle.sessions.proofs.LayLaws.{add-then}
 use Rattle.sessions.proofs.state.add_rule.Goals as goal
 
 pub returns : goal.returns
-unfolding lowest_first
-returns c =
-    add-then c.add-a.ensures c.add.ensures
+returns c = add-then (rw (c.to_le_bytes.ensures ∙ low-bytes 2 (length c.args.rule.now)) at c.add-a.ensures) c.add.ensures
