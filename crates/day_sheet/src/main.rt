@@ -7,6 +7,7 @@ ghost use Rattle.std.specs.Prelude.{◌≤◌, length, IfSome};
 ghost use Rattle.verdicts.specs.Code.Judging.{Loaded};
 ghost use Rattle.sheets.specs.Sheet.{rules_limit};
 
+use sheets::turns::Turn;
 use sheets::{LINE_ROOM, RULES_LIMIT, total, turns};
 use std::fs::File;
 use std::io;
@@ -88,17 +89,16 @@ fn print_lines(stdout: &mut Stdout, words: &[u64], rules: &[u8]) -> io::Result<(
 {
     let mut at = 0;
     let mut total = total::no_lines();
-    let mut more = true;
-    while more {
+    loop {
         let mut line = [0u8; LINE_ROOM];
-        let turn = turns::next_line(words, rules, at, total, &mut line);
-        let n = turn.n;
+        let Turn { n, next } = turns::next_line(words, rules, at, total, &mut line);
         print_line(stdout, &line[..n])?;
-        more = !turn.last;
-        at = turn.at;
-        total = turn.total;
+        let Some(reached) = next else {
+            return Ok(());
+        };
+        at = reached.at;
+        total = reached.total;
     }
-    Ok(())
 }
 
 // Prints a line with its byte 10; an error where it is not written.

@@ -1,13 +1,12 @@
 -- Laws of the lines one after another: where they begin, what the next one is, and how far the total has come with it.
 -- Assumes nothing.
+use Rattle.std.specs.Prelude.{None}
 use mathlib.Core.Path.{◌≡◌, refl, sym, ap, ◌∙◌}
-use mathlib.Core.Bool.{Bool, true, false, not}
 use mathlib.Core.List.{List, [], ◌∷◌}
 use mathlib.Core.Option.{some}
 use Prim.Native.Nat.{ℕ, zero, suc, ◌+◌, ◌-◌, ◌≤◌, ◌<◌}
 use native.Mathlib.Numerals.{add-one}
 use native.Mathlib.Omega.{arith}
-use borrow.Author.Tests.{not-true}
 use lib.ListN.{length, take, drop, get_elem?, length-append, drop_of_length-le}
 use Rattle.syntax.specs.Bytes.{Bytes}
 use Rattle.tables.specs.Tables.{Tables}
@@ -15,14 +14,12 @@ use Rattle.texts.specs.Pieces.{split, lines}
 use Rattle.texts.specs.Code.Overwritten.{Overwritten}
 use Rattle.texts.specs.Code.Spans.{Sought}
 use Rattle.texts.proofs.SpansLaws.{next-line}
-use Rattle.texts.proofs.OverwrittenLaws.{written-length}
 use Rattle.verdicts.specs.Verdict.{turn_verdict}
 use Rattle.verdicts.specs.Code.Judging.{TablesAt}
 use Rattle.verdicts.specs.declared.Outcome.{Outcome}
 use Rattle.verdicts.specs.declared.Outcome.TheVariants.{Refused, Held, Idle, Broken}
 use Rattle.verdicts.specs.declared.Verdict.{Verdict}
 use Rattle.sheets.specs.declared.total.Total.{Total}
-use Rattle.sheets.specs.declared.turns.Turn.{Turn}
 use Rattle.sheets.specs.Line.{line_text}
 use Rattle.sheets.specs.Total.{total_of, total_text}
 use Rattle.sheets.specs.Sheet.{listed, sheet_line}
@@ -99,33 +96,5 @@ module _ {ts : List ℕ} {rules : Bytes} {at : ℕ} {t : Total} (s : SofarOn ts 
       let l : t.lines + 1 ≡ length (lines rules) + 1 = ap (λ (x : Total). x.lines + 1) q in
       rw (listed-total T (lines rules) (t.lines + 1) l) (rw q at w)
 
-  pub total-last : (r : Turn) → r.last ≡ true → Turns ts rules at t r
-  total-last r e = record {
-    ends = λ q T H. simp length-append (omega (arith, judged-length 1 T (lines rules), ap (λ (x : Total). x.lines) (total-whole T H)));
-    goes = λ q. let z : ◌≡◌ {A = ℕ} 0 1 = cc in absurd (omega arith);
-  }
-
-pub not_last : {ts : List ℕ} {rules : Bytes} {at : ℕ} {t : Total} (r : Turn) → r.last ≡ false → Onward ts rules at r.at r.total → Turns ts rules at t r
-not_last r e o = record {
-  ends = λ q T H. let z : ◌≡◌ {A = ℕ} 0 1 = cc in absurd (omega arith);
-  goes = λ q. o;
-}
-
--- What a caller that goes from line to line needs: the line lies in the lent bytes, and there is an end.
-pub line-within : {w old new : List ℕ} {n : ℕ} → Overwritten w old new n → n ≤ length new
-line-within x = omega (arith, x.count, x.fits, written-length x)
-
-abbrev pub turns_left : Bool → Bytes → ℕ → ℕ
-turns_left true rules at = suc (suc (length rules) - at)
-turns_left false rules at = 0
-
-module _ {ts : List ℕ} {rules : Bytes} {at : ℕ} {t : Total} {r : Turn} (x : Turns ts rules at t r) where
-  pub turn_on : not r.last ≡ true → SofarOn ts rules r.at r.total
-  turn_on e = (x.goes (not-true r.last e)).on
-
-  pub turn-less : turns_left (not r.last) rules r.at < turns_left true rules at
-  turn-less = go r.last x.goes
-    where
-      go : (b : Bool) → (b ≡ false → Onward ts rules at r.at r.total) → turns_left (not b) rules r.at < turns_left true rules at
-      go true f = omega arith
-      go false f = let o = f refl in omega (arith, o.within, o.further)
+  pub total-last : Turns ts rules at t None
+  total-last T H = simp length-append (omega (arith, judged-length 1 T (lines rules), ap (λ (x : Total). x.lines) (total-whole T H)))

@@ -18,13 +18,18 @@ struct Judged {
     total: Total,
 }
 
-// A line that is written: its length, whether it is the last one, which is the total, and the same.
+// How far the lines have come: where the next one begins, and their total.
+#[derive(Clone, Copy)]
+pub struct Reached {
+    pub at: usize,
+    pub total: Total,
+}
+
+// A line that is written: its length, and how far the lines have come with it; none behind the last one, which is the total.
 #[derive(Clone, Copy)]
 pub struct Turn {
     pub n: usize,
-    pub last: bool,
-    pub at: usize,
-    pub total: Total,
+    pub next: Option<Reached>,
 }
 
 // Writes the line behind those so far, which have this total: that of the rule which begins at a byte of the rules, or
@@ -34,26 +39,20 @@ pub fn next_line(words: &[u64], rules: &[u8], at: usize, total: Total, out: &mut
     requires sofar_on { SofarOn words.now rules.now at total }
     requires line_room_in_bounds { line_room ≤ length out.old }
     ensures writes_next { WritesNext words.now rules.now total out.old out.new result.n }
-    ensures turns { Turns words.now rules.now at total result }
+    ensures turns { Turns words.now rules.now at total result.next }
 {
     if rules.len() <= at {
         let n = total::write(total, out);
-        return Turn {
-            n,
-            last: true,
-            at,
-            total,
-        };
+        return Turn { n, next: None };
     }
     let judged = judge_at(words, rules, at, total);
-    let verdict = judged.verdict;
-    let n = text::line_of(total.lines + 1, verdict, out);
-    let total = judged.total;
+    let n = text::line_of(total.lines + 1, judged.verdict, out);
     Turn {
         n,
-        last: false,
-        at: judged.at,
-        total,
+        next: Some(Reached {
+            at: judged.at,
+            total: judged.total,
+        }),
     }
 }
 

@@ -1,6 +1,6 @@
 -- Internal: the lines of a sheet one after another, with the total of those so far.
 -- Assumes nothing.
-use Rattle.std.specs.Prelude.{◌≡◌, true, false, List, ◌++◌, ℕ, ◌+◌, ◌≤◌, ◌<◌, length, drop}
+use Rattle.std.specs.Prelude.{Option, Some, None, ◌≡◌, List, ◌++◌, ℕ, ◌+◌, ◌≤◌, ◌<◌, length, drop}
 use Rattle.syntax.specs.Bytes.{Bytes, ascii}
 use Rattle.tables.specs.Tables.{Tables}
 use Rattle.texts.specs.Pieces.{lines}
@@ -10,7 +10,7 @@ use Rattle.verdicts.specs.declared.Outcome.{Outcome}
 use Rattle.verdicts.specs.declared.Outcome.TheVariants.{Refused, Held, Idle, Broken}
 use Rattle.sheets.specs.declared.total.Total.{Total}
 use Rattle.sheets.specs.declared.turns.Judged.{Judged}
-use Rattle.sheets.specs.declared.turns.Turn.{Turn}
+use Rattle.sheets.specs.declared.turns.Reached.{Reached}
 use Rattle.sheets.specs.Line.{labelled, line_text}
 use Rattle.sheets.specs.Total.{is_held, is_idle, is_broken, is_refused, how_many, total_of}
 use Rattle.sheets.specs.Sheet.{rules_limit, listed, sheet_line}
@@ -75,9 +75,9 @@ module _ (ts : List ℕ) (rules : Bytes) where
   WritesNext t old new n = (T : Tables) → TablesAt ts T → Overwritten (sheet_line (listed T (lines rules)) (t.lines + 1)) old new n
 
   -- which is the last one, or there are more;
-  pub record Turns (at : ℕ) (t : Total) (r : Turn) : Type 0 where
-    pub ends : r.last ≡ true → (T : Tables) → TablesAt ts T → length (listed T (lines rules)) ≡ t.lines + 1
-    pub goes : r.last ≡ false → Onward at r.at r.total
+  abbrev pub Turns : ℕ → Total → Option Reached → Type 0
+  Turns at t None = (T : Tables) → TablesAt ts T → length (listed T (lines rules)) ≡ t.lines + 1
+  Turns at t (Some r) = Onward at r.at r.total
 
   -- the total of all lines.
   abbrev pub Totalled : Total → Type 0
