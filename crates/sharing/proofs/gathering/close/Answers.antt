@@ -3,7 +3,7 @@
 use Prim.Native.Nat.{ℕ, ◌≤◌}
 use native.Mathlib.Omega.{arith}
 use lib.ListN.{length, length-replicate}
-use Rattle.rules.specs.Accept.{rule_limit, choices_limit}
+use Rattle.rules.specs.Accept.{rule_limit}
 use borrow.Author.Rules.{rules}
 use Rattle.sharing.specs.Code.Gathering.{Room}
 use Rattle.sharing.proofs.GatheringLaws.{copied-length, copied-front, close-joinable, sheaf-bound}
