@@ -3,6 +3,7 @@ pub mod ClausesLaws
 pub mod GatheringLaws
 pub mod LineLaws
 pub mod WalkLaws
+pub mod StandingLaws
 pub mod LayingLaws
 pub mod TogetherLaws
 pub mod FailedLaws

@@ -1,20 +1,18 @@
 -- The proof of the cycle of calls {below, items}. The measure is twice the variables left, and one more for `below`; the loop's invariant: the
 -- sums of each line are those of the items but those of rest, and the cache and what is kept are right. Assumes nothing.
 use mathlib.Core.Path.{◌≡◌, refl, sym, ◌∙◌}
-use mathlib.Core.Bool.{true, false, true≢false}
+use mathlib.Core.Bool.{false, true≢false}
 use mathlib.Core.Logic.{⊎_elim}
 use native.Mathlib.Omega.{arith}
-use lib.ListN.{length, get_or, length-replicate}
+use lib.ListN.{length, length-replicate}
 use lib.Seq.{length_front}
 use Rattle.words.specs.Words.{has}
 use Rattle.words.proofs.WordsLaws.{has-zero}
 use Rattle.words.proofs.LoopLaws.{lowest-item, less-smaller}
-use Rattle.walks.specs.Code.Kept.{choice_of}
 use Rattle.judging.specs.Code.Counting.{depth_of}
-use Rattle.judging.proofs.CountingLaws.{plan-runs, set-in}
-use Rattle.sharing.specs.Code.Lines.{CountedFor}
 use Rattle.sharing.proofs.LineLaws.{hit-for}
-use Rattle.sharing.proofs.WalkLaws.{some_line, zeros-none, lines_left, outside-less, true-or-false, ranged, line-end, line_small, turn_end, turn-next, turn-room, entered-for, turned-for, found-for, kept-front}
+use Rattle.sharing.proofs.StandingLaws.{active-line, among-all, settle-asks, failed-asks, one-deeper, next-in, inner-turn, turn-fits, all-gone}
+use Rattle.sharing.proofs.WalkLaws.{some_line, zeros-none, lines_left, outside-less, true-or-false, line-end, line_small, turn-next, entered-for, found-for, kept-front}
 use Prim.Native.Nat.{ℕ, ◌<◌, ◌≤◌, ◌+◌, ◌-◌}
 use Rattle.sharing.proofs.counting.+below_items.Goals as goal
 
@@ -104,68 +102,58 @@ below-returns t c =
     }
 
 pub items-settle-requires : goal.items-settle-requires
-items-settle-requires t c =
-    (c.requires.0.grouped.planned.whole, plan-runs c.requires.0.grouped.planned, c.loop-rest.invariant.0 ∙ c.requires.0.room, omega (arith, c.requires.0.grouped.planned.turns.many, c.requires.0.grouped.planned.turns.short, c.requires.0.within, c.requires.1))
+items-settle-requires t c = settle-asks c.requires.0 c.requires.1 _ c.loop-rest.invariant.0
 
 pub items-failed-closed-requires : goal.items-failed-closed-requires
-items-failed-closed-requires t c =
-    (plan-runs c.requires.0.grouped.planned, c.settle.auto.cache ∙ c.loop-rest.invariant.0 ∙ c.requires.0.room, c.requires.0.listed, ranged c.requires.0.grouped c.requires.0.long)
+items-failed-closed-requires t c = failed-asks c.requires.0 _ (c.settle.auto.cache ∙ c.loop-rest.invariant.0)
 
 pub items-below-sum-requires : goal.items-below-sum-requires
 items-below-sum-requires t c =
-    let choice : ℕ = c.args.at.choice in
-    let d : ℕ = depth_of c.args.plan.now c.args.at.left in
-    let lo : d < length c.requires.0.held.layout.order = omega (arith, c.requires.0.grouped.planned.turns.many, c.requires.0.within, c.requires.1) in
-    let deep : depth_of c.args.plan.now (c.args.at.left - 1) ≡ d + 1 = omega (arith, c.requires.0.within, c.requires.1) in
-    let r = c.loop-rest.invariant.5 c.requires.0.held c.requires.0.grouped c.requires.0.stored c.requires.0.keeps in (
+    let S = c.requires.0 in
+    let r = c.loop-rest.invariant.5 S.held S.grouped S.stored S.keeps in (
       omega (arith, c.decreases, c.requires.1),
       record {
-        held = c.requires.0.held;
-        grouped = c.requires.0.grouped;
-        long = c.requires.0.long;
-        listed = lines_left c.requires.0.listed c.failed-closed.result _ c.less.ensures;
-        within = omega (arith, c.requires.0.within);
-        room = c.settle.auto.cache ∙ c.loop-rest.invariant.0 ∙ c.requires.0.room;
-        slots = omega (arith, c.loop-rest.invariant.1, c.requires.0.slots);
+        held = S.held;
+        grouped = S.grouped;
+        long = S.long;
+        listed = lines_left S.listed c.failed-closed.result _ c.less.ensures;
+        within = omega (arith, S.within);
+        room = c.settle.auto.cache ∙ c.loop-rest.invariant.0 ∙ S.room;
+        slots = omega (arith, c.loop-rest.invariant.1, S.slots);
         counts = length-replicate {A = ℕ} 32 0;
         none = λ l a. zeros-none l;
-        stored = rw deep (entered-for c.requires.0.grouped choice c.lowest-x.result d c.put-chosen.result lo c.put-chosen.ensures c.settle.ensures r.1);
+        stored = rw (one-deeper S c.requires.1) (entered-for S.grouped c.args.at.choice c.lowest-x.result (depth_of c.args.plan.now c.args.at.left) c.put-chosen.result (next-in S c.requires.1 S.grouped) c.put-chosen.ensures c.settle.ensures r.1);
         keeps = r.2;
       },
     )
 
 pub items-add-requires : goal.items-add-requires
 items-add-requires t c =
-    let choice : ℕ = c.args.at.choice in
-    let d : ℕ = depth_of c.args.plan.now c.args.at.left in
-    let lo : d < length c.requires.0.held.layout.order = omega (arith, c.requires.0.grouped.planned.turns.many, c.requires.0.within, c.requires.1) in
-    let deep : depth_of c.args.plan.now (c.args.at.left - 1) ≡ d + 1 = omega (arith, c.requires.0.within, c.requires.1) in
+    let S = c.requires.0 in
     let x = lowest-item c.loop-rest.invariant.3 c.loop-rest-test.true c.lowest-x.ensures in
-    let r = c.loop-rest.invariant.5 c.requires.0.held c.requires.0.grouped c.requires.0.stored c.requires.0.keeps in
-    let u = turned-for c.requires.0.grouped choice c.lowest-x.result d (c.args.at.left - 1) c.requires.0.listed lo deep c.put-chosen.ensures c.settle.ensures c.failed-closed.ensures c.less.ensures c.below-sum.ensures zeros-none r.1 r.2 in record { lines = (record { small = c.requires.0.listed.small; few = omega arith; inside = λ l a. omega (arith, c.requires.0.listed.inside l a, c.requires.0.listed.few) }, u.full, c.below-sum.ensures.counts ∙ length-replicate {A = ℕ} 32 0, c.loop-rest.invariant.2 ∙ c.requires.0.counts); by_index = λ l a. (u.small l a, omega (arith, (turn-room c.requires.0.grouped (u.items l a) _ (r.0 l a) x (c.lowest-x.ensures.found x) lo (set-in c.requires.0.grouped.planned choice d lo c.requires.0.stored)).1)) }
+    let r = c.loop-rest.invariant.5 S.held S.grouped S.stored S.keeps in
+    let u = inner-turn S c.requires.1 S.grouped c.put-chosen.ensures c.settle.ensures c.failed-closed.ensures r.1 c.less.ensures c.below-sum.ensures r.2 in
+    record {
+      lines = (among-all S S.listed.small (λ l a. a), u.full, c.below-sum.ensures.counts ∙ length-replicate {A = ℕ} 32 0, c.loop-rest.invariant.2 ∙ S.counts);
+      by_index = λ l a. (u.small l a, omega (arith, (turn-fits S c.requires.1 S.grouped S.stored _ (u.items l a) r.0 a x (c.lowest-x.ensures.found x)).1));
+    }
 
 pub items-overflow_add-full : goal.items-overflow_add-full
 items-overflow_add-full t c =
-    let choice : ℕ = c.args.at.choice in
-    let d : ℕ = depth_of c.args.plan.now c.args.at.left in
-    let lo : d < length c.requires.0.held.layout.order = omega (arith, c.requires.0.grouped.planned.turns.many, c.requires.0.within, c.requires.1) in
-    let deep : depth_of c.args.plan.now (c.args.at.left - 1) ≡ d + 1 = omega (arith, c.requires.0.within, c.requires.1) in
+    let S = c.requires.0 in
     let x = lowest-item c.loop-rest.invariant.3 c.loop-rest-test.true c.lowest-x.ensures in
-    let r = c.loop-rest.invariant.5 c.requires.0.held c.requires.0.grouped c.requires.0.stored c.requires.0.keeps in
-    let u = turned-for c.requires.0.grouped choice c.lowest-x.result d (c.args.at.left - 1) c.requires.0.listed lo deep c.put-chosen.ensures c.settle.ensures c.failed-closed.ensures c.less.ensures c.below-sum.ensures zeros-none r.1 r.2 in
-    let some = some_line c.args.at.active c.requires.0.listed.small (λ e. omega (arith, c.requires.2)) in
-    omega (arith, (turn-room c.requires.0.grouped (u.items some.0 some.1) _ (r.0 some.0 some.1) x (c.lowest-x.ensures.found x) lo (set-in c.requires.0.grouped.planned choice d lo c.requires.0.stored)).0)
+    let r = c.loop-rest.invariant.5 S.held S.grouped S.stored S.keeps in
+    let u = inner-turn S c.requires.1 S.grouped c.put-chosen.ensures c.settle.ensures c.failed-closed.ensures r.1 c.less.ensures c.below-sum.ensures r.2 in
+    let l = active-line S c.requires.2 in
+    omega (arith, (turn-fits S c.requires.1 S.grouped S.stored _ (u.items l.0 l.1) r.0 l.1 x (c.lowest-x.ensures.found x)).0)
 
 pub items-loop-rest-smaller : goal.items-loop-rest-smaller
 items-loop-rest-smaller t c =
-    let l = lowest-item c.loop-rest.invariant.3 c.loop-rest-test.true c.lowest-x.ensures in
-    rw (c.less-rest.ensures, c.item.ensures) (less-smaller c.loop-rest.rest c.lowest-x.result c.loop-rest.invariant.3 l (c.lowest-x.ensures.found l))
+    let x = lowest-item c.loop-rest.invariant.3 c.loop-rest-test.true c.lowest-x.ensures in
+    rw (c.less-rest.ensures, c.item.ensures) (less-smaller c.loop-rest.rest c.lowest-x.result c.loop-rest.invariant.3 x (c.lowest-x.ensures.found x))
 
 pub items-loop-rest-preserved : goal.items-loop-rest-preserved
 items-loop-rest-preserved t c =
-    let choice : ℕ = c.args.at.choice in
-    let d : ℕ = depth_of c.args.plan.now c.args.at.left in
-    let deep : depth_of c.args.plan.now (c.args.at.left - 1) ≡ d + 1 = omega (arith, c.requires.0.within, c.requires.1) in
     let x = lowest-item c.loop-rest.invariant.3 c.loop-rest-test.true c.lowest-x.ensures in
     let smaller : c.less-rest.result < c.loop-rest.rest = rw (c.less-rest.ensures, c.item.ensures) (less-smaller c.loop-rest.rest c.lowest-x.result c.loop-rest.invariant.3 x (c.lowest-x.ensures.found x)) in (
       c.below-sum.ensures.room ∙ c.settle.auto.cache ∙ c.loop-rest.invariant.0,
@@ -174,25 +162,18 @@ items-loop-rest-preserved t c =
       omega (arith, c.loop-rest.invariant.3, smaller),
       λ l a. c.add.ensures.other l a ∙ c.loop-rest.invariant.4 l a,
       λ h G st ke.
-          let lo : d < length h.layout.order = omega (arith, G.planned.turns.many, c.requires.0.within, c.requires.1) in
           let r = c.loop-rest.invariant.5 h G st ke in
-          let u = turned-for G choice c.lowest-x.result d (c.args.at.left - 1) c.requires.0.listed lo deep c.put-chosen.ensures c.settle.ensures c.failed-closed.ensures c.less.ensures c.below-sum.ensures zeros-none r.1 r.2 in
+          let u = inner-turn c.requires.0 c.requires.1 G c.put-chosen.ensures c.settle.ensures c.failed-closed.ensures r.1 c.less.ensures c.below-sum.ensures r.2 in
           (λ l a. rw (c.less-rest.ensures, c.item.ensures, c.add.ensures.each l a) (turn-next G (u.items l a) _ (r.0 l a) x (c.lowest-x.ensures.found x)), u.caches, u.keeps),
     )
 
 pub items-returns : goal.items-returns
-items-returns t c =
-    let choice : ℕ = c.args.at.choice in
-    let d : ℕ = depth_of c.args.plan.now c.args.at.left in
-    let some = some_line c.args.at.active c.requires.0.listed.small (λ e. omega (arith, c.requires.2)) in
-    record {
-      room = c.loop-rest.invariant.0;
-      slots = c.loop-rest.invariant.1;
-      counts = c.loop-rest.invariant.2;
-      other = c.loop-rest.invariant.4;
-      goes = λ h G st ke.
-          let r = c.loop-rest.invariant.5 h G st ke in
-          let lo : d < length h.layout.order = omega (arith, G.planned.turns.many, c.requires.0.within, c.requires.1) in
-          let counts : (l : ℕ) → has c.args.at.active l ≡ true → CountedFor c.args.plan.now c.args.lines.now h l d (choice_of choice) c.loop-rest.full (get_or c.loop-rest.breaking l 0) = λ l a. turn_end G l d choice _ lo (set-in G.planned choice d lo st) (r.0 l a) c.loop-rest-test.false in
-          ((counts some.0 some.1).fulls, counts, r.1, r.2);
-    }
+items-returns t c = record {
+  room = c.loop-rest.invariant.0;
+  slots = c.loop-rest.invariant.1;
+  counts = c.loop-rest.invariant.2;
+  other = c.loop-rest.invariant.4;
+  goes = λ h G st ke.
+      let r = c.loop-rest.invariant.5 h G st ke in
+      let f = all-gone c.requires.0 c.requires.1 G st _ r.0 c.loop-rest-test.false c.requires.2 in (f.0, f.1, r.1, r.2);
+}
