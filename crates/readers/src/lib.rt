@@ -23,7 +23,13 @@ fn lend_line(words: &[u64], rules: &[u8], place: usize, out: &mut [u8]) -> Resul
 }
 
 // The line at a place, from 1, of the day sheet for this reader; no bytes at any other place.
-pub fn line(tables: &[u8], reader: u64, rules: &[u8], place: usize, out: &mut [u8]) -> Result<usize, Refusal>
+pub fn line(
+    tables: &[u8],
+    reader: u64,
+    rules: &[u8],
+    place: usize,
+    out: &mut [u8],
+) -> Result<usize, Refusal>
     ensures { Answers (lent (length out.old) (reader_line tables.now reader rules.now place)) out.old out.new result }
 {
     let mut words = [0u64; WHOLE];
