@@ -8,9 +8,9 @@ ghost use Rattle.tables.specs.Accepted.{Fits, Bounded};
 ghost use Rattle.tables.specs.Flat.{flat};
 
 use crate::hierarchy::{RankStep, first_failing};
+use crate::layout;
 use crate::layout::part;
 use crate::twins::apart;
-use crate::layout;
 use answers::Refusal;
 use words::{all, image, item, join, less, lowest, preimage, row};
 
