@@ -11,15 +11,23 @@ use answers::Refusal;
 use changes::Change;
 use pages::Refused;
 
+// The tracker's number of what judging a page said; what refuses without a position has 0.
+fn page_number(judged: Result<usize, Refused>) -> u32
+    requires { page_reply_of judged < 4294967296 }
+    ensures { result ≡ page_reply_of judged }
+{
+    match judged {
+        Ok(l) => l as u32,
+        Err(Refused { refusal, position }) => 65536 * u32::from(refusal) + position as u32,
+    }
+}
+
 // The tracker's number of what was written.
 fn number(written: Result<usize, Refusal>) -> u32
     requires { reply_of written < 4294967296 }
     ensures { result ≡ reply_of written }
 {
-    match written {
-        Ok(l) => l as u32,
-        Err(r) => 65536 * u32::from(r),
-    }
+    page_number(written.map_err(Refused::from))
 }
 
 // Rule to formula.
@@ -41,17 +49,6 @@ pub fn judge(tables: &[u8], rule: &[u8], order: &[u8], out: &mut [u8]) -> u32
     ensures { Judges tables.now rule.now order.now out.old out.new result }
 {
     number(verdicts::judge(tables, rule, order, out))
-}
-
-// The tracker's number of what judging a page said.
-fn page_number(judged: Result<usize, Refused>) -> u32
-    requires { page_reply_of judged < 4294967296 }
-    ensures { result ≡ page_reply_of judged }
-{
-    match judged {
-        Ok(l) => l as u32,
-        Err(Refused { refusal, position }) => 65536 * u32::from(refusal) + position as u32,
-    }
 }
 
 // The verdict on a page of rules, and on each of its lines in the order 1, 2, ..

@@ -94,9 +94,6 @@ module _ (b : Bytes) {T : Tables} {n : ℕ} (q : sections b ≡ took T (drop n b
 
 -- The sections end in one way only: a refusal, bytes left over, or nothing behind them.
 module _ (b : Bytes) {T : Tables} (q : sections b ≡ took T []) where
-  pub read-stopped : {e : Refusal} {A : Type 0} → sections b ≡ stop e → A
-  read-stopped p = let z : ◌≡◌ {A = ℕ} 0 1 = cc in absurd (omega arith)
-
   pub read_left : {S : Tables} {n : ℕ} {A : Type 0} → sections b ≡ took S (drop n b) → n < length b → A
   read_left {n = n} p l = let z : drop n b ≡ [] = cc in absurd (omega (arith, ap length z, length-drop n b))
 

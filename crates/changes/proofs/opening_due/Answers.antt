@@ -17,9 +17,6 @@ bounds-t-1 c = omega (arith, (counts_of c.requires.holds).long)
 pub returns-then-t-user : goal.returns-then-t-user
 returns-then-t-user c = due-user _ _ c.if-t.false c.if-t-user.true
 
-pub bounds-t-0 : goal.bounds-t-0
-bounds-t-0 c = omega (arith, (counts_of c.requires.holds).long)
-
 pub outside-requires : goal.outside-requires
 outside-requires c =
     let k = counts_of c.requires.holds in

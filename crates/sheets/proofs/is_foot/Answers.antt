@@ -4,8 +4,5 @@ use mathlib.Core.Path.{◌∙◌}
 use Rattle.sheets.proofs.SheetLaws.{first-foot, next-foot}
 use Rattle.sheets.proofs.is_foot.Goals as goal
 
-pub returns-then-place-eq1 : goal.returns-then-place-eq1
-returns-then-place-eq1 c = first-foot _ _ c.requires c.if-place-eq1.true
-
 pub returns : goal.returns
 returns c = c.is_some.ensures ∙ next-foot _ _ c.requires c.line.ensures c.if-place-eq1.false

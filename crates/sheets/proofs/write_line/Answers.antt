@@ -5,9 +5,8 @@ use Rattle.sheets.proofs.JudgedLaws.{rejected-made, taken_made}
 use borrow.Author.Rules.{rules}
 use Rattle.sheets.proofs.write_line.Goals as goal
 
-pub judged_line-requires : goal.judged_line-requires
-judged_line-requires c =
-    record { loaded = took-loaded (read-taken c.args.tables.now c.read.ensures c.in-Ok.is); line_room_in_bounds = search rules }
+pub judged_line-requires-clause-loaded : goal.judged_line-requires-clause-loaded
+judged_line-requires-clause-loaded c = took-loaded (read-taken c.args.tables.now c.read.ensures c.in-Ok.is)
 
 pub returns-in-Err : goal.returns-in-Err
 returns-in-Err c = rejected-made _ _ _ c.read.ensures c.in-Err.is c.refused_tables.ensures

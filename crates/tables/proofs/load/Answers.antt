@@ -5,19 +5,23 @@ use Rattle.std.proofs.lemmas.Result.{err_from_is_err_and}
 use Rattle.tables.specs.Flat.{flat}
 use Rattle.tables.proofs.ReadLaws.{as-took, as-stop}
 use Rattle.tables.proofs.PartLaws.{counts-fit}
-use Rattle.tables.proofs.LoadLaws.{load-stop, load-left, late-outcome, late-taken, whole_of, on-ok, read-stopped, read_left, read-once}
+use Rattle.tables.proofs.LoadLaws.{load-stop, load-left, late-outcome, late-taken, whole_of, on-ok, read_left, read-once}
 use Rattle.tables.proofs.load.Goals as goal
 
-pub returns-in_err-next : goal.returns-in_err-next
-returns-in_err-next c =
-    let stops = as-stop c.in_err-next.ensures in
+pub returns-in_err-next-clause-value : goal.returns-in_err-next-clause-value
+returns-in_err-next-clause-value c =
     let p = err_from_is_err_and c.from_residual.result c.from_residual.ensures.1 in
-    record { value = rw (p.1, p.2, load-stop c.args.bytes.now stops); words_after = rw p.1 tt; words_after_2 = λ T q. read-stopped c.args.bytes.now q stops }
+    rw (p.1, p.2, load-stop c.args.bytes.now (as-stop c.in_err-next.ensures))
 
-pub returns-then-next-bytes : goal.returns-then-next-bytes
-returns-then-next-bytes c =
+pub returns-then-next-bytes-clause-value : goal.returns-then-next-bytes-clause-value
+returns-then-next-bytes-clause-value c =
     let w = whole_of c.requires (as-took c.in_ok-next.ensures) in
-    record { value = rw (load-left c.args.bytes.now w.reads c.if-next-bytes.true); words_after = tt; words_after_2 = λ T q. read_left c.args.bytes.now q w.reads c.if-next-bytes.true }
+    rw (load-left c.args.bytes.now w.reads c.if-next-bytes.true)
+
+pub returns-then-next-bytes-clause-words_after_2 : goal.returns-then-next-bytes-clause-words_after_2
+returns-then-next-bytes-clause-words_after_2 c =
+    let w = whole_of c.requires (as-took c.in_ok-next.ensures) in
+    λ T q. read_left c.args.bytes.now q w.reads c.if-next-bytes.true
 
 pub checked-requires : goal.checked-requires
 checked-requires c =

@@ -8,14 +8,8 @@ use Rattle.texts.proofs.+digits.Goals as goal
 pub returns-then-left-eq0 : goal.returns-then-left-eq0
 returns-then-left-eq0 t c = digits-none _ _ _ c.if-left-eq0.true
 
-pub bounds-out-0 : goal.bounds-out-0
-bounds-out-0 t c = omega (arith, c.requires)
-
 pub returns-then-n-lt10 : goal.returns-then-n-lt10
 returns-then-n-lt10 t c = rw c.digit.ensures (digits-one _ _ _ c.if-left-eq0.false c.if-n-lt10.true c.requires)
-
-pub digits-k-requires : goal.digits-k-requires
-digits-k-requires t c = (omega (arith, c.decreases), omega (arith, c.requires))
 
 pub bounds-out-k : goal.bounds-out-k
 bounds-out-k t c =

@@ -14,10 +14,6 @@ returns-then-first-k t c = none_left _ _ _ c.if-first-k.true
 pub returns-then-x : goal.returns-then-x
 returns-then-x t c = none-chosen _ _ _ c.if-first-k.false c.if-x.true
 
-pub choice-n-requires : goal.choice-n-requires
-choice-n-requires t c =
-    omega (arith, c.requires.0, c.requires.1, c.if-first-k.false)
-
 pub choices-m-requires : goal.choices-m-requires
 choices-m-requires t c = (
   omega (arith, c.decreases, c.if-first-k.false),

@@ -14,7 +14,3 @@ pub choices-m-requires : goal.choices-m-requires
 choices-m-requires c =
     let l : length c.args.v.first ≡ 8 = search rules in
     (omega arith, rest-room (43 * (length c.args.v.first - 0)) c.shared-n.ensures (omega (arith, c.requires, shared-short (ascii " broken ") c.args.v)))
-
-pub returns : goal.returns
-returns c =
-    written-rest c.shared-n.ensures c.choices-m.ensures

@@ -8,7 +8,3 @@ use Rattle.sheets.proofs.text.line_of.Goals as goal
 pub says-m-requires : goal.says-m-requires
 says-m-requires c =
     rest-room 480 c.decimal-n.ensures (omega (arith, c.requires, digits-short 20 c.args.place))
-
-pub returns : goal.returns
-returns c =
-    written-rest c.decimal-n.ensures c.says-m.ensures

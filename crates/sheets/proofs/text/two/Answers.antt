@@ -10,7 +10,3 @@ use Rattle.sheets.proofs.text.two.Goals as goal
 pub labelled-m-requires : goal.labelled-m-requires
 labelled-m-requires c =
     rest-room (length c.args.sign.now + 20) c.labelled-n.ensures (omega (arith, c.requires, labelled-short c.args.word.now c.args.x))
-
-pub returns : goal.returns
-returns c =
-    written-rest c.labelled-n.ensures c.labelled-m.ensures
