@@ -34,7 +34,7 @@
  *   RCL2000_STACK_SHEET_LINE bytes, whatever the input. (Measured and tested, not proved.)
  * - Threads. Nothing is kept between calls or shared: any number of threads may call at once. A state is bytes that the
  *   caller keeps.
- * - Names. The archive defines the ten names below and no other, and needs memcpy and memset. A program with a
+ * - Names. The archive defines the ten names below and no other, and needs memcpy, memmove and memset. A program with a
  *   function of its own called reduce, rebuild, judge, judge_page, rank_step, forecast, sessions_start, session_open,
  *   session_close or sheet_line cannot link it.
  * - Machine. x86-64 Linux.

@@ -19,7 +19,7 @@ pub fn is_named(line: &[u8], name: &[u8]) -> bool {
     let Some(first) = texts::field(line, 0) else {
         return false;
     };
-    &line[first] == name
+    &line[first.start..first.end] == name
 }
 
 // Whether the line begins with this name and has no more than this many fields.
@@ -38,9 +38,10 @@ pub fn room() -> [u8; 40000]
 // The bytes that field k stands for, in the lent room.
 pub fn read_bytes<'a>(line: &[u8], k: usize, room: &'a mut [u8]) -> Option<&'a [u8]>
     requires { length line.now ≤ 2 * length room.old }
+    ensures { IfSome result (λ b. length b.now ≤ length room.old) }
 {
     let field = texts::field(line, k)?;
-    let n = protocol::read_bytes(&line[field], room)?;
+    let n = protocol::read_bytes(&line[field.start..field.end], room)?;
     Some(&room[..n])
 }
 
@@ -50,7 +51,7 @@ pub fn read_number(line: &[u8], k: usize, most: usize) -> Option<usize>
     ensures { IfSome result (λ n. n ≤ most) }
 {
     let field = texts::field(line, k)?;
-    protocol::read_number(&line[field], most)
+    protocol::read_number(&line[field.start..field.end], most)
 }
 
 // The length of an output.
@@ -63,7 +64,7 @@ pub fn read_length(line: &[u8], k: usize) -> Option<usize>
 // The word of field k.
 pub fn read_word(line: &[u8], k: usize) -> Option<u64> {
     let field = texts::field(line, k)?;
-    word_of(&line[field])
+    word_of(&line[field.start..field.end])
 }
 
 // The word of 8 bytes, lowest first.

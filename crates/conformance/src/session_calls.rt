@@ -41,7 +41,7 @@ fn change(text: &[u8]) -> Option<Change> {
 // What field k of the line asks for.
 pub fn change_in(line: &[u8], k: usize) -> Option<Change> {
     let field = texts::field(line, k)?;
-    change(&line[field])
+    change(&line[field.start..field.end])
 }
 
 // Whether every field behind the rule asks for a call. A line has no more fields than bytes, and one.
@@ -50,7 +50,7 @@ pub fn well_formed(line: &[u8]) -> bool {
         let Some(field) = texts::field(line, k) else {
             return true;
         };
-        if change(&line[field]).is_none() {
+        if change(&line[field.start..field.end]).is_none() {
             return false;
         }
     }

@@ -96,8 +96,8 @@ module _ {ts plan : List ℕ} {y : Layout} {T : Tables} {ρ : Rule} (P : Planned
 -- ---- along the caller's order
 
 -- A plan was laid and its first level entered; so many slots are zeros.
-pub stands-first : (many : ℕ) {w : Walk} {e mode : ℕ} {plan cache cache' : List ℕ} → Lays w.t.now w.parsed.now w.order.now e plan
-    → EntersTo w.t.now plan 0 no_choice cache cache' mode → length cache ≡ plan_room → Stands w e 0 mode no_choice (record { plan = plan; cache = cache' }) (replicate many 0)
+pub stands-first : (many : ℕ) {ts : List ℕ} {w : Walk} {e mode : ℕ} {plan cache cache' : List ℕ} → Lays ts w.parsed.now w.order.now e plan
+    → EntersTo ts plan 0 no_choice cache cache' mode → length cache ≡ plan_room → Stands ts w e 0 mode no_choice (record { plan = plan; cache = cache' }) (replicate many 0)
 stands-first many L E room = record {
   small = E.modes;
   long = L.long;
@@ -190,14 +190,14 @@ module _ {ts plan : List ℕ} {T : Tables} {ρ : Rule} {order : List ℕ} (once 
           (λ z. ap (λ (v : ℕ). in_set T (rule_vars [] ρ) v (choice_of choice) z) (sym (same-variable d l A)) ∙ set-in P choice d lo R.stored z) D x least-found.0)
 
 -- Where all stands for a sound walk, it can be counted.
-module _ {w : Walk} (S : Sound w) {e d mode choice : ℕ} {g : Guide} {kept : List ℕ} (s : Stands w e d mode choice g kept) where
-  own-ready : Ready w.t.now g.plan S.lent.lent.tables S.lent.lent.rule w.order.now e d mode choice g.cache kept
+module _ {ts : List ℕ} {w : Walk} (S : Sound ts w) {e d mode choice : ℕ} {g : Guide} {kept : List ℕ} (s : Stands ts w e d mode choice g kept) where
+  own-ready : Ready ts g.plan S.lent.lent.tables S.lent.lent.rule w.order.now e d mode choice g.cache kept
   own-ready = s.ready S.lent.lent.tables S.lent.lent.rule S.lent.lent.is_case
 
   pub runs-in : Runs g.plan
   runs-in = plan-runs own-ready.along.planned
 
-  pub standing-in : (left : ℕ) → left + d ≡ length w.order.now → Standing w.t.now g.plan mode left choice g.cache kept
+  pub standing-in : (left : ℕ) → left + d ≡ length w.order.now → Standing ts g.plan mode left choice g.cache kept
   standing-in left all = standing-at (once-in S S.lent.lent.is_case) (after-in S S.lent.lent.is_case) left own-ready all s.small s.room
 
 -- ---- the tally
@@ -237,20 +237,20 @@ module _ {ts plan : List ℕ} {T : Tables} {ρ : Rule} {order : List ℕ} (once 
       A.planned.after (drop levels_from plan) A.planned.levelled (choice_of no_choice) C m (length order) (choice_of r) (omega arith) h))
 
 -- A sound walk was counted: all stands as before, and the counts are the tally's, with the first breaking choice where something breaks.
-module _ {w : Walk} (S : Sound w) {mode : ℕ} {g : Guide} {kept cache kept' : List ℕ} {full breaking : ℕ} (s : Stands w 0 0 mode no_choice g kept)
-    (N : Counts w.t.now g.plan mode (length w.order.now) no_choice g.cache kept cache kept' full breaking) where
-  module _ {T : Tables} {ρ : Rule} (C : CaseBy w.t.now w.parsed.now T ρ) where
-    R : Ready w.t.now g.plan T ρ w.order.now 0 0 mode no_choice g.cache kept
+module _ {ts : List ℕ} {w : Walk} (S : Sound ts w) {mode : ℕ} {g : Guide} {kept cache kept' : List ℕ} {full breaking : ℕ} (s : Stands ts w 0 0 mode no_choice g kept)
+    (N : Counts ts g.plan mode (length w.order.now) no_choice g.cache kept cache kept' full breaking) where
+  module _ {T : Tables} {ρ : Rule} (C : CaseBy ts w.parsed.now T ρ) where
+    R : Ready ts g.plan T ρ w.order.now 0 0 mode no_choice g.cache kept
     R = s.ready T ρ C
 
     all : length w.order.now + 0 ≡ length w.order.now
     all = omega arith
 
-    found : CountedAt g.plan R.along.layout T ρ mode 0 no_choice full breaking × Caches w.t.now R.along.layout no_choice cache 1 × Keeps g.plan R.along.layout T ρ kept'
+    found : CountedAt g.plan R.along.layout T ρ mode 0 no_choice full breaking × Caches ts R.along.layout no_choice cache 1 × Keeps g.plan R.along.layout T ρ kept'
     found =
         rw (depth_is (once-in S C) (after-in S C) (length w.order.now) R all) at (N.goes R.along.layout T ρ R.along.planned (stored_at (once-in S C) (after-in S C) (length w.order.now) R all) R.keeps)
 
-  pub stands-counted : Stands w 0 0 mode no_choice (record { plan = g.plan; cache = cache }) kept'
+  pub stands-counted : Stands ts w 0 0 mode no_choice (record { plan = g.plan; cache = cache }) kept'
   stands-counted = record {
     small = s.small;
     long = s.long;
@@ -258,11 +258,11 @@ module _ {w : Walk} (S : Sound w) {mode : ℕ} {g : Guide} {kept cache kept' : L
     ready = λ T ρ C. record { along = (R C).along; stored = (found C).1; keeps = (found C).2; modes = (R C).modes };
   }
 
-  pub counted-none : breaking ≡ 0 → WalksBy w.t.now w.parsed.now w.order.now (record { full = full; breaking = 0; first = nothing_chosen })
+  pub counted-none : breaking ≡ 0 → WalksBy ts w.parsed.now w.order.now (record { full = full; breaking = 0; first = nothing_chosen })
   counted-none z T ρ C = walks-none (once-in S C) (after-in S C) (R C).along (found C).0 (R C).modes z
 
-  pub counted-some : 0 < breaking → (r : ℕ) → Descends w (length w.order.now) r → (first : List ℕ) → first ≡ choice_of r
-      → WalksBy w.t.now w.parsed.now w.order.now (record { full = full; breaking = breaking; first = first })
+  pub counted-some : 0 < breaking → (r : ℕ) → Descends ts w (length w.order.now) r → (first : List ℕ) → first ≡ choice_of r
+      → WalksBy ts w.parsed.now w.order.now (record { full = full; breaking = breaking; first = first })
   counted-some l r D first q T ρ C =
       let o = once-in S C in
       let a = after-in S C in

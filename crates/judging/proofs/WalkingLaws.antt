@@ -130,7 +130,7 @@ module _ {ts : List ℕ} {p : Parsed} (L : LentBy ts p) where
     }
 
 -- So a sound walk's order is for its rule.
-module _ {w : Walk} (S : Sound w) {T : Tables} {ρ : Rule} (C : CaseBy w.t.now w.parsed.now T ρ) where
+module _ {ts : List ℕ} {w : Walk} (S : Sound ts w) {T : Tables} {ρ : Rule} (C : CaseBy ts w.parsed.now T ρ) where
   pub once-in : Once (length (rule_vars [] ρ)) w.order.now
   once-in = once-for S.lent S.ordered C
 

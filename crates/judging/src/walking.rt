@@ -34,10 +34,9 @@ fn lay_along(parsed: &Parsed, order: &[u8], plan: &mut [u64])
     );
 }
 
-// What is walked: the tables, the parsed rule and the caller's order.
+// What is walked: the parsed rule and the caller's order. The tables stand beside it: in a struct the compiler would not see how long they are.
 #[derive(Clone, Copy)]
 struct Walk<'a> {
-    t: &'a [u64],
     parsed: &'a Parsed,
     order: &'a [u8],
 }
@@ -51,13 +50,13 @@ struct Guide {
 
 impl Walk<'_> {
     // Lays the plan along an order of our own that begins with the first `begun` variables of the caller's, where one was found, or along the caller's.
-    fn lay(&self, begun: usize, plan: &mut [u64])
-        requires { Sound self.now × (begun ≤ length self.now.order.now) × (length plan.old ≡ plan_length) }
-        ensures { Lays self.now.t.now self.now.parsed.now self.now.order.now begun plan.new }
+    fn lay(&self, t: &[u64], begun: usize, plan: &mut [u64])
+        requires { Sound t.now self.now × (begun ≤ length self.now.order.now) × (length plan.old ≡ plan_length) }
+        ensures { Lays t.now self.now.parsed.now self.now.order.now begun plan.new }
     {
         let parsed = self.parsed;
         let vars = &parsed.vars[..parsed.count];
-        let found = orders::own(self.t, &plan[..], self.order, begun);
+        let found = orders::own(t, &plan[..], self.order, begun);
         let own = &found[..vars.len()];
         let names = values::names::names(&parsed.nodes, parsed.n, vars);
         if walks::ordered(&names, own, vars.len()) && walks::begins_alike(own, self.order, begun) {
@@ -78,18 +77,17 @@ pub fn lay_first(t: &[u64], parsed: Parsed, order: &[u8], plan: &mut [u64]) -> u
     let many = ceiling(t, &parsed.kinds, &parsed.vars[..parsed.count]);
     if orders::SEARCHED_FROM <= many && orders::worth(t, &plan[..], order) {
         let walk = Walk {
-            t,
             parsed: &parsed,
             order,
         };
-        walk.lay(0, plan);
+        walk.lay(t, 0, plan);
     }
     many
 }
 
 // Where the descent is: the first variables of the caller's order have their items, and the mode goes with them.
 #[derive(Clone, Copy)]
-struct Place {
+pub struct Place {
     depth: usize,
     choice: u64,
     mode: usize,
@@ -97,23 +95,23 @@ struct Place {
 
 impl Guide {
     // The plan goes on with the caller's next variable: the one at hand, or another, by which nothing is kept yet. The mode along it.
-    fn turn(&mut self, walk: &Walk<'_>, place: Place, kept: &mut [u64]) -> usize
-        requires { Sound walk.now × (place.depth < length walk.now.order.now) × Stands walk.now place.depth place.depth place.mode place.choice self.old kept.old }
-        ensures { Stands walk.now (place.depth + 1) place.depth result place.choice self.new kept.new }
+    fn turn(&mut self, t: &[u64], walk: &Walk<'_>, place: Place, kept: &mut [u64]) -> usize
+        requires { Sound t.now walk.now × (place.depth < length walk.now.order.now) × Stands t.now walk.now place.depth place.depth place.mode place.choice self.old kept.old }
+        ensures { Stands t.now walk.now (place.depth + 1) place.depth result place.choice self.new kept.new }
     {
         let d = place.depth;
         if self.plan[ORDER + d] == walk.order[d] as u64 {
             return place.mode;
         }
-        walk.lay(d + 1, &mut self.plan);
+        walk.lay(t, d + 1, &mut self.plan);
         kept::clear(kept);
-        entered(walk.t, &self.plan, d, place.choice, &mut self.cache)
+        entered(t, &self.plan, d, place.choice, &mut self.cache)
     }
 
     // The first breaking choice, variable by variable along the caller's order: the least item below which something breaks.
-    fn descend(&mut self, walk: &Walk<'_>, mode: usize, kept: &mut [u64]) -> u64
-        requires { Sound walk.now × Stands walk.now 0 0 mode no_choice self.old kept.old }
-        ensures { Descends walk.now (length walk.now.order.now) result }
+    fn descend(&mut self, t: &[u64], walk: &Walk<'_>, mode: usize, kept: &mut [u64]) -> u64
+        requires { Sound t.now walk.now × Stands t.now walk.now 0 0 mode no_choice self.old kept.old }
+        ensures { Descends t.now walk.now (length walk.now.order.now) result }
     {
         let order = walk.order;
         let mut choice = kept::NOTHING;
@@ -124,9 +122,9 @@ impl Guide {
                 choice,
                 mode: at,
             };
-            let here = self.turn(walk, place, kept);
+            let here = self.turn(t, walk, place, kept);
             let x = least(
-                walk.t,
+                t,
                 &self.plan,
                 here,
                 order.len() - depth,
@@ -135,18 +133,18 @@ impl Guide {
                 kept,
             );
             choice = kept::put(choice, v as usize, x);
-            at = enter(walk.t, &self.plan, here, depth + 1, choice, &mut self.cache);
+            at = enter(t, &self.plan, here, depth + 1, choice, &mut self.cache);
         }
         choice
     }
 
     // The counts below nothing chosen, and the first breaking choice.
-    fn counted(&mut self, walk: &Walk<'_>, mode: usize, kept: &mut [u64]) -> Tally
-        requires { Sound walk.now × Stands walk.now 0 0 mode no_choice self.old kept.old }
-        ensures { WalksBy walk.now.t.now walk.now.parsed.now walk.now.order.now result }
+    fn counted(&mut self, t: &[u64], walk: &Walk<'_>, mode: usize, kept: &mut [u64]) -> Tally
+        requires { Sound t.now walk.now × Stands t.now walk.now 0 0 mode no_choice self.old kept.old }
+        ensures { WalksBy t.now walk.now.parsed.now walk.now.order.now result }
     {
         let sum = below(
-            walk.t,
+            t,
             &self.plan,
             mode,
             walk.order.len(),
@@ -161,7 +159,7 @@ impl Guide {
                 first: [255u8; 8],
             };
         }
-        let first = kept::bytes(self.descend(walk, mode, kept));
+        let first = kept::bytes(self.descend(t, walk, mode, kept));
         Tally {
             full: sum.full,
             breaking: sum.breaking,
@@ -193,16 +191,15 @@ pub fn whole(t: &[u64], parsed: Parsed, order: &[u8]) -> Tally
         };
     }
     let walk = Walk {
-        t,
         parsed: &parsed,
         order,
     };
     if many < FEW {
         let mut few = [0u64; kept::FEW_ROOM];
-        return guide.counted(&walk, mode, &mut few);
+        return guide.counted(t, &walk, mode, &mut few);
     }
     let mut kept = [0u64; kept::ROOM];
-    guide.counted(&walk, mode, &mut kept)
+    guide.counted(t, &walk, mode, &mut kept)
 }
 
 // The tally of a rule whose counts are known already.
@@ -224,12 +221,11 @@ pub fn known(t: &[u64], parsed: Parsed, order: &[u8], full: u64, breaking: u64) 
     lay_first(t, parsed, order, &mut guide.plan);
     let mode = entered(t, &guide.plan, 0, kept::NOTHING, &mut guide.cache);
     let walk = Walk {
-        t,
         parsed: &parsed,
         order,
     };
     let mut kept = [0u64; kept::ROOM];
-    let first = kept::bytes(guide.descend(&walk, mode, &mut kept));
+    let first = kept::bytes(guide.descend(t, &walk, mode, &mut kept));
     Tally {
         full,
         breaking,

@@ -10,7 +10,7 @@ use Rattle.syntax.specs.Bytes.{Bytes}
 use Rattle.texts.specs.Pieces.{split, lines}
 use Rattle.texts.specs.Code.Spans.{Spans, Sought}
 use Rattle.std.specs.Prelude.{Some, None}
-use Rattle.std.specs.declared.ops.Range.{Range}
+use Rattle.texts.specs.declared.Span.{Span}
 use Rattle.texts.proofs.SpansLaws.{next-line, lies, missing}
 use Rattle.pages.specs.Code.Parts.{line_at, Counted, Counting}
 
@@ -26,7 +26,7 @@ at_some (x ∷ ws) zero d h = refl
 at_some (x ∷ ws) (suc k) d h = at_some ws k d (omega arith)
 
 module _ (page : Bytes) (k : ℕ) where
-  pub line-is : {p : Range ℕ} → Spans page (get_elem? (lines page) k) (Some p) → line_at page k ≡ take (p.end - p.start) (drop p.start page)
+  pub line-is : {p : Span} → Spans page (get_elem? (lines page) k) (Some p) → line_at page k ≡ take (p.end - p.start) (drop p.start page)
   line-is s = some_at (lines page) k [] (lies s).bytes
 
   pub line-there : {A : Type 0} → Spans page (get_elem? (lines page) k) None → k < length (lines page) → A

@@ -46,7 +46,7 @@ fn part_at(page: &[u8], k: usize, out: &mut [u8]) -> Result<usize, Refusal>
     let Some(line) = texts::line(page, k) else {
         return Err(Refusal::NotARule);
     };
-    part_of(&page[line], out)
+    part_of(&page[line.start..line.end], out)
 }
 
 // Puts a short part in slot k.

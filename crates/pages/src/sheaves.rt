@@ -78,7 +78,7 @@ fn gather(
         let Some(line) = texts::line(page, j) else {
             return Gathered { size, lines };
         };
-        let Some(more) = gathering::add(&page[line], nodes, list, vars, size) else {
+        let Some(more) = gathering::add(&page[line.start..line.end], nodes, list, vars, size) else {
             return Gathered { size, lines };
         };
         size = more;

@@ -44,7 +44,13 @@ pub fn tallied(
             return;
         };
         let shared = words::contains(known, k);
-        let judged = verdict(words, &page[line], shared, fulls[k], breakings[k]);
+        let judged = verdict(
+            words,
+            &page[line.start..line.end],
+            shared,
+            fulls[k],
+            breakings[k],
+        );
         fulls[k] = judged.full;
         breakings[k] = judged.breaking;
         let first = judged.first;

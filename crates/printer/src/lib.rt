@@ -2,8 +2,8 @@
 // Each goes on behind what the sheet has; what has no room is left out.
 #![tactic(auto)]
 
-mod names;
-mod nodes;
+pub mod names;
+pub mod nodes;
 pub mod rules;
-mod sheet;
-mod terms;
+pub mod sheet;
+pub mod terms;

@@ -20,6 +20,16 @@ impl<'a> Sheet<'a> {
         Sheet { out, end: 0 }
     }
 
+    // Goes on behind the first `end` bytes.
+    pub fn behind(out: &'a mut [u8], end: usize) -> Sheet<'a>
+        requires { end ≤ length out.old }
+        ensures same { result.out.ghost_name ≡ out.entry.ghost_name }
+        ensures bytes { result.out.now ≡ out.old }
+        ensures end { result.end ≡ end }
+    {
+        Sheet { out, end }
+    }
+
     pub fn end(&self) -> usize
         ensures { result ≡ self.now.end }
     {

@@ -11,7 +11,7 @@ use borrow.Author.Tests.{lt-ltb, le-ltb, le-leb, lt-leb, eq-eqb, ne_eqb}
 use lib.ListN.{length, take, drop, get_or, set, drop_of_length-le}
 use lib.Seq.{take-suc, take_all, drop-cons}
 use Rattle.texts.specs.Code.Overwritten.{Overwritten}
-use Rattle.texts.proofs.OverwrittenLaws.{none_written, written_byte}
+use Rattle.texts.proofs.OverwrittenLaws.{none_written, written_byte, written-length}
 use Rattle.std.specs.Prelude.{Option as Maybe, Some, None}
 use Rattle.protocol.specs.Hex.{hex_digit, hex_value, hex_of, field_of, onto, pairs, from_hex}
 use Rattle.protocol.specs.Code.Taken.{Bytes, no_bytes, some_bytes, Digit}
@@ -163,3 +163,8 @@ pub hex-written : (b : List ℕ) {old new : List ℕ} {n : ℕ} → (length b �
 unfolding field_of
 hex-written [] h w = absurd (h refl)
 hex-written (x ∷ b) h w = w
+
+-- The bytes of a field that was read are the first n of those lent.
+pub bytes-within : {b : Option (List ℕ)} {old new : List ℕ} {r : Maybe ℕ} {n : ℕ} → Bytes b old new r → r ≡ Some n → n ≤ length new
+bytes-within (no_bytes e) q = let z : ◌≡◌ {A = ℕ} 0 1 = cc in absurd (omega arith)
+bytes-within {n = n} (some_bytes {n = m} e w) q = let x : m ≡ n = cc in omega (arith, w.count, w.fits, written-length w)

@@ -2,18 +2,19 @@
 -- Assumes nothing.
 use mathlib.Core.Path.{◌≡◌, ap, sym, ◌∙◌}
 use mathlib.Core.Bool.{Bool, true, false}
-use mathlib.Core.List.{List}
+use mathlib.Core.List.{List, []}
 use mathlib.Core.Option.{none, some}
 use Prim.Native.Nat.{ℕ, ◌<◌, ◌≤◌}
 use native.Mathlib.Omega.{arith}
-use lib.ListN.{length, take}
+use lib.ListN.{length, take, length-take}
 use lib.Seq.{get_or-take, length-take-le}
 use Rattle.answers.specs.declared.Refusal.{Refusal}
 use Rattle.answers.specs.declared.Refusal.TheVariants.{KindMismatch, Choices}
 use Rattle.syntax.specs.Bytes.{Bytes}
-use Rattle.syntax.specs.Rule.{Rule, formula, rule_of}
-use Rattle.syntax.specs.Code.Arena.{HoldsRule}
+use Rattle.syntax.specs.Rule.{Rule, rule_vars, formula, rule_of}
+use Rattle.syntax.specs.Code.Arena.{HoldsRule, Tidy}
 use Rattle.syntax.specs.Code.Reading.{Rooted}
+use Rattle.syntax.proofs.NameLaws.{all-length}
 use Rattle.answers.specs.Outcome.{Outcome, passes}
 use Rattle.std.specs.declared.result.Result.{Result}
 use Rattle.std.specs.declared.result.Result.TheVariants.{Ok, Err}
@@ -93,6 +94,17 @@ as-rejected (found e a) q = let z : ◌≡◌ {A = ℕ} 0 1 = cc in absurd (omeg
 pub as-found : {s ns ks vs : List ℕ} {f : Result Tree Refusal} {t : Tree} → Finds s ns ks vs f → f ≡ Ok t → (refusal s ≡ none) × RuleAt s ns t.n t.root ks vs t.count
 as-found (rejected e) q = let z : ◌≡◌ {A = ℕ} 0 1 = cc in absurd (omega arith)
 as-found {t = t} (found {t = t'} e a) q = let g : t' ≡ t = cc in (e, rw g at a)
+
+-- The nodes of its variables are among those lent, and it may be measured.
+module _ {s ns ks vs : List ℕ} {f : Result Tree Refusal} {t : Tree} (p : Finds s ns ks vs f) (e : f ≡ Ok t) where
+  abbrev at : RuleAt s ns t.n t.root ks vs t.count
+  at = (as-found p e).1
+
+  pub found-few : t.count ≤ length vs
+  found-few = omega (arith, at.counted, all-length ns (take t.count vs) (rule_vars [] at.tree) at.knows.holds, length-take t.count vs)
+
+  pub found-tidy : Tidy ns t.n × (t.root < t.n)
+  found-tidy = (at.tidy, at.within)
 
 -- A parsed text.
 

@@ -34,7 +34,7 @@ pub fn put_current(words: &[u64], parsed: Parsed, out: &mut [u8]) -> usize
     ensures puts_current { (rule : Bytes) → ParsedFrom rule parsed → PutsCurrent words.now rule out.old out.new result }
     ensures value { result ≡ 26 }
 {
-    let verdict = verdicts::parsed_in_turn(words, parsed);
+    let verdict = verdicts::parsed_in_turn(words, Ok(parsed));
     let outcome = verdict.outcome;
     sheet::write(sheet::word_of(outcome), verdict, out)
 }

@@ -17,7 +17,7 @@ use Rattle.tables.specs.Tables.{Tables}
 use Rattle.tables.specs.Reading.{tables_of, loaded_of}
 use Rattle.texts.specs.Code.Overwritten.{Overwritten}
 use Rattle.std.specs.Prelude.{Some, None}
-use Rattle.std.specs.declared.ops.Range.{Range}
+use Rattle.texts.specs.declared.Span.{Span}
 use Rattle.texts.specs.Pieces.{lines}
 use Rattle.texts.specs.Code.Spans.{Spans}
 use Rattle.texts.proofs.SpansLaws.{missing, lies}
@@ -54,7 +54,7 @@ module _ (T : Tables) (rules : Bytes) (place : ℕ) where
       let n : place ≡ length (lines rules) + 1 → ⊥ = eqb-false place (length (lines rules) + 1) (sym f ∙ not-true b l) in
       rw (le-leb (length rules) 32768 h, listed-none T (lines rules) place (omega (arith, n))) (none_written old)
 
-  pub found-made : {p : Range ℕ} {old new : List ℕ} {n : ℕ} → length rules ≤ 32768 → (place ≡ 0 → ⊥)
+  pub found-made : {p : Span} {old new : List ℕ} {n : ℕ} → length rules ≤ 32768 → (place ≡ 0 → ⊥)
       → Spans rules (get_elem? (lines rules) (place - 1)) (Some p)
       → Overwritten (line_text place (turn_verdict T (take (p.end - p.start) (drop p.start rules)))) old new n → Made old new n
   found-made h z f w = let l = lies f in rw (le-leb (length rules) 32768 h, listed-some T (lines rules) place _ z l.bytes) w

@@ -13,7 +13,7 @@ use lib.ListN.{length, get_elem?, length-append}
 use Rattle.syntax.specs.Bytes.{Bytes}
 use Rattle.tables.specs.Tables.{Tables}
 use Rattle.std.specs.Prelude.{Option as Maybe, is_some}
-use Rattle.std.specs.declared.ops.Range.{Range}
+use Rattle.texts.specs.declared.Span.{Span}
 use Rattle.texts.specs.Pieces.{lines}
 use Rattle.texts.specs.Code.Overwritten.{Overwritten}
 use Rattle.texts.specs.Code.Spans.{Spans, no_piece, piece}
@@ -113,6 +113,6 @@ module _ (rules : Bytes) (place : ℕ) (h : length (lines rules) < place) where
   pub first-foot : place ≡ 1 → true ≡ eqb place (length (lines rules) + 1)
   first-foot e = sym (eq-eqb place (length (lines rules) + 1) (omega arith))
 
-  pub next-foot : {p : Maybe (Range ℕ)} → Spans rules (get_elem? (lines rules) (place - 2)) p → (place ≡ 1 → ⊥) → is_some p ≡ eqb place (length (lines rules) + 1)
+  pub next-foot : {p : Maybe Span} → Spans rules (get_elem? (lines rules) (place - 2)) p → (place ≡ 1 → ⊥) → is_some p ≡ eqb place (length (lines rules) + 1)
   next-foot (piece a b w) one = sym (eq-eqb place (length (lines rules) + 1) (omega (arith, within (lines rules) (place - 2) w, one)))
   next-foot (no_piece n) one = sym (ne_eqb place (length (lines rules) + 1) (λ e. omega (arith, past (lines rules) (place - 2) n, one)))

@@ -13,6 +13,7 @@ use Rattle.tables.specs.Tables.{Tables}
 use Rattle.texts.specs.Pieces.{split, lines}
 use Rattle.texts.specs.Code.Overwritten.{Overwritten}
 use Rattle.texts.specs.Code.Spans.{Sought}
+use Rattle.texts.proofs.OverwrittenLaws.{written-length}
 use Rattle.texts.proofs.SpansLaws.{next-line}
 use Rattle.verdicts.specs.Verdict.{turn_verdict}
 use Rattle.verdicts.specs.Code.Judging.{TablesAt}
@@ -98,3 +99,7 @@ module _ {ts : List ℕ} {rules : Bytes} {at : ℕ} {t : Total} (s : SofarOn ts 
 
   pub total-last : Turns ts rules at t None
   total-last T H = simp length-append (omega (arith, judged-length 1 T (lines rules), ap (λ (x : Total). x.lines) (total-whole T H)))
+
+-- What a caller that goes from line to line needs: the line lies in the lent bytes.
+pub line-within : {w old new : List ℕ} {n : ℕ} → Overwritten w old new n → n ≤ length new
+line-within x = omega (arith, x.count, x.fits, written-length x)

@@ -83,7 +83,7 @@ pub fn judged_line(words: &[u64], rules: &[u8], place: usize, out: &mut [u8]) ->
     let Some(line) = texts::line(rules, place - 1) else {
         return foot(words, rules, place, out);
     };
-    rule_line(words, &rules[line], place, out)
+    rule_line(words, &rules[line.start..line.end], place, out)
 }
 
 // The total, straight behind the lines; nothing further.

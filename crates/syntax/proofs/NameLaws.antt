@@ -14,7 +14,7 @@ use lib.ListN.{length, get_or, drop, length-drop, length-append, drop_of_length-
 use lib.Seq.{drop-cons, drop-drop, drop-append_seam}
 use Rattle.std.specs.List.{list_all}
 use Rattle.std.specs.Prelude.{Option as Maybe, Some, None}
-use Rattle.syntax.specs.Bytes.{Bytes, Read, fail, got, skip, begins, is_got, either, scan}
+use Rattle.syntax.specs.Bytes.{Bytes, Read, fail, got, give, skip, begins, is_got, branch, either, scan}
 use Rattle.syntax.specs.Term.{Term, Choices, named_from, known}
 use Rattle.syntax.specs.Code.Arena.{Holds, HoldsAll}
 use Rattle.syntax.specs.Code.Reading.{Stands, Signed, Named, no_name, some_name, Choice, Chosen, no_choice, some_choice, Arena, Knows, entries, text_of, number_of, Spelt}
@@ -96,8 +96,60 @@ module _ {all : List (Bytes × ℕ)} {s : Bytes} {at : ℕ} {b : Bool} (names : 
       let q = table-cons names i d l in
       (past ((get_or names i d).0.now, (get_or names i d).1) (entries (drop (i + 1) names)) (rw q at f) h e, (spelt-cons ((get_or names i d).0.now, (get_or names i d).1) (entries (drop (i + 1) names)) (rw q at k)).1)
 
+-- The first byte of a name is another than that at the place.
+other : (p s : Bytes) (at : ℕ) → 1 ≤ length p → at < length s → (get_or p 0 0 ≡ get_or s at 0 → ⊥) → Stands s at p false
+unfolding begins skip
+other [] s at k l n = absurd (omega arith)
+other (x ∷ p) s at k l n = record { is = rw (drop-cons s at 0 l, ne_eqb x (get_or s at 0) n) }
+
+pub table-other : {all : List (Bytes × ℕ)} {s : Bytes} {at b : ℕ} (names : List (Bor Bytes × ℕ)) (i : ℕ) (d : Bor Bytes × ℕ) → From text_of all (entries (drop i names)) s at → Spelt (entries (drop i names)) → i < length names → at < length s → b ≡ get_or s at 0 → (get_or (get_or names i d).0.now 0 0 ≡ b → ⊥) → From text_of all (entries (drop (i + 1) names)) s at × Spelt (entries (drop (i + 1) names))
+table-other {s = s} {at = at} names i d f k l m e n =
+    let x : Bytes × ℕ = ((get_or names i d).0.now, (get_or names i d).1) in
+    table-past names i d f k l (other (get_or names i d).0.now s at (spelt-cons x (entries (drop (i + 1) names)) (rw (table-cons names i d l) at k)).0 m (λ q. n (q ∙ sym e))) refl
+
+-- No byte is at the place.
+skip-none : (p : Bytes) → 1 ≤ length p → skip p [] ≡ fail
+unfolding skip
+skip-none [] k = absurd (omega arith)
+skip-none (x ∷ p) k = refl
+
+spelt-none : (xs : List (Bytes × ℕ)) → Spelt xs → scan text_of xs [] ≡ fail
+unfolding scan either
+spelt-none [] h = refl
+spelt-none (x ∷ xs) h = let y = spelt-cons x xs h in rw (skip-none (text_of x) y.0) (spelt-none xs y.1)
+
+pub table-none : {s : Bytes} {at : ℕ} (names : List (Bor Bytes × ℕ)) → length s ≤ at → Spelt (entries names) → Named number_of s at None (scan text_of (entries names) (drop at s))
+table-none {s} names l k = no_name (rw (drop_of_length-le s l) (spelt-none (entries names) k))
+
 pub table-end : {all : List (Bytes × ℕ)} {s : Bytes} {at : ℕ} (i : ℕ) (names : List (Bor Bytes × ℕ)) → From text_of all (entries (drop i names)) s at → length names ≤ i → Named number_of s at None (scan text_of all (drop at s))
 table-end i names f l = nowhere (rw (drop_of_length-le names l) at f)
+
+-- A table behind another: a name of the first stands there, or one of the second.
+
+scan-found : (xs ys : List (Bytes × ℕ)) (s r : Bytes) {x : Bytes × ℕ} → scan text_of xs s ≡ got x r → scan text_of (xs ++ ys) s ≡ got x r
+unfolding scan either
+scan-found [] ys s r e = let z : ◌≡◌ {A = ℕ} 0 1 = cc in absurd (omega arith)
+scan-found (x ∷ xs) ys s r {x = y} e = go (skip (text_of x) s) refl (λ h. scan-found xs ys s r h) e
+  where
+    go : (o : Read (Unit {0})) → skip (text_of x) s ≡ o → (scan text_of xs s ≡ got y r → scan text_of (xs ++ ys) s ≡ got y r) → branch o (give x) (scan text_of xs) s ≡ got y r → scan text_of (x ∷ xs ++ ys) s ≡ got y r
+    go fail q h e = rw q (h e)
+    go (got u w) q h e = rw q e
+
+scan-passed : (xs ys : List (Bytes × ℕ)) (s : Bytes) → scan text_of xs s ≡ fail → scan text_of (xs ++ ys) s ≡ scan text_of ys s
+unfolding scan either
+scan-passed [] ys s e = refl
+scan-passed (x ∷ xs) ys s e = go (skip (text_of x) s) refl (λ h. scan-passed xs ys s h) e
+  where
+    go : (o : Read (Unit {0})) → skip (text_of x) s ≡ o → (scan text_of xs s ≡ fail → scan text_of (xs ++ ys) s ≡ scan text_of ys s) → branch o (give x) (scan text_of xs) s ≡ fail → scan text_of (x ∷ xs ++ ys) s ≡ scan text_of ys s
+    go fail q h e = rw q (h e)
+    go (got u w) q h e = let z : ◌≡◌ {A = ℕ} 0 1 = cc in absurd (omega arith)
+
+pub in-first : {s : Bytes} {at : ℕ} {h : Spelled} (xs ys : List (Bytes × ℕ)) → Named number_of s at (Some h) (scan text_of xs (drop at s)) → Named number_of s at (Some h) (scan text_of (xs ++ ys) (drop at s))
+in-first {s} {at} xs ys (some_name {h = w} y) =
+    some_name {h = w} (record { thing = y.thing; is = scan-found xs ys (drop at s) (drop w.next s) y.is; number_is = y.number_is; more = y.more; fits = y.fits })
+
+pub in-second : {s : Bytes} {at : ℕ} {h : Maybe Spelled} (xs ys : List (Bytes × ℕ)) → Named number_of s at None (scan text_of xs (drop at s)) → Named number_of s at h (scan text_of ys (drop at s)) → Named number_of s at h (scan text_of (xs ++ ys) (drop at s))
+in-second {s} {at} xs ys (no_name q) n = rw (scan-passed xs ys (drop at s) q) n
 
 -- A table that spells and numbers the things of a list.
 

@@ -21,8 +21,8 @@ pub struct Spelled {
     pub next: usize,
 }
 
-// How a term begins: the sets of all, collections and choices, the functions of one term, the calls of two terms, the bracket and a variable's name.
-const HEADS: [(&[u8], u32); 22] = [
+// How a term begins: the sets of all, collections and choices.
+const SETS: [(&[u8], u32); 11] = [
     (b"U", U),
     (b"R", R),
     (b"OBJ", OBJ),
@@ -34,6 +34,10 @@ const HEADS: [(&[u8], u32); 22] = [
     (b"CU", CU),
     (b"OE(", OE),
     (b"AO(", AO),
+];
+
+// How else a term begins: the functions of one term, the calls of two terms, the bracket and a variable's name.
+const CALLS: [(&[u8], u32); 11] = [
     (b"user(", USER),
     (b"roles*(", ROLES_STAR),
     (b"roles(", ROLES),
@@ -77,8 +81,9 @@ fn first(names: &[(&[u8], u32)], s: &[u8], at: usize) -> Option<Spelled>
     requires at_in_bounds { at ≤ length s.now }
     ensures { Named number_of s.now at result (scan text_of (entries names.now) (drop at s.now)) }
 {
+    let begin = *s.get(at)?;
     for &(name, number) in names {
-        if stands(s, at, name) {
+        if name[0] == begin && stands(s, at, name) {
             return Some(Spelled {
                 number,
                 next: at + name.len(),
@@ -92,7 +97,10 @@ pub fn head_at(s: &[u8], at: usize) -> Option<Spelled>
     requires { at ≤ length s.now }
     ensures { Named head_op s.now at result (scan spell heads (drop at s.now)) }
 {
-    first(&HEADS, s, at)
+    if let Some(head) = first(&SETS, s, at) {
+        return Some(head);
+    }
+    first(&CALLS, s, at)
 }
 
 // What stands after the first term in a bracket: `,` behind the name of a call of two terms, and otherwise a sign.

@@ -10,7 +10,7 @@ use lib.ListN.{length, take, drop, get_elem?, length-drop, drop_of_length-le}
 use lib.Seq.{take-length, take_all, take-nil, drop-drop}
 use Rattle.texts.specs.Scan.{slice, index_of}
 use Rattle.std.specs.Prelude.{Some, None}
-use Rattle.std.specs.declared.ops.Range.{Range}
+use Rattle.texts.specs.declared.Span.{Span}
 use Rattle.texts.specs.Pieces.{split, on_first, lines}
 use Rattle.texts.specs.Code.Spans.{Spans, no_piece, piece, Starts, no_start, start, Sought}
 use Rattle.texts.proofs.PiecesLaws.{split-first, split-few, split_one}
@@ -109,7 +109,7 @@ pub record Lies (s : List ℕ) (w : Option (List ℕ)) (a e : ℕ) : Type 0 wher
   pub high : e ≤ length s
   pub bytes : w ≡ some (take (e - a) (drop a s))
 
-pub lies : {s : List ℕ} {w : Option (List ℕ)} {p : Range ℕ} → Spans s w (Some p) → Lies s w p.start p.end
+pub lies : {s : List ℕ} {w : Option (List ℕ)} {p : Span} → Spans s w (Some p) → Lies s w p.start p.end
 lies (piece l h t) = record { low = l; high = h; bytes = t }
 
 pub missing : {s : List ℕ} {w : Option (List ℕ)} → Spans s w None → w ≡ none

@@ -11,8 +11,6 @@ ghost use Rattle.texts.specs.Code.Spans.{Spans, Starts, Sought};
 
 pub mod scan;
 
-use std::ops::Range;
-
 // Writes the bytes of w.
 pub fn put(w: &[u8], out: &mut [u8]) -> usize
     requires { length w.now ≤ length out.old }
@@ -62,15 +60,25 @@ fn digit(d: u64) -> u8
     48 + d as u8
 }
 
-// The places of line k of s, from 0.
-pub fn line(s: &[u8], k: usize) -> Option<Range<usize>>
+// A piece of a text: its first place and the place behind it.
+#[derive(Clone, Copy)]
+pub struct Span {
+    pub start: usize,
+    pub end: usize,
+}
+
+// Line k of s, from 0.
+pub fn line(s: &[u8], k: usize) -> Option<Span>
     ensures { Spans s.now (get_elem? (lines s.now) k) result }
 {
     let from = seek(s, b'\n', k)?;
     if from == s.len() {
         return None;
     }
-    Some(from..line_end(s, from))
+    Some(Span {
+        start: from,
+        end: line_end(s, from),
+    })
 }
 
 // Where the line that begins at `from` ends: at its byte 10, or where s ends.
@@ -81,12 +89,15 @@ pub fn line_end(s: &[u8], from: usize) -> usize
     scan::find(s, from, s.len(), b'\n')
 }
 
-// The places of field k of s, from 0.
-pub fn field(s: &[u8], k: usize) -> Option<Range<usize>>
+// Field k of s, from 0.
+pub fn field(s: &[u8], k: usize) -> Option<Span>
     ensures { Spans s.now (get_elem? (fields s.now) k) result }
 {
     let from = seek(s, b' ', k)?;
-    Some(from..scan::find(s, from, s.len(), b' '))
+    Some(Span {
+        start: from,
+        end: scan::find(s, from, s.len(), b' '),
+    })
 }
 
 // Where piece k of s starts, where the byte c separates pieces.

@@ -8,8 +8,10 @@ pub fn find(s: &[u8], from: usize, to: usize, c: u8) -> usize
     ensures is { result ≡ from + index_of c (slice from to s.now) }
     ensures within { result ≤ to }
 {
-    match s[from..to].iter().position(|x| *x == c) {
-        Some(n) => from + n,
-        None => to,
+    for at in from..to {
+        if s[at] == c {
+            return at;
+        }
     }
+    to
 }

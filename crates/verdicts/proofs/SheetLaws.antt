@@ -1,12 +1,12 @@
 -- Writing a verdict's bytes one part after the other.
 -- Assumes nothing.
 use mathlib.Core.Path.{◌≡◌, refl, sym, ap, ap₂, ◌∙◌}
-use mathlib.Core.List.{List, [], ◌∷◌}
+use mathlib.Core.List.{List, [], ◌∷◌, append-nil}
 use Prim.Native.Nat.{ℕ, zero, suc, ◌-◌, ◌/◌, ◌%◌, ◌^◌, ◌≤◌}
 use native.Mathlib.Nat.{div-one, div-div-eq-div-mul}
 use native.Mathlib.Numerals.{unary_clauses}
 use native.Mathlib.Omega.{arith}
-use lib.ListN.{length, set, length-append}
+use lib.ListN.{length, set, length-append, drop_of_length-le}
 use borrow.Rule.Slice.PartMut.{mid_of, put_mid}
 use Rattle.std.specs.Int.{bytes_low_first, byte_at}
 use Rattle.tables.specs.Bytes.{lowest_first}
@@ -30,6 +30,11 @@ low-first i (suc n) w = ap₂ (λ (b : ℕ) (bs : List ℕ). b ∷ bs) (first i)
 
 pub low-bytes : (n w : ℕ) → bytes_low_first 0 n w ≡ lowest_first n w
 low-bytes n w = low-first 0 n w ∙ ap (lowest_first n) (div-one w)
+
+-- They are all there is where there was room for them alone.
+pub word-alone : (w : ℕ) {mid new : List ℕ} → length mid ≡ 8 → Behind 0 (lowest_first 8 w) mid new → new ≡ lowest_first 8 w
+unfolding lowest_first
+word-alone w {mid} e b = (b [] mid (none_written mid)).bytes ∙ rw (drop_of_length-le mid {i = 8} (omega arith), append-nil (lowest_first 8 w))
 
 -- The five parts one behind the other are the verdict's bytes.
 pub all-written : {old d₁ d₂ d₃ : List ℕ} {n : ℕ} (word : ℕ) (v : Verdict) → 26 ≤ length old → length v.first ≡ 8

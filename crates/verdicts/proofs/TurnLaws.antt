@@ -1,7 +1,7 @@
 -- Judging in the order 1, 2, ..: it is always an order, so that an accepted rule's verdict is what its counts say.
 -- Assumes nothing.
 use mathlib.Core.Path.{◌≡◌, refl, sym, ap, ◌∙◌}
-use mathlib.Core.List.{List, ◌∷◌}
+use mathlib.Core.List.{List, [], ◌∷◌}
 use mathlib.Core.Option.{Option, none, some}
 use Prim.Native.Nat.{ℕ, zero, suc, ◌≤◌}
 use native.Mathlib.Omega.{arith}
@@ -10,21 +10,38 @@ use Rattle.answers.specs.declared.Refusal.{Refusal}
 use Rattle.answers.specs.declared.Refusal.TheVariants.{NotAnOrder}
 use Rattle.syntax.specs.Bytes.{Bytes}
 use Rattle.syntax.specs.Rule.{Rule, rule_of}
+use Rattle.rules.specs.declared.Parsed.{Parsed}
 use Rattle.rules.specs.Accept.{refusal}
+use Rattle.rules.specs.Code.Parsed.{ParsedFrom}
 use Rattle.rules.proofs.AcceptLaws.{accepted-rule, refused-early}
 use Rattle.tables.specs.Tables.{Tables}
 use Rattle.walks.specs.Order.{variables_of, up_from}
 use Rattle.verdicts.specs.declared.Outcome.TheVariants.{Refused}
+use Rattle.verdicts.specs.declared.Verdict.{Verdict}
 use Rattle.verdicts.specs.Verdict.{refusal_in, outcome_of, full_count, breaking_count, verdict_along, order_verdict, tree_verdict, accepted_verdict}
 use Rattle.verdicts.specs.Verdict.{turn_order, turn_verdict}
 use Rattle.verdicts.proofs.OutcomeLaws.{word-accepted}
 use Rattle.verdicts.proofs.VerdictLaws.{turn-order}
+use Rattle.verdicts.proofs.ParsedLaws.{parsed-few}
 
 pub take-up : (n m i : ℕ) → n ≤ m → take n (up_from i m) ≡ up_from i n
 unfolding up_from
 take-up zero m i h = refl
 take-up (suc n) zero i h = absurd (omega arith)
 take-up (suc n) (suc m) i h = ap (λ (l : List ℕ). i ∷ l) (take-up n m (suc i) (omega arith))
+
+-- The first n of 1, 2, ..
+abbrev eight : List ℕ
+eight = 1 ∷ 2 ∷ 3 ∷ 4 ∷ 5 ∷ 6 ∷ 7 ∷ 8 ∷ []
+
+up-eight : up_from 1 8 ≡ eight
+unfolding up_from
+up-eight = refl
+
+-- Along as many numbers as a parsed rule has variables it is judged in turn.
+pub judged-turn : {s : Bytes} {p : Parsed} → ParsedFrom s p → (T : Tables) {r : Verdict} → r ≡ accepted_verdict T (refusal s) s (take p.count eight) → r ≡ turn_verdict T s
+unfolding turn_verdict turn_order
+judged-turn {s} {p} f T e = e ∙ rw (← up-eight, take-up p.count 8 1 (parsed-few f)) (rw (f.rule.reads, f.rule.counted))
 
 module _ (T : Tables) (rule : Bytes) (ok : refusal rule ≡ none) where
   -- An accepted rule is judged along 1, 2, ..:

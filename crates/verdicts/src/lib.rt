@@ -5,7 +5,8 @@
 ghost use Rattle.std.specs.Prelude.{◌≡◌, length};
 ghost use Rattle.answers.specs.Answer.{lent};
 ghost use Rattle.verdicts.specs.Verdict.{Gives, verdict_of, judged};
-ghost use Rattle.verdicts.specs.Code.Judging.{Loaded, SomeRule, ParsedFrom, KnownCounts, JudgesOn, JudgesInTurn, JudgesParsed};
+ghost use Rattle.rules.specs.Code.Parsed.{Parses};
+ghost use Rattle.verdicts.specs.Code.Judging.{Loaded, SomeRule, SomeText, ParsedFrom, KnownCounts, JudgesOn, JudgesInTurn, JudgesParsed};
 ghost use Rattle.syntax.specs.Bytes.{Bytes};
 ghost use Rattle.answers.specs.Written.{Answers};
 ghost use Rattle.verdicts.specs.Code.Writing.{PutsVerdict};
@@ -39,13 +40,25 @@ pub struct Verdict {
     pub share: u8,
 }
 
-// The verdict of a parsed rule on accepted tables, held as words, along an order.
-pub fn of_parsed(words: &[u64], parsed: Parsed, order: &[u8]) -> Verdict
+// The verdict of a parsed rule that is accepted.
+fn of_accepted(words: &[u64], parsed: Parsed, order: &[u8]) -> Verdict
     requires loaded { Loaded words.now }
     requires some_rule { SomeRule parsed }
-    ensures { JudgesParsed words.now parsed order.now result }
+    ensures { (rule : Bytes) → ParsedFrom rule parsed → JudgesOn words.now rule order.now result }
 {
     ruling::along(words, parsed, order)
+}
+
+// The verdict of what parsing a rule gave, on accepted tables, held as words, along an order.
+pub fn of_parsed(words: &[u64], parsed: Result<Parsed, Refusal>, order: &[u8]) -> Verdict
+    requires loaded { Loaded words.now }
+    requires some_text { SomeText parsed }
+    ensures { JudgesParsed words.now parsed order.now result }
+{
+    match parsed {
+        Err(refusal) => ruling::refused(refusal),
+        Ok(parsed) => of_accepted(words, parsed, order),
+    }
 }
 
 // The verdict of a rule's text on such tables.
@@ -53,14 +66,11 @@ pub fn on_tables(words: &[u64], rule: &[u8], order: &[u8]) -> Verdict
     requires { Loaded words.now }
     ensures { JudgesOn words.now rule.now order.now result }
 {
-    match rules::parse(rule) {
-        Err(e) => ruling::refused(e),
-        Ok(parsed) => of_parsed(words, parsed, order),
-    }
+    of_parsed(words, rules::parse(rule), order)
 }
 
-// The verdict of a parsed rule along 1, 2, .. That is always an order, so nothing tests it.
-pub fn parsed_in_turn(words: &[u64], parsed: Parsed) -> Verdict
+// The verdict of a parsed rule that is accepted along 1, 2, .. That is always an order, so nothing tests it.
+fn accepted_in_turn(words: &[u64], parsed: Parsed) -> Verdict
     requires loaded { Loaded words.now }
     requires some_rule { SomeRule parsed }
     ensures { (rule : Bytes) → ParsedFrom rule parsed → JudgesInTurn words.now rule result }
@@ -69,15 +79,24 @@ pub fn parsed_in_turn(words: &[u64], parsed: Parsed) -> Verdict
     ruling::ruled(walking::whole(words, parsed, &IN_TURN[..count]))
 }
 
+// The verdict of what parsing a rule gave, along 1, 2, ..
+pub fn parsed_in_turn(words: &[u64], parsed: Result<Parsed, Refusal>) -> Verdict
+    requires loaded { Loaded words.now }
+    requires some_text { SomeText parsed }
+    ensures { (rule : Bytes) → Parses rule parsed → JudgesInTurn words.now rule result }
+{
+    match parsed {
+        Err(e) => ruling::refused(e),
+        Ok(parsed) => accepted_in_turn(words, parsed),
+    }
+}
+
 // The same of a rule's text.
 pub fn in_turn(words: &[u64], rule: &[u8]) -> Verdict
     requires { Loaded words.now }
     ensures { JudgesInTurn words.now rule.now result }
 {
-    match rules::parse(rule) {
-        Err(e) => ruling::refused(e),
-        Ok(parsed) => parsed_in_turn(words, parsed),
-    }
+    parsed_in_turn(words, rules::parse(rule))
 }
 
 // The verdict along 1, 2, .. of a rule whose counts are known already.

@@ -88,6 +88,10 @@ alike-key word mask m w u h = go (dec_lt u 8)
         let lb : length (choice_of w) ≤ u = omega (arith, bytes-length 8 w) in
         get_or-eq_default (choice_of (meet_of w mask)) 0 la ∙ sym (get_or-eq_default (choice_of w) 0 lb)
 
+-- so two words that are equal under the mask are choices alike
+pub alike_masked : (word mask : ℕ) → Masks word mask → (a b : ℕ) → meet_of a mask ≡ meet_of b mask → Alike word (choice_of a) (choice_of b)
+alike_masked word mask m a b e u h = sym (alike-key word mask m a u h) ∙ ap (λ (t : ℕ). get_or (choice_of t) u 0) e ∙ alike-key word mask m b u h
+
 -- ---- an item is put
 
 has-shl : (x k i : ℕ) → has (x * 2 ^ k) (k + i) ≡ has x i

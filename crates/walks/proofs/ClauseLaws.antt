@@ -13,7 +13,7 @@ use borrow.Author.Tests.{ltb-true, ltb-false, lt-ltb, le-ltb, leb-true, leb-fals
 use Rattle.words.specs.Words.{gate, any_to}
 use Rattle.words.proofs.WordsLaws.{any-ext, any_none}
 use Rattle.words.proofs.RelationLaws.{any-or, or-and}
-use Rattle.walks.specs.Choices.{Sets, if_breaks}
+use Rattle.walks.specs.Choices.{Sets, if_breaks, each}
 use Rattle.walks.specs.Walk.{walk}
 use Rattle.walks.specs.Meaning.{Every}
 use Rattle.walks.specs.Code.Clauses.{Clauses, false_to, false_in, breaks_any, Settled, level_below, level_is, level_from}
@@ -227,3 +227,11 @@ module _ (K : Clauses) (order levels : List ℕ) (L : Levelled K order levels) w
     weight-end (suc zero) d h l c =
         rw (drop_of_length-le order l, false-none K (level_from levels (d + 1)) (λ i k. lt-leb (d + 1) (get_or levels i 0) (omega (arith, L.within i k))) c)
     weight-end (suc (suc mode)) d h l c = absurd (omega arith)
+
+    -- Where a settled clause is false, every full choice below breaks.
+    pub all-break : (pick : ℕ → Bool) (vs : List ℕ) → Settled K pick vs → (c : List ℕ) → false_in K pick c ≡ true
+        → walk m s (if_breaks (breaks_any K)) vs c ≡ walk m s each vs c
+    all-break pick vs h c q =
+        walk-weight m s _ _ (λ k. false_in K pick k ≡ true)
+        (λ k p. ap (λ (t : Bool). gate t 1) (false-or K pick (λ i. true) (λ i. true) (λ i l. sym (or-true (pick i))) k ∙ ap (λ (t : Bool). t || breaks_any K k) p)) vs
+        (every_map _ _ (λ w f k x p. f k x ∙ p) vs (settled-stays K pick vs h)) c q

@@ -53,22 +53,22 @@ pub record Ready (ts plan : List ℕ) (T : Tables) (ρ : Rule) (order : List ℕ
   pub keeps : Keeps plan along.layout T ρ kept
   pub modes : ModeIs (clauses_of T ρ) (drop levels_from plan) mode (d + 1) (choice_of choice)
 
--- A walk's slices hold its parsed rule, and its order is one of the rule's variables.
-pub record Sound (w : Walk) : Type 0 where
-  pub lent : LentBy w.t.now w.parsed.now
+-- The tables and a walk's slices hold its parsed rule, and its order is one of the rule's variables.
+pub record Sound (ts : List ℕ) (w : Walk) : Type 0 where
+  pub lent : LentBy ts w.parsed.now
   pub ordered : Ordered w.parsed.now w.order.now
 
 -- So all is for a walk, whatever its slices hold.
-pub record Stands (w : Walk) (e d mode choice : ℕ) (g : Guide) (kept : List ℕ) : Type 0 where
+pub record Stands (ts : List ℕ) (w : Walk) (e d mode choice : ℕ) (g : Guide) (kept : List ℕ) : Type 0 where
   pub small : mode < 2
   pub long : length g.plan ≡ plan_length
   pub room : length g.cache ≡ plan_room
-  pub ready : (T : Tables) (ρ : Rule) → CaseBy w.t.now w.parsed.now T ρ → Ready w.t.now g.plan T ρ w.order.now e d mode choice g.cache kept
+  pub ready : (T : Tables) (ρ : Rule) → CaseBy ts w.parsed.now T ρ → Ready ts g.plan T ρ w.order.now e d mode choice g.cache kept
 
 -- The first breaking choice along the caller's order, where there is one, has its first d items in the choice r.
-abbrev pub Descends : Walk → ℕ → ℕ → Type 0
-Descends w d r =
-    (T : Tables) (ρ : Rule) → CaseBy w.t.now w.parsed.now T ρ → 0 < walk 64 (in_set T (rule_vars [] ρ)) (if_breaks (breaks_any (clauses_of T ρ))) w.order.now (choice_of no_choice)
+abbrev pub Descends : List ℕ → Walk → ℕ → ℕ → Type 0
+Descends ts w d r =
+    (T : Tables) (ρ : Rule) → CaseBy ts w.parsed.now T ρ → 0 < walk 64 (in_set T (rule_vars [] ρ)) (if_breaks (breaks_any (clauses_of T ρ))) w.order.now (choice_of no_choice)
     → Descending (in_set T (rule_vars [] ρ)) (breaks_any (clauses_of T ρ)) w.order.now (choice_of no_choice) d (choice_of r)
 
 -- Whatever the slices hold, these are the counts of the walk along the caller's order;

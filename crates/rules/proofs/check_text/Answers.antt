@@ -13,7 +13,7 @@ returns-then-is_empty c =
     turned
     (elim c.then-is_empty.branch [
       | then-is_empty-via-then-is_empty w ↦ refuse-empty c.args.s.now (eqb-true _ _ (sym c.is_empty.ensures ∙ w.if-is_empty.true))
-      | then-is_empty-via-else-is_empty+then-s-gt-RULE_LIMIT w ↦ refuse-long c.args.s.now w.if-s-gt-RULE_LIMIT.true
+      | then-is_empty-via-else-is_empty+then-s-gt-RULE_LIMIT w ↦ refuse-long c.args.s.now (omega (arith, w.if-s-gt-RULE_LIMIT.true))
     ])
 
 pub returns-then-too_deep : goal.returns-then-too_deep

@@ -1,16 +1,16 @@
--- Internal: how the code names a piece of a text, by the range of its places.
+-- Internal: how the code names a piece of a text, by the places where it begins and ends.
 -- Assumes nothing.
 use Rattle.std.specs.Prelude.{Option as Maybe, Some, None, ◌≡◌, List, ℕ, ◌-◌, ◌≤◌, length, take, drop}
 use Rattle.std.proofs.Math.Option.{Option, none, some}
 use Rattle.std.proofs.Math.ListN.{get_elem?}
 use Rattle.texts.specs.Scan.{index_of}
-use Rattle.std.specs.declared.ops.Range.{Range}
+use Rattle.texts.specs.declared.Span.{Span}
 use Rattle.texts.specs.Pieces.{split}
 
 -- The piece w of s, if any.
-pub data Spans (s : List ℕ) (w : Option (List ℕ)) : Maybe (Range ℕ) → Type 0 where
+pub data Spans (s : List ℕ) (w : Option (List ℕ)) : Maybe Span → Type 0 where
   no_piece : w ≡ none → Spans s w None
-  piece : {p : Range ℕ} → p.start ≤ p.end → p.end ≤ length s → w ≡ some (take (p.end - p.start) (drop p.start s)) → Spans s w (Some p)
+  piece : {p : Span} → p.start ≤ p.end → p.end ≤ length s → w ≡ some (take (p.end - p.start) (drop p.start s)) → Spans s w (Some p)
 
 -- Piece k of s is the first one of what stands from a place on, however s ends.
 pub data Starts (c k : ℕ) (s : List ℕ) : Maybe ℕ → Type 0 where

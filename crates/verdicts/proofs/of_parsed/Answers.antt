@@ -1,17 +1,17 @@
--- `verdicts::of_parsed` meets its contract: the slices of an accepted rule hold it, and its verdict is that along the order.
+-- `verdicts::of_parsed` meets its contract: a refused rule gives its refusal, an accepted one its verdict along the order.
 -- Assumes nothing.
-use mathlib.Core.Path.{◌≡◌}
-use lib.ListN.{length}
-use Rattle.verdicts.proofs.ParsedLaws.{parsed-lent, parsed-judged}
-use borrow.Author.Rules.{rules}
+use mathlib.Core.Path.{◌∙◌}
+use Rattle.rules.proofs.ParseLaws.{as-parsed, as-refused}
+use Rattle.verdicts.proofs.ParsedLaws.{parsed-refused}
 use Rattle.verdicts.proofs.of_parsed.Goals as goal
 
-pub along-requires : goal.along-requires
-along-requires c =
-    let ln : length c.args.parsed.nodes ≡ 256 = search rules in
-    let lk : length c.args.parsed.kinds ≡ 256 = search rules in
-    let lv : length c.args.parsed.vars ≡ 8 = search rules in
-    parsed-lent c.requires.some_rule.parses c.requires.loaded ln lk lv
+pub of_accepted-requires : goal.of_accepted-requires
+of_accepted-requires c =
+    let s = c.requires.some_text in
+    record { loaded = c.requires.loaded; some_rule = record { text = s.text; parses = as-parsed s.parses c.in-Ok.is } }
 
-pub returns : goal.returns
-returns c = λ s p T H. parsed-judged p c.args.order.now c.along.ensures H
+pub returns-in-Err : goal.returns-in-Err
+returns-in-Err c = λ s P T H. c.refused.ensures ∙ parsed-refused s (as-refused P c.in-Err.is) T c.args.order.now
+
+pub returns-in-Ok : goal.returns-in-Ok
+returns-in-Ok c = λ s P. c.of_accepted.ensures s (as-parsed P c.in-Ok.is)

@@ -1,21 +1,17 @@
--- `verdicts::parsed_in_turn` meets its contract: the variables in turn are an order, and the walk along it has the verdict's numbers.
+-- `verdicts::parsed_in_turn` meets its contract: a refused rule gives its refusal, an accepted one its verdict in turn.
 -- Assumes nothing.
-use mathlib.Core.Path.{◌≡◌, ◌∙◌}
-use lib.ListN.{length}
-use Rattle.verdicts.proofs.ParsedLaws.{parsed-lent}
-use Rattle.verdicts.proofs.CountedLaws.{turn-ordered, turn-fits, turn-ruled}
-use borrow.Author.Rules.{rules}
+use mathlib.Core.Path.{◌∙◌}
+use Rattle.rules.proofs.ParseLaws.{as-parsed, as-refused}
+use Rattle.verdicts.proofs.CountedLaws.{turn-refused}
 use Rattle.verdicts.proofs.parsed_in_turn.Goals as goal
 
-pub whole-requires : goal.whole-requires
-whole-requires c =
-    let nodes-room : length c.args.parsed.nodes ≡ 256 = search rules in
-    let kinds-room : length c.args.parsed.kinds ≡ 256 = search rules in
-    let vars-room : length c.args.parsed.vars ≡ 8 = search rules in
-    (parsed-lent c.requires.some_rule.parses c.requires.loaded nodes-room kinds-room vars-room, turn-ordered c.requires.some_rule.parses vars-room)
+pub accepted_in_turn-requires : goal.accepted_in_turn-requires
+accepted_in_turn-requires c =
+    let s = c.requires.some_text in
+    record { loaded = c.requires.loaded; some_rule = record { text = s.text; parses = as-parsed s.parses c.in-Ok.is } }
 
-pub ruled-requires : goal.ruled-requires
-ruled-requires c = turn-fits c.requires.some_rule.parses c.requires.loaded c.whole.ensures
+pub returns-in-Err : goal.returns-in-Err
+returns-in-Err c = λ s P T H. c.refused.ensures ∙ turn-refused s (as-refused P c.in-Err.is) T
 
-pub returns : goal.returns
-returns c = λ s P T H. c.ruled.ensures ∙ turn-ruled P c.requires.loaded c.whole.ensures T H
+pub returns-in-Ok : goal.returns-in-Ok
+returns-in-Ok c = λ s P. c.accepted_in_turn.ensures s (as-parsed P c.in-Ok.is)

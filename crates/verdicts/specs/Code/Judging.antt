@@ -1,7 +1,8 @@
 -- What judging is told by the words of the tables and a parsed rule, and what it says of them.
 -- Internal: contracts of entry points do not speak of it. Assumes nothing.
-use Rattle.std.specs.Prelude.{◌≡◌, List, ℕ, length}
+use Rattle.std.specs.Prelude.{◌≡◌, List, ℕ, length, Result}
 use Rattle.std.proofs.Math.Option.{some}
+use Rattle.answers.specs.declared.Refusal.{Refusal}
 use Rattle.answers.specs.Answer.{Answer, lent}
 use Rattle.answers.specs.Written.{Answers}
 use Rattle.answers.specs.Written.{Written}
@@ -13,6 +14,7 @@ use Rattle.syntax.specs.Rule.{Rule, rule_of}
 use Rattle.rules.specs.Accept.{refusal}
 use Rattle.rules.specs.declared.Parsed.{Parsed}
 pub use Rattle.rules.specs.Code.Parsed.{ParsedFrom}
+use Rattle.rules.specs.Code.Parsed.{Parses}
 use Rattle.walks.specs.declared.Tally.{Tally}
 use Rattle.walks.specs.Share.{share_of}
 use Rattle.judging.specs.Code.Lent.{CaseBy}
@@ -35,6 +37,11 @@ pub record SomeRule (p : Parsed) : Type 0 where
   pub text : Bytes
   pub parses : ParsedFrom text p
 
+-- What parsing gave is the answer to some text.
+pub record SomeText (w : Result Parsed Refusal) : Type 0 where
+  pub text : Bytes
+  pub parses : Parses text w
+
 -- Whatever tables the words hold, these are the counts of the text's rule, if it is one.
 abbrev pub KnownCounts : List ℕ → Bytes → ℕ → ℕ → Type 0
 KnownCounts ts rule full breaking =
@@ -44,15 +51,15 @@ KnownCounts ts rule full breaking =
 abbrev pub RulesOn : List ℕ → Parsed → List ℕ → Verdict → Type 0
 RulesOn ts p order r = (T : Tables) (ρ : Rule) → CaseBy ts p T ρ → r ≡ order_verdict T ρ order
 
--- Whatever tables the words hold, the verdict r is that of the rule along the order; along 1, 2, ..; of a parsed rule, whatever text it is of.
+-- Whatever tables the words hold, the verdict r is that of the rule along the order; along 1, 2, ..; of what parsing gave, whatever text it answers.
 abbrev pub JudgesOn : List ℕ → Bytes → Bytes → Verdict → Type 0
 JudgesOn ts rule order r = (T : Tables) → TablesAt ts T → r ≡ accepted_verdict T (refusal rule) rule order
 
 abbrev pub JudgesInTurn : List ℕ → Bytes → Verdict → Type 0
 JudgesInTurn ts rule r = (T : Tables) → TablesAt ts T → r ≡ turn_verdict T rule
 
-abbrev pub JudgesParsed : List ℕ → Parsed → Bytes → Verdict → Type 0
-JudgesParsed ts p order r = (rule : Bytes) → ParsedFrom rule p → JudgesOn ts rule order r
+abbrev pub JudgesParsed : List ℕ → Result Parsed Refusal → Bytes → Verdict → Type 0
+JudgesParsed ts w order r = (rule : Bytes) → Parses rule w → JudgesOn ts rule order r
 
 -- Whatever tables the words hold, that is what f answers of them and of the rule, which may be refused.
 abbrev pub AnswersOn : List ℕ → Bytes → (Tables → Rule → Answer) → Bytes → Bytes → Written → Type 0
