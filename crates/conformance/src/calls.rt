@@ -17,7 +17,7 @@ pub fn untouched() -> [u8; 65536] {
 }
 
 // Makes a call that writes to a lent output, as long as field k says: the tracker's number and what the output holds.
-// Not inlined, so that a command has room on the stack for one output and not for one of each call.
+// Not inlined, as the commands are not.
 #[inline(never)]
 pub fn lend<F: FnOnce(&mut [u8]) -> u32>(
     stdout: &mut Stdout,

@@ -1,5 +1,5 @@
 // The commands: each function prints the answer to one line, or gives none where a field is missing or malformed.
-// What is no command is answered `?`.
+// What is no command is answered `?`. None is inlined, so that the stack has the rooms of one command and not of all.
 ghost use Rattle.std.specs.Prelude.{◌≤◌, length};
 
 use crate::fields::{
@@ -77,6 +77,7 @@ fn number(refusal: Option<Refusal>) -> u32 {
 }
 
 // `judge T R ORDER LEN`: the tracker's number and the lent output, which held a5 throughout.
+#[inline(never)]
 fn judge(stdout: &mut Stdout, line: &[u8], tables: &[u8]) -> Option<io::Result<()>>
     requires { length line.now ≤ 80000 }
 {
@@ -93,6 +94,7 @@ fn judge(stdout: &mut Stdout, line: &[u8], tables: &[u8]) -> Option<io::Result<(
 }
 
 // `sheet T RULES`: everything that the listing program prints.
+#[inline(never)]
 fn sheet(stdout: &mut Stdout, line: &[u8], tables: &[u8]) -> Option<io::Result<()>>
     requires { length line.now ≤ 80000 }
 {
@@ -102,6 +104,7 @@ fn sheet(stdout: &mut Stdout, line: &[u8], tables: &[u8]) -> Option<io::Result<(
 }
 
 // `page T PAGE`.
+#[inline(never)]
 fn page(stdout: &mut Stdout, line: &[u8], tables: &[u8]) -> Option<io::Result<()>>
     requires { length line.now ≤ 80000 }
 {
@@ -111,6 +114,7 @@ fn page(stdout: &mut Stdout, line: &[u8], tables: &[u8]) -> Option<io::Result<()
 }
 
 // `forecast T RULE`.
+#[inline(never)]
 fn forecast(stdout: &mut Stdout, line: &[u8], tables: &[u8]) -> Option<io::Result<()>>
     requires { length line.now ≤ 80000 }
 {
@@ -120,6 +124,7 @@ fn forecast(stdout: &mut Stdout, line: &[u8], tables: &[u8]) -> Option<io::Resul
 }
 
 // `sessions T R OP..`: the start and then each call on the state before it.
+#[inline(never)]
 fn day(stdout: &mut Stdout, line: &[u8], tables: &[u8]) -> Option<io::Result<()>>
     requires { length line.now ≤ 80000 }
 {
@@ -132,12 +137,14 @@ fn day(stdout: &mut Stdout, line: &[u8], tables: &[u8]) -> Option<io::Result<()>
 }
 
 // `session STATE OP LEN`: one call on any bytes.
+#[inline(never)]
 fn session(stdout: &mut Stdout, line: &[u8], state: &[u8]) -> Option<io::Result<()>> {
     let change = session_calls::change_in(line, 2)?;
     calls::lend(stdout, line, 3, |out| calls::next_state(state, change, out))
 }
 
 // `line T READER RULES PLACE LEN`: one line of the day sheet for a reader, whose users are a word.
+#[inline(never)]
 fn listed(stdout: &mut Stdout, line: &[u8], tables: &[u8]) -> Option<io::Result<()>>
     requires { length line.now ≤ 80000 }
 {

@@ -4,7 +4,7 @@ use mathlib.Core.Path.{◌≡◌, refl, ap, sym, ◌∙◌}
 use mathlib.Core.List.{List, [], ◌∷◌, ◌++◌, append_assoc, append-nil}
 use Prim.Native.Nat.{ℕ, suc, zero, ◌+◌, ◌%◌, ◌≤◌, ◌<◌}
 use native.Mathlib.Omega.{arith}
-use lib.ListN.{length, get_or, take}
+use lib.ListN.{length, get_or, take, drop}
 use Rattle.syntax.specs.Bytes.{Bytes, ascii}
 use Rattle.syntax.specs.Term.{Term, Choices, text}
 use Rattle.syntax.specs.Rule.{Cmp, lt, le, gt, ge, eq, ne, Sign, is, isnt, number, count, Test, member, alike, empty, sized}
@@ -177,15 +177,16 @@ pub record Split (ns vs : List ℕ) (σ : Choices) (d : ℕ) : Type 0 where
   pub term : Term
   pub holds : Holds ns (get_or vs d 0) term
   pub before : HoldsAll ns (take d vs) (take d σ)
+  pub rest : drop d σ ≡ term ∷ drop (suc d) σ
   pub upto : take (suc d) σ ≡ take d σ ++ (term ∷ [])
 
 pub split : (ns vs : List ℕ) (σ : Choices) (d : ℕ) → d < length vs → HoldsAll ns vs σ → Split ns vs σ d
 split ns [] σ d h y = absurd (omega arith)
 split ns (v ∷ vs) [] d h y = absurd y
-split ns (v ∷ vs) (a ∷ σ) zero h y = record { term = a; holds = y.0; before = tt; upto = refl }
+split ns (v ∷ vs) (a ∷ σ) zero h y = record { term = a; holds = y.0; before = tt; rest = refl; upto = refl }
 split ns (v ∷ vs) (a ∷ σ) (suc d) h y =
     let s = split ns vs σ d (omega arith) y.1 in
-    record { term = s.term; holds = s.holds; before = (y.0, s.before); upto = ap (λ (l : Choices). a ∷ l) s.upto }
+    record { term = s.term; holds = s.holds; before = (y.0, s.before); rest = s.rest; upto = ap (λ (l : Choices). a ∷ l) s.upto }
 
 -- The quantifiers of some choices, and then one more.
 pub quantifiers-more : (σ τ : Choices) (x : Term) → quantifiers_after σ τ ++ quantifier (σ ++ τ) x ≡ quantifiers_after σ (τ ++ (x ∷ []))
