@@ -1,5 +1,5 @@
 // The commands: each function prints the answer to one line, or gives none where a field is missing or malformed.
-// What is no command is answered `?`. None is inlined, so that the stack has the rooms of one command and not of all.
+// What is no command is answered `?`. No command's function is inlined, so that the stack has the rooms of one command and not of all.
 ghost use Rattle.std.specs.Prelude.{◌≤◌, length};
 
 use crate::fields::{

@@ -88,9 +88,9 @@ pub fn lay_first(t: &[u64], parsed: Parsed, order: &[u8], plan: &mut [u64]) -> u
 // Where the descent is: the first variables of the caller's order have their items, and the mode goes with them.
 #[derive(Clone, Copy)]
 pub struct Place {
-    depth: usize,
-    choice: u64,
-    mode: usize,
+    pub depth: usize,
+    pub choice: u64,
+    pub mode: usize,
 }
 
 impl Guide {

@@ -6,13 +6,15 @@ use mathlib.Core.Option.{Option, none, some}
 use Prim.Native.Nat.{ℕ, zero, suc, ◌≤◌}
 use native.Mathlib.Omega.{arith}
 use lib.ListN.{take}
+use Rattle.std.specs.declared.result.Result.{Result}
+use Rattle.std.specs.declared.result.Result.TheVariants.{Ok, Err}
 use Rattle.answers.specs.declared.Refusal.{Refusal}
 use Rattle.answers.specs.declared.Refusal.TheVariants.{NotAnOrder}
 use Rattle.syntax.specs.Bytes.{Bytes}
 use Rattle.syntax.specs.Rule.{Rule, rule_of}
 use Rattle.rules.specs.declared.Parsed.{Parsed}
 use Rattle.rules.specs.Accept.{refusal}
-use Rattle.rules.specs.Code.Parsed.{ParsedFrom}
+use Rattle.rules.specs.Code.Parsed.{Parses, refused, parsed}
 use Rattle.rules.proofs.AcceptLaws.{accepted-rule, refused-early}
 use Rattle.tables.specs.Tables.{Tables}
 use Rattle.walks.specs.Order.{variables_of, up_from}
@@ -38,10 +40,16 @@ up-eight : up_from 1 8 ≡ eight
 unfolding up_from
 up-eight = refl
 
+-- How many variables were parsed, none where parsing refused.
+abbrev pub parsed_count : Result Parsed Refusal → ℕ
+parsed_count (Ok p) = p.count
+parsed_count (Err e) = 0
+
 -- Along as many numbers as a parsed rule has variables it is judged in turn.
-pub judged-turn : {s : Bytes} {p : Parsed} → ParsedFrom s p → (T : Tables) {r : Verdict} → r ≡ accepted_verdict T (refusal s) s (take p.count eight) → r ≡ turn_verdict T s
-unfolding turn_verdict turn_order
-judged-turn {s} {p} f T e = e ∙ rw (← up-eight, take-up p.count 8 1 (parsed-few f)) (rw (f.rule.reads, f.rule.counted))
+pub judged-turn : {s : Bytes} {w : Result Parsed Refusal} → Parses s w → (T : Tables) {r : Verdict} → r ≡ accepted_verdict T (refusal s) s (take (parsed_count w) eight) → r ≡ turn_verdict T s
+unfolding turn_verdict turn_order accepted_verdict
+judged-turn (refused h) T e = e ∙ rw h
+judged-turn (parsed {p = p} f) T e = e ∙ rw (← up-eight, take-up p.count 8 1 (parsed-few f)) (rw (f.rule.reads, f.rule.counted))
 
 module _ (T : Tables) (rule : Bytes) (ok : refusal rule ≡ none) where
   -- An accepted rule is judged along 1, 2, ..:

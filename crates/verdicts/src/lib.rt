@@ -86,7 +86,7 @@ pub fn parsed_in_turn(words: &[u64], parsed: Result<Parsed, Refusal>) -> Verdict
     ensures { (rule : Bytes) → Parses rule parsed → JudgesInTurn words.now rule result }
 {
     match parsed {
-        Err(e) => ruling::refused(e),
+        Err(found) => ruling::refused(found),
         Ok(parsed) => accepted_in_turn(words, parsed),
     }
 }

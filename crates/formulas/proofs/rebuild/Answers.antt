@@ -33,11 +33,11 @@ slice_bounds-sheet-end c = (answers-wrote _ _ c.reduce.ensures c.in-Ok.is).fits
 pub slice_bounds-ne-end : goal.slice_bounds-ne-end
 slice_bounds-ne-end c = sym (length-take-le _ _ (answers-wrote _ _ c.reduce.ensures c.in-Ok.is).fits)
 
+pub returns : goal.returns
+returns c =
+    rebuild-gives (rebuild-same _ c.reduce.ensures c.in-Ok.is (same_tested _ _ c.ne.ensures ∙ ap not c.if-ne.false)) c.lend.ensures
+
 pub returns-then-ne : goal.returns-then-ne
 returns-then-ne c =
     let t = as-root c.in-Some.ensures in
     rebuild-apart _ _ t.is (rebuild-text t c.write_rule-l.ensures) c.reduce.ensures c.in-Ok.is (same_tested _ _ c.ne.ensures ∙ ap not c.if-ne.true)
-
-pub returns : goal.returns
-returns c =
-    rebuild-gives (rebuild-same _ c.reduce.ensures c.in-Ok.is (same_tested _ _ c.ne.ensures ∙ ap not c.if-ne.false)) c.lend.ensures
